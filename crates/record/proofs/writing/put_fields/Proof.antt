@@ -1,0 +1,67 @@
+-- The six stores, one after the other, are the definition's. Assumes nothing.
+use Rattle.record.specs.Fields.{putFields}
+use borrow.Author.Needs.{needs}
+use Rattle.record.proofs.writing.put_fields.Statement.{statement}
+use Rattle.record.proofs.writing.put_fields.Tie as tie
+
+array-read-put-field : tie.Need-array-read-put-field
+array-read-put-field c = search needs
+
+put-field-requires : tie.Need-put-field-requires
+put-field-requires c κs = search needs
+
+array-read-put-field-2 : tie.Need-array-read-put-field-2
+array-read-put-field-2 c = search needs
+
+put-field-requires-2 : tie.Need-put-field-requires-2
+put-field-requires-2 c κs = search needs
+
+array-read-put-field-3 : tie.Need-array-read-put-field-3
+array-read-put-field-3 c = search needs
+
+put-field-requires-3 : tie.Need-put-field-requires-3
+put-field-requires-3 c κs = search needs
+
+array-read-put-field-4 : tie.Need-array-read-put-field-4
+array-read-put-field-4 c = search needs
+
+put-field-requires-4 : tie.Need-put-field-requires-4
+put-field-requires-4 c κs = search needs
+
+array-read-put-field-5 : tie.Need-array-read-put-field-5
+array-read-put-field-5 c = search needs
+
+put-field-requires-5 : tie.Need-put-field-requires-5
+put-field-requires-5 c κs = search needs
+
+array-read-put-field-6 : tie.Need-array-read-put-field-6
+array-read-put-field-6 c = search needs
+
+put-field-requires-6 : tie.Need-put-field-requires-6
+put-field-requires-6 c κs = search needs
+
+same-length : tie.Need-same-length
+same-length c = search needs
+
+returns : tie.Need-returns
+unfolding putFields
+returns c = cc
+
+pub put-fields-spec : {M : Type 1} → statement M
+put-fields-spec =
+    tie.close
+    (tie.spec
+    array-read-put-field
+    put-field-requires
+    array-read-put-field-2
+    put-field-requires-2
+    array-read-put-field-3
+    put-field-requires-3
+    array-read-put-field-4
+    put-field-requires-4
+    array-read-put-field-5
+    put-field-requires-5
+    array-read-put-field-6
+    put-field-requires-6
+    same-length
+    returns)

@@ -1,0 +1,25 @@
+-- What the calls of this crate answer, in document 01's numbers and values, and what each enum of the code answers.
+use Prim.Native.Nat.{ℕ}
+use Rattle.record.specs.declared.events.Event.{Event}
+use Rattle.record.specs.declared.reading.Read.{Read}
+use Rattle.record.specs.declared.reading.Read.the-variants.{Record, Refused}
+use Rattle.record.specs.declared.writing.Written.{Written}
+use Rattle.record.specs.declared.writing.Written.the-variants.{Done, NoRoom}
+
+pub data Answer : Type 0 where
+  -- a refusal: its number and its event number
+  refused : ℕ → ℕ → Answer
+  -- a record's event, and the position past the record
+  event : Event → ℕ → Answer
+  -- the number of bytes written
+  wrote : ℕ → Answer
+
+-- "gives its event, or 1 (no bytes), 2, 3 or 4, with event 0"
+abbrev pub readAnswer : Read → Answer
+readAnswer (Record e n) = event e n
+readAnswer (Refused k) = refused k 0
+
+-- "refuses only with 17"; "14, 15, 16 and 17 carry 0"
+abbrev pub writeAnswer : Written → Answer
+writeAnswer (Done n) = wrote n
+writeAnswer NoRoom = refused 17 0

@@ -1,0 +1,11 @@
+-- What a reader has to believe of this crate, in document 01's order: Bytes, Table, Events, Answers, Reading, Writing
+-- and Parts. Fields and Bytes' last definition serve the private functions' contracts only.
+pub mod Tests
+pub mod Bytes
+pub mod Table
+pub mod Events
+pub mod Fields
+pub mod Answers
+pub mod Reading
+pub mod Writing
+pub mod Parts

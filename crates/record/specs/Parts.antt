@@ -1,0 +1,34 @@
+-- Record number e of a trace: document 01, "The trace".
+use mathlib.Core.List.{List, [], _++_}
+use mathlib.Core.Path.{_≡_}
+use Prim.Native.Nat.{ℕ, zero, suc, _+_, _≤_}
+use lib.ListN.{take, drop}
+use Rattle.record.specs.Reading.{frame}
+use Rattle.record.specs.declared.reading.Frame.{Frame}
+use Rattle.record.specs.declared.reading.Frame.the-variants.{Size, Unframed}
+
+abbrev pub sizeOf : Frame → ℕ
+sizeOf (Size n) = n
+sizeOf (Unframed k) = 0
+
+-- the number of bytes of the record at a position, its length bytes included; 0 if it cannot be framed
+unfoldable pub sizeAt : List ℕ → ℕ → ℕ
+sizeAt s at = sizeOf (frame (drop at s))
+
+-- where record number e starts, each record standing right behind the one before it
+unfoldable pub start : List ℕ → ℕ → ℕ
+start s zero = 0
+start s (suc e) = start s e + sizeAt s (start s e)
+
+-- "record number e as a part of the caller's trace, length bytes included"
+unfoldable pub recordPart : List ℕ → ℕ → List ℕ
+recordPart s e = take (sizeAt s (start s e)) (drop (start s e) s)
+
+-- records 0 to e can all be framed: none has "a length under 2, or bytes missing"
+pub record AllFramed (s : List ℕ) (e : ℕ) : Type 0 where
+  pub framed : (i : ℕ) → i ≤ e → (n : ℕ) × (frame (drop (start s i) s) ≡ Size n)
+
+-- the parts 0 to e, one after the other
+unfoldable pub joined : List ℕ → ℕ → List ℕ
+joined s zero = recordPart s 0
+joined s (suc e) = joined s e ++ recordPart s (suc e)

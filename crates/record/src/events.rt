@@ -1,0 +1,175 @@
+// Events, and their fields by name: what a record's kind and fields say, and the way back.
+ghost use mathlib.Core.Path.{_≡_};
+ghost use Rattle.record.specs.Events.{kindOf};
+ghost use Rattle.record.specs.Fields.{fieldsOf, threadFields, eventOf};
+
+// An event of a trace: a variant for each kind of record, with the record's fields.
+pub enum Event {
+    Begin {
+        version: u16,
+        threads: u16,
+        locations: u16,
+    },
+    Issue {
+        thread: u16,
+        location: u16,
+    },
+    Commit {
+        thread: u16,
+    },
+    Load {
+        thread: u16,
+        location: u16,
+        source: u16,
+    },
+    Clflush {
+        thread: u16,
+        location: u16,
+    },
+    // clflushopt or clwb
+    Clwb {
+        thread: u16,
+        location: u16,
+    },
+    Sfence {
+        thread: u16,
+    },
+    Mfence {
+        thread: u16,
+    },
+    Crash,
+    SkipOn {
+        thread: u16,
+    },
+    SkipOff {
+        thread: u16,
+    },
+}
+
+// The values of an event's fields; 0 where its kind has no such field.
+pub(crate) struct Fields {
+    pub(crate) thread: u16,
+    pub(crate) location: u16,
+    pub(crate) source: u16,
+    pub(crate) version: u16,
+    pub(crate) threads: u16,
+    pub(crate) locations: u16,
+}
+
+pub(crate) fn kind_of(e: Event) -> u16
+    ensures { λ r. ⌜ r ≡ kindOf e ⌝ }
+{
+    match e {
+        Event::Begin {
+            version: _,
+            threads: _,
+            locations: _,
+        } => 1,
+        Event::Issue {
+            thread: _,
+            location: _,
+        } => 2,
+        Event::Commit { thread: _ } => 3,
+        Event::Load {
+            thread: _,
+            location: _,
+            source: _,
+        } => 4,
+        Event::Clflush {
+            thread: _,
+            location: _,
+        } => 5,
+        Event::Clwb {
+            thread: _,
+            location: _,
+        } => 6,
+        Event::Sfence { thread: _ } => 7,
+        Event::Mfence { thread: _ } => 8,
+        Event::Crash => 9,
+        Event::SkipOn { thread: _ } => 10,
+        Event::SkipOff { thread: _ } => 11,
+    }
+}
+
+// The fields of a record that has a thread, a location or a source.
+fn thread_fields(thread: u16, location: u16, source: u16) -> Fields
+    ensures { λ r. ⌜ r ≡ threadFields thread location source ⌝ }
+{
+    Fields {
+        thread,
+        location,
+        source,
+        version: 0,
+        threads: 0,
+        locations: 0,
+    }
+}
+
+pub(crate) fn fields_of(e: Event) -> Fields
+    ensures { λ r. ⌜ r ≡ fieldsOf e ⌝ }
+{
+    match e {
+        Event::Begin {
+            version,
+            threads,
+            locations,
+        } => Fields {
+            thread: 0,
+            location: 0,
+            source: 0,
+            version,
+            threads,
+            locations,
+        },
+        Event::Issue { thread, location } => thread_fields(thread, location, 0),
+        Event::Commit { thread } => thread_fields(thread, 0, 0),
+        Event::Load {
+            thread,
+            location,
+            source,
+        } => thread_fields(thread, location, source),
+        Event::Clflush { thread, location } => thread_fields(thread, location, 0),
+        Event::Clwb { thread, location } => thread_fields(thread, location, 0),
+        Event::Sfence { thread } => thread_fields(thread, 0, 0),
+        Event::Mfence { thread } => thread_fields(thread, 0, 0),
+        Event::Crash => thread_fields(0, 0, 0),
+        Event::SkipOn { thread } => thread_fields(thread, 0, 0),
+        Event::SkipOff { thread } => thread_fields(thread, 0, 0),
+    }
+}
+
+// The event of a kind with these fields; a crash where there is no such kind.
+pub(crate) fn event_of(kind: u16, f: Fields) -> Event
+    ensures { λ r. ⌜ r ≡ eventOf kind f ⌝ }
+{
+    match kind {
+        1 => Event::Begin {
+            version: f.version,
+            threads: f.threads,
+            locations: f.locations,
+        },
+        2 => Event::Issue {
+            thread: f.thread,
+            location: f.location,
+        },
+        3 => Event::Commit { thread: f.thread },
+        4 => Event::Load {
+            thread: f.thread,
+            location: f.location,
+            source: f.source,
+        },
+        5 => Event::Clflush {
+            thread: f.thread,
+            location: f.location,
+        },
+        6 => Event::Clwb {
+            thread: f.thread,
+            location: f.location,
+        },
+        7 => Event::Sfence { thread: f.thread },
+        8 => Event::Mfence { thread: f.thread },
+        10 => Event::SkipOn { thread: f.thread },
+        11 => Event::SkipOff { thread: f.thread },
+        _ => Event::Crash,
+    }
+}

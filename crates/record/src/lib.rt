@@ -1,0 +1,23 @@
+// Trace records: reading them, writing them, and finding record number e in a trace.
+//
+// This layer knows nothing of threads or crashes: a field's value may be anything from 0 to 65,535. Every public call
+// takes any input, always returns, and has no `requires`; its answer, and every byte that it was lent, is an equation
+// with a definition of specs/.
+mod bytes;
+mod events;
+mod kinds;
+mod parts;
+mod reader;
+mod reading;
+mod writing;
+
+pub use events::Event;
+pub use parts::part;
+pub use reader::Reader;
+pub use reader::new;
+pub use reader::next;
+pub use reader::read_at;
+pub use reading::Read;
+pub use reading::read_first;
+pub use writing::Written;
+pub use writing::write;

@@ -1,0 +1,159 @@
+// Calls the record crate on document 01's record-level examples and on the edges of each rule, and prints what each call
+// answers. The file `stdout` beside src/ was worked out from document 01 by hand.
+mod show;
+
+use record::Event;
+use show::parts_of;
+use show::read;
+use show::read_from;
+use show::title;
+use show::write;
+use show::write_short;
+
+// Refusals 1 to 4 and the begin record B, each alone and with other bytes behind it.
+fn examples() {
+    title(b"examples");
+    read(b"");
+    read(b"\x08\x00\x01");
+    read(b"\x02\x00\x63\x00");
+    read(b"\x04\x00\x09\x00\x00\x00");
+    read(b"\x08\x00\x01\x00\x01\x00\x01\x00\x02\x00");
+    read(b"\x08\x00\x01\x00\x01\x00\x01\x00\x02\x00\x07");
+}
+
+// Lengths 0, 1 and 2, a single byte left over, and every way to be cut short.
+fn lengths() {
+    title(b"lengths");
+    read(b"\x00");
+    read(b"\x01");
+    read(b"\x08");
+    read(b"\x00\x00");
+    read(b"\x01\x00");
+    read(b"\x00\x00\x09\x00");
+    read(b"\x01\x00\x09");
+    read(b"\x02\x00");
+    read(b"\x02\x00\x09");
+    read(b"\x02\x00\x09\x00");
+    read(b"\x04\x00\x03\x00\x05");
+    read(b"\x04\x00\x03\x00\x05\x00");
+    read(b"\xff\xff\x09\x00");
+}
+
+// A record of length 65,535 with all its bytes: an unknown kind, then a kind of another length.
+fn longest() {
+    title(b"longest");
+    let mut bytes = [1u8; 65537];
+    bytes[0] = 255;
+    bytes[1] = 255;
+    read_from(&bytes, 0);
+    bytes[2] = 9;
+    bytes[3] = 0;
+    read_from(&bytes, 0);
+}
+
+// Kinds that are not in the table, and known kinds of a wrong length; the order of the tests between them.
+fn kinds() {
+    title(b"kinds");
+    read(b"\x02\x00\x00\x00");
+    read(b"\x02\x00\x0c\x00");
+    read(b"\x02\x00\x09\x01");
+    read(b"\x04\x00\x63\x00\x00");
+    read(b"\x09\x00\x01\x00\x01\x00\x01\x00\x02\x00\x00");
+    read(b"\x06\x00\x04\x00\x00\x00\x00\x00");
+    read(b"\x02\x00\x02\x00");
+}
+
+// Every kind, written, read back and framed, with field values from 0 to 65,535.
+fn every_kind() {
+    title(b"every kind");
+    write(Event::Begin {
+        version: 1,
+        threads: 1,
+        locations: 2,
+    });
+    write(Event::Issue {
+        thread: 0,
+        location: 65535,
+    });
+    write(Event::Commit { thread: 258 });
+    write(Event::Load {
+        thread: 1,
+        location: 2,
+        source: 259,
+    });
+    write(Event::Clflush {
+        thread: 7,
+        location: 255,
+    });
+    write(Event::Clwb {
+        thread: 7,
+        location: 256,
+    });
+    write(Event::Sfence { thread: 65535 });
+    write(Event::Mfence { thread: 0 });
+    write(Event::Crash);
+    write(Event::SkipOn { thread: 4660 });
+    write(Event::SkipOff { thread: 1 });
+}
+
+// Outputs that are too short, and one that just fits.
+fn short_outputs() {
+    title(b"short outputs");
+    write_short(Event::Crash, 3);
+    write_short(Event::Crash, 0);
+    write_short(Event::Crash, 4);
+    write_short(
+        Event::Begin {
+            version: 1,
+            threads: 1,
+            locations: 2,
+        },
+        9,
+    );
+    write_short(
+        Event::Begin {
+            version: 1,
+            threads: 1,
+            locations: 2,
+        },
+        10,
+    );
+}
+
+// Record by record through B, an issue and a crash; then at the end, past it, and inside a record.
+fn positions() {
+    title(b"positions");
+    let trace =
+        b"\x08\x00\x01\x00\x01\x00\x01\x00\x02\x00\x06\x00\x02\x00\x00\x00\x01\x00\x02\x00\x09\x00";
+    read_from(trace, 0);
+    read_from(trace, 10);
+    read_from(trace, 18);
+    read_from(trace, 22);
+    read_from(trace, 23);
+    read_from(trace, 18446744073709551615);
+    read_from(trace, 2);
+    read_from(trace, 21);
+}
+
+// Parts of a whole trace, of one with an unknown kind, of one with a length under 2, and of one that is cut short.
+fn parts() {
+    title(b"parts");
+    parts_of(b"");
+    parts_of(
+        b"\x08\x00\x01\x00\x01\x00\x01\x00\x02\x00\x06\x00\x02\x00\x00\x00\x01\x00\x02\x00\x09\x00",
+    );
+    parts_of(b"\x02\x00\x63\x00\x03\x00\x09\x00\x07");
+    parts_of(b"\x02\x00\x09\x00\x01\x00\x02\x00\x09\x00");
+    parts_of(b"\x02\x00\x09\x00\x02\x00\x09");
+}
+
+fn main() {
+    examples();
+    lengths();
+    longest();
+    kinds();
+    every_kind();
+    short_outputs();
+    positions();
+    parts();
+}

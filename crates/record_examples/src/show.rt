@@ -1,0 +1,171 @@
+// Prints what a call of the record crate answers, a line a call.
+use libc::STDOUT_FILENO;
+use record::Event;
+use record::Read;
+use record::Written;
+
+fn say(text: &[u8]) {
+    io::write_all(STDOUT_FILENO, text);
+}
+
+fn wide(x: u16) -> u64 {
+    x as u64
+}
+
+fn hex_byte(x: u8) {
+    say(b" ");
+    io::print_hex(STDOUT_FILENO, x as u64, 2);
+}
+
+fn number(n: u64) {
+    say(b" ");
+    io::print_decimal(STDOUT_FILENO, n);
+}
+
+fn value(x: u16) {
+    number(wide(x));
+}
+
+// The bytes in hexadecimal, each behind a space.
+fn hex(s: &[u8]) {
+    let mut i = 0;
+    while i < s.len() {
+        hex_byte(s[i]);
+        i += 1;
+    }
+}
+
+pub fn title(text: &[u8]) {
+    say(b"-- ");
+    say(text);
+    say(b"\n");
+}
+
+fn event(e: Event) {
+    match e {
+        Event::Begin {
+            version,
+            threads,
+            locations,
+        } => {
+            say(b" begin");
+            value(version);
+            value(threads);
+            value(locations);
+        }
+        Event::Issue { thread, location } => of_location(b" issue", thread, location),
+        Event::Commit { thread } => of_thread(b" commit", thread),
+        Event::Load {
+            thread,
+            location,
+            source,
+        } => {
+            of_location(b" load", thread, location);
+            value(source);
+        }
+        Event::Clflush { thread, location } => of_location(b" clflush", thread, location),
+        Event::Clwb { thread, location } => of_location(b" clwb", thread, location),
+        Event::Sfence { thread } => of_thread(b" sfence", thread),
+        Event::Mfence { thread } => of_thread(b" mfence", thread),
+        Event::Crash => say(b" crash"),
+        Event::SkipOn { thread } => of_thread(b" skip-on", thread),
+        Event::SkipOff { thread } => of_thread(b" skip-off", thread),
+    }
+}
+
+fn of_thread(name: &[u8], thread: u16) {
+    say(name);
+    value(thread);
+}
+
+fn of_location(name: &[u8], thread: u16, location: u16) {
+    of_thread(name, thread);
+    value(location);
+}
+
+fn answer(r: Read) {
+    match r {
+        Read::Record(e, n) => {
+            event(e);
+            say(b", next");
+            number(n as u64);
+        }
+        Read::Refused(k) => {
+            say(b" refused");
+            value(k);
+        }
+    }
+    say(b"\n");
+}
+
+// The bytes, and the first record's event and size or the refusal.
+pub fn read(s: &[u8]) {
+    say(b"read");
+    hex(s);
+    say(b":");
+    answer(record::read_first(s));
+}
+
+// The record at a position.
+pub fn read_from(s: &[u8], at: usize) {
+    say(b"read at");
+    number(at as u64);
+    say(b":");
+    answer(record::read_at(s, at));
+}
+
+// An event written into the output: the answer, and what the output holds afterwards.
+fn write_into(e: Event, out: &mut [u8]) {
+    say(b"write");
+    event(e);
+    say(b" into");
+    number(out.len() as u64);
+    say(b":");
+    let w = record::write(e, out);
+    match w {
+        Written::Done(n) => number(n as u64),
+        Written::NoRoom => say(b" refused 17"),
+    }
+    say(b", output");
+    hex(out);
+    say(b"\n");
+}
+
+// An event written into an output of so many bytes, at most twelve.
+pub fn write_short(e: Event, room: usize) {
+    let mut out = [238u8; 12];
+    if room <= 12 {
+        write_into(e, &mut out[..room]);
+    }
+}
+
+// An event written into twelve bytes, read back, and framed.
+pub fn write(e: Event) {
+    let mut out = [238u8; 12];
+    write_into(e, &mut out);
+    say(b"  read back:");
+    answer(record::read_first(&out));
+    say(b"  part 0:");
+    hex(record::part(&out, 0));
+    say(b"\n");
+}
+
+fn part(s: &[u8], e: usize) {
+    say(b"  part");
+    number(e as u64);
+    say(b":");
+    hex(record::part(s, e));
+    say(b"\n");
+}
+
+// Parts 0 to 3 of a trace, and one far past its end.
+pub fn parts_of(s: &[u8]) {
+    say(b"trace");
+    hex(s);
+    say(b"\n");
+    part(s, 0);
+    part(s, 1);
+    part(s, 2);
+    part(s, 3);
+    part(s, 18446744073709551615);
+}
