@@ -3,6 +3,7 @@
 use mathlib.Core.Path.{_≡_, refl, sym, ap, _∙_}
 use mathlib.Core.Bool.{Bool, true, false, not}
 use mathlib.Core.List.{List}
+use mathlib.Core.Logic.{_⊎_, inl, inr}
 use Prim.Native.Nat.{ℕ, _+_, _<_, _≤_}
 use native.Mathlib.Omega.{arith}
 use lib.ListN.{length}
@@ -109,3 +110,53 @@ unfolding readFirst readFramed
 →read s k n f kind-is length-fits =
     let known : lengthOf k ≡ 0 → ⊥ = λ (e : lengthOf k ≡ 0). omega (arith, f .enough) in
     rw (→frame s n f) (simp (kind-is, ne-eqb _ _ known, eq-eqb _ _ length-fits))
+
+-- ---- what reading answers
+
+-- reading one record answers an event, or one of the refusals 1 to 4 with event 0
+pub data Answers (a : Answer) : Type 0 where
+  an-event : (e : Event) (n : ℕ) → a ≡ event e n → Answers a
+  a-refusal : (k : ℕ) → 1 ≤ k → k ≤ 4 → a ≡ refused k 0 → Answers a
+
+framed-by-numbers :
+    (none short low cut : Bool) (n : ℕ) (f : Frame)
+    → (none gives Unframed 1 else short gives Unframed 2 else low gives Unframed 4 else
+    cut gives Unframed 2 else Size n)
+    ≡ f
+    → ((m : ℕ) × (f ≡ Size m)) ⊎ ((k : ℕ) × (1 ≤ k) × (k ≤ 4) × (f ≡ Unframed k))
+framed-by-numbers true short low cut n f h = inr (1, omega arith, omega arith, sym h)
+framed-by-numbers false true low cut n f h = inr (2, omega arith, omega arith, sym h)
+framed-by-numbers false false true cut n f h = inr (4, omega arith, omega arith, sym h)
+framed-by-numbers false false false true n f h = inr (2, omega arith, omega arith, sym h)
+framed-by-numbers false false false false n f h = inl (n, sym h)
+
+answered-by-tests :
+    (unknown fits : Bool) (x : Event) (n : ℕ)
+    → Answers (unknown gives refused 3 0 else not fits gives refused 4 0 else event x n)
+answered-by-tests true fits x n = a-refusal 3 (omega arith) (omega arith) refl
+answered-by-tests false true x n = an-event x n refl
+answered-by-tests false false x n = a-refusal 4 (omega arith) (omega arith) refl
+
+pub read-answers : (s : List ℕ) → Answers (readFirst s)
+unfolding readFirst readFramed frame
+read-answers s = by-frame (frame s) (framed-by-numbers none short low cut (word s 0 + 2) (frame s) refl)
+  where
+    none : Bool
+    none = eqb (length s) 0
+
+    short : Bool
+    short = ltb (length s) 2
+
+    low : Bool
+    low = ltb (word s 0) 2
+
+    cut : Bool
+    cut = ltb (length s) (word s 0 + 2)
+
+    by-frame :
+        (f : Frame) → ((m : ℕ) × (f ≡ Size m)) ⊎ ((k : ℕ) × (1 ≤ k) × (k ≤ 4) × (f ≡ Unframed k))
+        → Answers (readFramed s f)
+    by-frame f (inl (m, is)) =
+        let l = lengthOf (word s 2) in
+        rw is (answered-by-tests (eqb l 0) (eqb (l + 2) m) (eventOf (word s 2) (fieldsAt s (rowOf (word s 2)))) m)
+    by-frame f (inr (k, from-one, to-four, is)) = rw is (a-refusal k from-one to-four refl)

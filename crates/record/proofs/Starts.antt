@@ -21,6 +21,7 @@ use Rattle.record.specs.declared.reading.Frame.the-variants.{Size, Unfra
 use Rattle.record.specs.declared.reading.Read.{Read}
 use Rattle.record.specs.declared.reading.Read.the-variants.{Record}
 use Rattle.record.proofs.Frames.{clash, Framed, frame→, →frame, read→}
+use Rattle.record.proofs.Frames.{Answers, an-event, a-refusal, read-answers}
 
 -- ---- the size at a position
 
@@ -188,3 +189,20 @@ read-past s at e p h =
 pub read-next : (s : List ℕ) (i : ℕ) (e : Event) (p : ℕ) → readAt s (start s i) ≡ event e p → p ≡ start s (suc i)
 unfolding start
 read-next s i e p h = read-past s (start s i) e p h
+
+-- a record that was read has at least four bytes
+pub read-grows :
+    (s : List ℕ) (i : ℕ) (e : Event) (p : ℕ) → readAt s (start s i) ≡ event e p → start s i + 4 ≤ start s (suc i)
+unfolding readAt
+read-grows s i e p h =
+    let r = from-event (start s i) (readFirst (drop (start s i) s)) e p h in
+    omega (arith, read-next s i e p h, r .2, read→ (drop (start s i) s) e (r .0) (r .1) .framed .enough)
+
+-- reading at a position answers an event, or one of the refusals 1 to 4 with event 0
+pub read-at-answers : (s : List ℕ) (at : ℕ) → Answers (readAt s at)
+unfolding readAt
+read-at-answers s at = by-answer (readFirst (drop at s)) (read-answers (drop at s))
+  where
+    by-answer : (a : Answer) → Answers a → Answers (from at a)
+    by-answer a (an-event e n is) = rw is (an-event e (at + n) refl)
+    by-answer a (a-refusal k low high is) = rw is (a-refusal k low high refl)
