@@ -45,6 +45,15 @@ unfolding start
 start-inside s zero = omega arith
 start-inside s (suc e) = size-inside s (start s e) (start-inside s e)
 
+-- records start in their order
+pub start-mono : (s : List ℕ) (i e : ℕ) → i ≤ e → start s i ≤ start s e
+unfolding start
+start-mono s i e h = up-to (e - i) e (omega arith)
+  where
+    up-to : (d n : ℕ) → n ≡ i + d → start s i ≤ start s n
+    up-to zero n is = let same : n ≡ i = omega arith in rw same (omega arith)
+    up-to (suc d) n is = let next : n ≡ suc (i + d) = omega arith in rw next (omega (arith, up-to d (i + d) refl))
+
 -- one more record, as a loop has it
 pub start-more : (s : List ℕ) (e at n : ℕ) → at ≡ start s e → n ≡ sizeAt s at → at + n ≡ start s (e + 1)
 unfolding start
@@ -72,8 +81,8 @@ unfolding readAt
 read-of-tail s at r q is same =
     ap (λ (x : Read). from at (readAnswer x)) (sym same) ∙ ap (from at) (is ∙ ap readFirst (tail-is s at))
 
--- past the end there are no bytes
-pub read-past-end : (s : List ℕ) (at : ℕ) → length s < at → refused 1 0 ≡ readAt s at
+-- at the end and past it there are no bytes
+pub read-past-end : (s : List ℕ) (at : ℕ) → length s ≤ at → refused 1 0 ≡ readAt s at
 unfolding readAt readFirst readFramed frame
 read-past-end s at past =
     let none : length (drop at s) ≡ 0 = simp length-drop (omega arith) in

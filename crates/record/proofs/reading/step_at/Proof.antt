@@ -6,7 +6,9 @@ use Rattle.record.proofs.reading.step_at.Statement.{statement}
 use Rattle.record.proofs.reading.step_at.Tie as tie
 
 returns : tie.Need-returns
-returns c = read-past-end (c .before .before .args .trace .now) (c .before .before .args .at) (c .if1 .taken)
+returns c =
+    let args = c .before .before .args in
+    read-past-end (args .trace .now) (args .at) (omega arith)
 
 sub-read-first : tie.Need-sub-read-first
 sub-read-first c = search needs

@@ -1,0 +1,225 @@
+-- What an accepted trace has passed, and what that says of its loads: the list of refusals read backwards, for if the
+-- answer of a list of tests is 0, then every test in it failed.
+-- In order: the list read backwards, once; what an event has passed; what a counted load is; where a load's source
+-- comes from (`source-from`, `counted-source`).
+use Prim.Native.Nat.{ℕ, zero, suc, _≤_, _<_}
+use native.Mathlib.Omega.{arith}
+use mathlib.Core.Path.{_≡_, refl}
+use mathlib.Core.Bool.{true, false, _&&_, _||_, not}
+use mathlib.Core.Logic.{_⊎_, inl, inr, _≢_}
+use lib.Dec.{eqb, ltb}
+use borrow.Author.Tests.{eqb-true, eq-eqb, ne-eqb, ltb-true, ltb-false}
+use Rattle.record.specs.declared.events.Event.{Event}
+use Rattle.model.specs.Search.{last}
+use Rattle.model.specs.Trace.{thread, location, source, is, issue?, commit?, load?, crash?, Issue, Commit, Load}
+use Rattle.model.specs.Trace.{stretch, commits, place}
+use Rattle.model.specs.Machine.{beside, committedBy, queued, oldest, committed, waits, waiting, commitsHere}
+use Rattle.model.specs.Machine.{current, past, sourceFits, crossing, counted}
+use Rattle.model.specs.Rules.{Rules, pass, _gives_else_, answer, rules, Accepted}
+use Rattle.model.proofs.Searching.{same?, parts, or-cases, or-fails, not-without, last-is}
+use Rattle.model.proofs.Roles.{begin-no-issue}
+
+-- ---- the list of refusals, read backwards
+
+-- every test that gives a number other than 0 failed
+abbrev Passes : Rules → Type 0
+Passes pass = Unit
+Passes (b gives zero else r) = Unit
+Passes (b gives suc k else r) = (b ≡ false) × Passes r
+
+passes : (r : Rules) → answer r ≡ 0 → Passes r
+unfolding answer
+passes pass none = tt
+passes (b gives zero else r) none = tt
+passes (true gives suc k else r) none = absurd (omega arith)
+passes (false gives suc k else r) none = (refl, passes r none)
+
+module _ (ev : ℕ → Event) where
+  -- ---- what an event of an accepted trace has passed
+
+  -- the first events of an accepted trace are an accepted trace
+  pub prefix : (N n : ℕ) → Accepted ev N → 0 < n → n ≤ N → Accepted ev n
+  prefix N n accepted some within =
+      record { some-record = some; passes = λ e inside. accepted .passes e (omega arith) }
+
+  -- the tests that it failed and that are used below, by the numbers of the refusals
+  record Passed (n : ℕ) : Type 0 where
+    no-1 : (eqb n 0 && not (is ev 1 n)) ≡ false
+    no-13 : (ltb 2048 n || crash? ev n && eqb (stretch ev n) 8) ≡ false
+    no-9 : (load? ev n && not (sourceFits ev n)) ≡ false
+    no-10 : (commit? ev n && not (queued ev n)) ≡ false
+
+  module _ (N : ℕ) (accepted : Accepted ev N) where
+    passed : (n : ℕ) → n < N → Passed n
+    unfolding rules
+    passed n inside = by-number (passes (rules ev n) (accepted .passes n inside))
+      where
+        by-number : Passes (rules ev n) → Passed n
+        by-number (no-1, (no-5, (no-13, (no-6, (no-7, (no-8, (no-9, (no-10, rest)))))))) =
+            record { no-1 = no-1; no-13 = no-13; no-9 = no-9; no-10 = no-10 }
+
+    -- event 0 is a begin, so it is no store
+    pub begins : is ev 1 0 ≡ true
+    begins = not-without (eqb 0 0) (is ev 1 0) (passed 0 (accepted .some-record) .no-1) refl
+
+    pub store-not-0 : {p : ℕ} → Issue ev p → p ≢ 0
+    store-not-0 store is-0 = begin-no-issue ev begins (rw is-0 at store)
+
+    -- "event 2,049" is turned away
+    pub event-bound : (n : ℕ) → n < N → n ≤ 2048
+    event-bound n inside = ltb-false 2048 n (or-fails (ltb 2048 n) _ (passed n inside .no-13) .0)
+
+    -- a load's source fits the load rule
+    pub fitting : (l : ℕ) → l < N → Load ev l → sourceFits ev l ≡ true
+    fitting l inside loads = not-without (load? ev l) (sourceFits ev l) (passed l inside .no-9) (loads .test)
+
+    -- a commit's thread has a waiting store
+    pub commit-queued : (n : ℕ) → n < N → Commit ev n → queued ev n ≡ true
+    commit-queued n inside commits = not-without (commit? ev n) (queued ev n) (passed n inside .no-10) (commits .test)
+
+  -- ---- counted loads
+
+  -- a counted load is crossing: neither of the load rule's first two cases gives it a source
+  pub record Crosses (l : ℕ) : Type 0 where
+    pub loads : Load ev l
+    pub none-waits : waiting ev l ≡ 0
+    pub none-current : current ev l ≡ 0
+
+  pub counted-crosses : (l : ℕ) → counted ev l ≡ true → Crosses l
+  unfolding counted
+  counted-crosses l counts =
+      let crosses = parts (load? ev l && eqb (waiting ev l) 0) _ (parts (crossing ev l) _ counts .0) in
+      let unqueued = parts (load? ev l) _ (crosses .0) in
+      record {
+        loads = record { test = unqueued .0 };
+        none-waits = eqb-true (waiting ev l) 0 (unqueued .1);
+        none-current = eqb-true (current ev l) 0 (crosses .1);
+      }
+
+  -- ---- where a load's source comes from: the three cases of the load rule
+
+  -- s is a store of e's thread and stretch
+  pub record Beside (e s : ℕ) : Type 0 where
+    pub store : Issue ev s
+    pub in-stretch : stretch ev s ≡ stretch ev e
+    pub by-thread : thread ev s ≡ thread ev e
+
+  pub beside-is : (e s : ℕ) → beside ev s e ≡ true → Beside e s
+  beside-is e s passes =
+      let outer = parts (issue? ev s && eqb (stretch ev s) (stretch ev e)) _ passes in
+      let inner = parts (issue? ev s) _ (outer .0) in
+      record {
+        store = record { test = inner .0 };
+        in-stretch = eqb-true _ _ (inner .1);
+        by-thread = eqb-true _ _ (outer .1);
+      }
+
+  -- "the thread has waiting stores to the location": s is one of them
+  pub record FromOwn (l s : ℕ) : Type 0 where
+    pub own : Beside l s
+    pub earlier : s < l
+
+  -- "the stretch has commits to it": a commit made s take effect
+  pub record FromCommit (l s : ℕ) : Type 0 where
+    pub commit : ℕ
+    pub commits : Commit ev commit
+    pub before-load : commit < l
+    pub in-stretch : stretch ev commit ≡ stretch ev l
+    pub of-thread : Beside commit s
+    pub at-place : place ev s ≡ committedBy ev commit
+
+  -- "a store to that location committed in an earlier stretch"
+  pub record FromPast (l s : ℕ) : Type 0 where
+    pub store : Issue ev s
+    pub to-it : location ev s ≡ location ev l
+    pub earlier : stretch ev s < stretch ev l
+    pub kept : place ev s < commits ev l (stretch ev s) (thread ev s)
+
+  pub data From (l s : ℕ) : Type 0 where
+    from-own : FromOwn l s → From l s
+    from-commit : FromCommit l s → From l s
+    from-past : FromPast l s → From l s
+
+  waiting-is-own : (l : ℕ) → waiting ev l ≢ 0 → FromOwn l (waiting ev l)
+  unfolding waiting
+  waiting-is-own l some =
+      let found = last-is l (waits ev l) some in
+      let here = parts (beside ev (waiting ev l) l && eqb (location ev (waiting ev l)) (location ev l)) _ (found .1) in
+      record {
+        own = beside-is l (waiting ev l) (parts (beside ev (waiting ev l) l) _ (here .0) .0);
+        earlier = found .0;
+      }
+
+  current-is-committed : (l : ℕ) → current ev l ≢ 0 → FromCommit l (current ev l)
+  unfolding current committed
+  current-is-committed l some =
+      let c = last l (commitsHere ev l) in
+      let found = last-is c (oldest ev c) some in
+      let chosen = last-is l (commitsHere ev l) (λ is-0. omega (arith, found .0)) in
+      let place-fits = parts (beside ev (current ev l) c) _ (found .1) in
+      let here = parts (commit? ev c && eqb (stretch ev c) (stretch ev l)) _ (chosen .1) in
+      let commit-here = parts (commit? ev c) _ (here .0) in
+      record {
+        commit = c;
+        commits = record { test = commit-here .0 };
+        before-load = chosen .0;
+        in-stretch = eqb-true _ _ (commit-here .1);
+        of-thread = beside-is c (current ev l) (place-fits .0);
+        at-place = eqb-true _ _ (place-fits .1);
+      }
+
+  past-is : (l s : ℕ) → past ev l s ≡ true → FromPast l s
+  past-is l s passes =
+      let to-it = issue? ev s && eqb (location ev s) (location ev l) in
+      let outer = parts (to-it && ltb (stretch ev s) (stretch ev l)) _ passes in
+      let middle = parts to-it _ (outer .0) in
+      let inner = parts (issue? ev s) _ (middle .0) in
+      record {
+        store = record { test = inner .0 };
+        to-it = eqb-true _ _ (inner .1);
+        earlier = ltb-true _ _ (middle .1);
+        kept = ltb-true _ _ (outer .1);
+      }
+
+  -- the third case of the load rule
+  crossing-source :
+      (l : ℕ) → sourceFits ev l ≡ true → waiting ev l ≡ 0 → current ev l ≡ 0 → source ev l ≢ 0
+      → FromPast l (source ev l)
+  unfolding sourceFits
+  crossing-source l fits none-waits none-current some =
+      by-case (or-cases (eqb (source ev l) 0) (past ev l (source ev l)) third)
+    where
+      third : (eqb (source ev l) 0 || past ev l (source ev l)) ≡ true
+      third = rw (eq-eqb (waiting ev l) 0 none-waits, eq-eqb (current ev l) 0 none-current) at fits
+
+      by-case : (eqb (source ev l) 0 ≡ true) ⊎ (past ev l (source ev l) ≡ true) → FromPast l (source ev l)
+      by-case (inl is-0) = absurd (some (eqb-true (source ev l) 0 is-0))
+      by-case (inr is-past) = past-is l (source ev l) is-past
+
+  module _ (N : ℕ) (accepted : Accepted ev N) where
+    -- the source of a load, if it is a store
+    pub source-from : (l : ℕ) → l < N → Load ev l → source ev l ≢ 0 → From l (source ev l)
+    unfolding sourceFits
+    source-from l inside loads some =
+        by-case (same? (waiting ev l) 0) (same? (current ev l) 0) (fitting N accepted l inside loads)
+      where
+        by-case :
+            (waiting ev l ≡ 0) ⊎ (waiting ev l ≢ 0) → (current ev l ≡ 0) ⊎ (current ev l ≢ 0)
+            → sourceFits ev l ≡ true → From l (source ev l)
+        by-case (inr waits) either-way fits =
+            let is-it : source ev l ≡ waiting ev l = eqb-true _ _ (rw (ne-eqb (waiting ev l) 0 waits) at fits) in
+            rw is-it (from-own (waiting-is-own l waits))
+        by-case (inl none-waits) (inr commits) fits =
+            let is-it : source ev l ≡ current ev l =
+            eqb-true _ _ (rw (eq-eqb (waiting ev l) 0 none-waits, ne-eqb (current ev l) 0 commits) at fits)
+            in
+            rw is-it (from-commit (current-is-committed l commits))
+        by-case (inl none-waits) (inl none-current) fits =
+            from-past (crossing-source l fits none-waits none-current some)
+
+    -- the source of a counted load, if it is a store
+    pub counted-source : (l : ℕ) → l < N → counted ev l ≡ true → source ev l ≢ 0 → FromPast l (source ev l)
+    counted-source l inside counts =
+        let crosses = counted-crosses l counts in
+        let fits = fitting N accepted l inside (crosses .loads) in
+        crossing-source l fits (crosses .none-waits) (crosses .none-current)

@@ -1,0 +1,138 @@
+-- How vector clocks change from event to event, and that they count no more than was issued: by these laws, proofs and
+-- code use specs/Clocks.antt and never unfold it. The steps are its clauses with the tests decided; the bounds follow.
+-- In order: what `joins` says; the steps of `seen`; the clock of a store, of its own thread and of another; the bounds.
+use Prim.Native.Nat.{ℕ, zero, suc, _≤_, _<_, max}
+use native.Mathlib.Omega.{arith}
+use mathlib.Core.Path.{_≡_, refl}
+use mathlib.Core.Bool.{true, false}
+use mathlib.Core.Logic.{_⊎_, inl, inr, _≢_}
+use borrow.Author.Tests.{eqb-true, eq-eqb, ne-eqb, ltb-true, lt-ltb}
+use Rattle.record.specs.declared.events.Event.{Event}
+use Rattle.model.specs.Trace.{thread, source, issue?, crash?, Issue, Load, stretch, issues, place}
+use Rattle.model.specs.Clocks.{joins, seen, clock, vc}
+use Rattle.model.proofs.Searching.{test, both, parts, same?, eqb-same}
+use Rattle.model.proofs.Counting.{stretch-else, count-mono, count-lt}
+use Rattle.model.proofs.Induction.{from-all-smaller}
+use Rattle.model.proofs.Roles.{issue-no-crash, load-no-crash}
+
+module _ (ev : ℕ → Event) where
+  -- ---- the test `joins`
+
+  -- what it says: event n is a load of thread t from an earlier store of its own stretch
+  pub record Joined (n t : ℕ) : Type 0 where
+    pub loads : Load ev n
+    pub store : Issue ev (source ev n)
+    pub by-t : thread ev n ≡ t
+    pub early : source ev n < n
+    pub in-stretch : stretch ev (source ev n) ≡ stretch ev n
+
+  pub joins→ : (n t : ℕ) → joins ev n t ≡ true → Joined n t
+  joins→ n t join =
+      let and-stretch = parts _ _ join in
+      let and-early = parts _ _ (and-stretch .0) in
+      let and-thread = parts _ _ (and-early .0) in
+      let roles = parts _ _ (and-thread .0) in
+      record {
+        loads = record { test = roles .0 };
+        store = record { test = roles .1 };
+        by-t = eqb-true _ _ (and-thread .1);
+        early = ltb-true _ _ (and-early .1);
+        in-stretch = eqb-true _ _ (and-stretch .1);
+      }
+
+  pub →joins : (n t : ℕ) → Joined n t → joins ev n t ≡ true
+  →joins n t joined =
+      let roles = both _ _ (joined .loads .test) (joined .store .test) in
+      let and-thread = both _ _ roles (eq-eqb _ _ (joined .by-t)) in
+      let and-early = both _ _ and-thread (lt-ltb _ _ (joined .early)) in
+      both _ _ and-early (eq-eqb _ _ (joined .in-stretch))
+
+  -- ---- the steps
+
+  -- a store's clock stays what it is when the store is issued
+  pub clock-stays : (n q u : ℕ) → q < n → clock ev n q u ≡ vc ev q u
+  unfolding clock vc
+  clock-stays zero q u early = absurd (omega arith)
+  clock-stays (suc n) q u early = last-or-earlier (same? q n) (clock-stays n q u)
+    where
+      last-or-earlier :
+          (q ≡ n) ⊎ (q ≢ n) → (q < n → clock ev n q u ≡ vc ev q u) → clock ev (suc n) q u ≡ vc ev q u
+      last-or-earlier (inl is) earlier = rw is
+      last-or-earlier (inr differs) earlier = rw (ne-eqb q n differs) (earlier (omega arith))
+
+  pub seen-zero : (t u : ℕ) → seen ev 0 t u ≡ 0
+  unfolding seen
+  seen-zero t u = refl
+
+  -- a crash starts afresh
+  pub seen-crash : (n t u : ℕ) → crash? ev n ≡ true → seen ev (suc n) t u ≡ 0
+  unfolding seen
+  seen-crash n t u crash = rw crash
+
+  -- a load brings in its source's clock
+  pub seen-join :
+      (n t u : ℕ) → joins ev n t ≡ true → seen ev (suc n) t u ≡ max (seen ev n t u) (vc ev (source ev n) u)
+  unfolding seen
+  seen-join n t u join =
+      let joined = joins→ n t join in
+      rw (load-no-crash ev (joined .loads), join, clock-stays n (source ev n) u (joined .early))
+
+  -- any other event leaves what is seen
+  pub seen-keep : (n t u : ℕ) → crash? ev n ≡ false → joins ev n t ≡ false → seen ev (suc n) t u ≡ seen ev n t u
+  unfolding seen
+  seen-keep n t u no-crash no-join = rw (no-crash, no-join)
+
+  -- of its own thread, a store's clock counts it and the stores before it
+  pub vc-own : (q u : ℕ) → Issue ev q → u ≡ thread ev q → vc ev q u ≡ suc (place ev q)
+  unfolding vc clock
+  vc-own q u store own-thread = rw (eqb-same q, eq-eqb u (thread ev q) own-thread, store .test) (omega arith)
+
+  -- of another thread, what its thread has seen, event q included
+  pub vc-other : (q u : ℕ) → Issue ev q → u ≢ thread ev q → vc ev q u ≡ seen ev (suc q) (thread ev q) u
+  unfolding vc clock
+  vc-other q u store other = rw (eqb-same q, ne-eqb u (thread ev q) other, issue-no-crash ev store)
+
+  -- ---- the bounds
+
+  abbrev SeenBound : ℕ → Type 0
+  SeenBound n = (t u : ℕ) → seen ev n t u ≤ issues ev n (stretch ev n) u
+
+  vc-bound-by-seen : (q u : ℕ) → Issue ev q → SeenBound (suc q) → vc ev q u ≤ issues ev (suc q) (stretch ev q) u
+  vc-bound-by-seen q u store bound = by-thread (same? u (thread ev q))
+    where
+      by-thread : (u ≡ thread ev q) ⊎ (u ≢ thread ev q) → vc ev q u ≤ issues ev (suc q) (stretch ev q) u
+      by-thread (inl own-thread) =
+          rw (vc-own q u store own-thread, own-thread) (count-lt ev (issue? ev) q (suc q) (store .test) (omega arith))
+      by-thread (inr other) =
+          rw (vc-other q u store other, ← stretch-else ev q (issue-no-crash ev store)) (bound (thread ev q) u)
+
+  seen-bound-next : (n : ℕ) → ((m : ℕ) → m ≤ n → SeenBound m) → SeenBound (suc n)
+  seen-bound-next n earlier t u = by-event (test (crash? ev n)) (test (joins ev n t))
+    where
+      so-far : seen ev n t u ≤ issues ev (suc n) (stretch ev n) u
+      so-far =
+          omega (arith, earlier n (omega arith) t u, count-mono ev (issue? ev) n (suc n) (stretch ev n) u (omega arith))
+
+      brought : Joined n t → vc ev (source ev n) u ≤ issues ev (suc n) (stretch ev n) u
+      brought joined =
+          let s = source ev n in
+          let of-source = vc-bound-by-seen s u (joined .store) (earlier (suc s) (joined .early)) in
+          let issued = count-mono ev (issue? ev) (suc s) (suc n) (stretch ev s) u (omega (arith, joined .early)) in
+          rw (← joined .in-stretch) (omega arith)
+
+      by-event :
+          (crash? ev n ≡ true) ⊎ (crash? ev n ≡ false) → (joins ev n t ≡ true) ⊎ (joins ev n t ≡ false)
+          → seen ev (suc n) t u ≤ issues ev (suc n) (stretch ev (suc n)) u
+      by-event (inl crash) join = rw (seen-crash n t u crash) (omega arith)
+      by-event (inr no-crash) (inl join) =
+          rw (stretch-else ev n no-crash, seen-join n t u join) (omega (arith, so-far, brought (joins→ n t join)))
+      by-event (inr no-crash) (inr no-join) =
+          rw (stretch-else ev n no-crash, seen-keep n t u no-crash no-join) so-far
+
+  -- what a thread has seen of u before event n is at most what u has issued there in the stretch
+  pub seen-bound : (n t u : ℕ) → seen ev n t u ≤ issues ev n (stretch ev n) u
+  seen-bound = from-all-smaller SeenBound (λ t u. omega (arith, seen-zero t u)) seen-bound-next
+
+  -- and so is what a store's clock counts of u, the store included
+  pub vc-bound : (q u : ℕ) → Issue ev q → vc ev q u ≤ issues ev (suc q) (stretch ev q) u
+  vc-bound q u store = vc-bound-by-seen q u store (seen-bound (suc q))

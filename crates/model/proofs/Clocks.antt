@@ -1,0 +1,241 @@
+-- Vector clocks compute happens-before (`clock-is-happens-before`, the last here). What a clock counts happens before:
+-- it is the thread's own, or a load brought it in. What happens before is counted: clocks grow along happens-before.
+-- In order: the stores that a clock counts (`clock-place`); that they happen before; that clocks grow; the theorem.
+use Prim.Native.Nat.{ℕ, zero, suc, _≤_, _<_, max}
+use native.Mathlib.Omega.{arith}
+use mathlib.Core.Path.{_≡_, refl, sym, _∙_}
+use mathlib.Core.Bool.{true, false}
+use mathlib.Core.Logic.{_⊎_, inl, inr, _≢_, _↔_}
+use Rattle.record.specs.declared.events.Event.{Event}
+use Rattle.model.specs.Trace.{thread, source, issue?, crash?, Issue, stretch, issues, place}
+use Rattle.model.specs.HappensBefore.{Precedes, Before, own, read, chain}
+use Rattle.model.specs.Clocks.{joins, seen, vc}
+use Rattle.model.proofs.Searching.{test, same?, less?}
+use Rattle.model.proofs.Counting.{stretch-crash, stretch-else, stretch-mono, count-it, count-lt, at-place}
+use Rattle.model.proofs.Induction.{from-all-smaller}
+use Rattle.model.proofs.Roles.{issue-no-crash, load-no-crash}
+use Rattle.model.proofs.ClockSteps.{Joined, joins→, →joins, seen-zero, seen-crash, seen-join, seen-keep}
+use Rattle.model.proofs.ClockSteps.{vc-own, vc-other, seen-bound, vc-bound}
+
+module _ (ev : ℕ → Event) where
+  -- ---- the stores that a clock counts
+
+  -- the store of thread u at place i, where the clock of store q counts more than i of u's stores
+  pub record ClockPlace (q u i : ℕ) : Type 0 where
+    pub p : ℕ
+    pub early : p < suc q
+    pub store : Issue ev p
+    pub in-stretch : stretch ev p ≡ stretch ev q
+    pub by-u : thread ev p ≡ u
+    pub at-i : place ev p ≡ i
+
+  pub clock-place : (q u i : ℕ) → Issue ev q → i < vc ev q u → ClockPlace q u i
+  clock-place q u i store counted =
+      let found = at-place ev (issue? ev) (suc q) (stretch ev q) u i (omega (arith, vc-bound ev q u store)) in
+      record {
+        p = found .p;
+        early = found .early;
+        store = record { test = found .passes };
+        in-stretch = found .in-j;
+        by-u = found .by-t;
+        at-i = rw (found .in-j, found .by-t) (found .at-i);
+      }
+
+  -- ---- they happen before
+
+  place-grows :
+      (p q : ℕ) → Issue ev p → p < q → stretch ev p ≡ stretch ev q → thread ev p ≡ thread ev q
+      → place ev p < place ev q
+  place-grows p q store earlier in-stretch by-thread =
+      rw (← in-stretch, ← by-thread) (count-lt ev (issue? ev) p q (store .test) earlier)
+
+  -- what e's thread has seen before event n precedes e, where e is event n - 1 or a later one of the stretch
+  abbrev SeenPrecedes : ℕ → Type 0
+  SeenPrecedes n =
+      (p e : ℕ) → Issue ev p → stretch ev p ≡ stretch ev n → stretch ev e ≡ stretch ev n → n ≤ suc e
+      → place ev p < seen ev n (thread ev e) (thread ev p) → Precedes ev p e
+
+  counted-is-before :
+      (q p : ℕ) → SeenPrecedes (suc q) → Issue ev q → Issue ev p → stretch ev p ≡ stretch ev q
+      → place ev p < vc ev q (thread ev p) → (p ≡ q) ⊎ Before ev p q
+  counted-is-before q p seen-precedes q-store p-store in-stretch counted =
+      by-place (same? p q) (less? p q) (same? (thread ev p) (thread ev q))
+    where
+      -- of another thread: q's thread has seen it
+      seen-before : thread ev p ≢ thread ev q → Precedes ev p q
+      seen-before other = seen-precedes p q p-store (in-stretch ∙ same) same (omega arith) was-seen
+        where
+          same : stretch ev q ≡ stretch ev (suc q)
+          same = sym (stretch-else ev q (issue-no-crash ev q-store))
+
+          was-seen : place ev p < seen ev (suc q) (thread ev q) (thread ev p)
+          was-seen = rw (← vc-other ev q (thread ev p) q-store other) counted
+
+      by-place :
+          (p ≡ q) ⊎ (p ≢ q) → (p < q) ⊎ (q ≤ p) → (thread ev p ≡ thread ev q) ⊎ (thread ev p ≢ thread ev q)
+          → (p ≡ q) ⊎ Before ev p q
+      by-place (inl is) order by-thread = inl is
+      by-place (inr differs) order (inr other) = inr (record { store = q-store; precedes = seen-before other })
+      by-place (inr differs) (inl earlier) (inl own-thread) =
+          inr (record { store = q-store; precedes = own p-store in-stretch own-thread earlier })
+      by-place (inr differs) (inr later) (inl own-thread) =
+          let higher = place-grows q p q-store (omega arith) (sym in-stretch) (sym own-thread) in
+          absurd (omega (arith, vc-own ev q (thread ev p) q-store own-thread))
+
+  seen-precedes-next : (n : ℕ) → ((m : ℕ) → m ≤ n → SeenPrecedes m) → SeenPrecedes (suc n)
+  seen-precedes-next n earlier p e store p-in-stretch e-in-stretch late was-seen =
+      by-event (test (crash? ev n)) (test (joins ev n (thread ev e)))
+    where
+      t : ℕ
+      t = thread ev e
+
+      -- t has seen p before event n already
+      seen-before : crash? ev n ≡ false → place ev p < seen ev n t (thread ev p) → Precedes ev p e
+      seen-before no-crash was-seen-before =
+          let same = stretch-else ev n no-crash in
+          earlier n (omega arith) p e store (p-in-stretch ∙ same) (e-in-stretch ∙ same) (omega arith) was-seen-before
+
+      -- event n is a load that brings p in
+      brought : Joined ev n t → place ev p < vc ev (source ev n) (thread ev p) → Precedes ev p e
+      brought joined counted =
+          from-source (counted-is-before (source ev n) p of-source (joined .store) store in-stretch counted)
+        where
+          of-source : SeenPrecedes (suc (source ev n))
+          of-source = earlier (suc (source ev n)) (joined .early)
+
+          same : stretch ev (suc n) ≡ stretch ev n
+          same = stretch-else ev n (load-no-crash ev (joined .loads))
+
+          in-stretch : stretch ev p ≡ stretch ev (source ev n)
+          in-stretch = p-in-stretch ∙ same ∙ sym (joined .in-stretch)
+
+          load-in-stretch : stretch ev n ≡ stretch ev e
+          load-in-stretch = sym (e-in-stretch ∙ same)
+
+          source-precedes : Precedes ev (source ev n) e
+          source-precedes =
+              read n (joined .store) (joined .in-stretch ∙ load-in-stretch) (joined .loads) refl (joined .by-t)
+              load-in-stretch (joined .early) (omega arith)
+
+          from-source : (p ≡ source ev n) ⊎ Before ev p (source ev n) → Precedes ev p e
+          from-source (inl is) = rw is source-precedes
+          from-source (inr before) = chain (joined .store) (before .precedes) source-precedes
+
+      before-or-brought :
+          crash? ev n ≡ false → joins ev n t ≡ true
+          → (place ev p < seen ev n t (thread ev p)) ⊎ (seen ev n t (thread ev p) ≤ place ev p) → Precedes ev p e
+      before-or-brought no-crash join (inl was-seen-before) = seen-before no-crash was-seen-before
+      before-or-brought no-crash join (inr was-not) =
+          brought (joins→ ev n t join) (omega (arith, seen-join ev n t (thread ev p) join))
+
+      by-event :
+          (crash? ev n ≡ true) ⊎ (crash? ev n ≡ false) → (joins ev n t ≡ true) ⊎ (joins ev n t ≡ false)
+          → Precedes ev p e
+      by-event (inl crash) join = absurd (omega (arith, seen-crash ev n t (thread ev p) crash))
+      by-event (inr no-crash) (inl join) =
+          before-or-brought no-crash join (less? (place ev p) (seen ev n t (thread ev p)))
+      by-event (inr no-crash) (inr no-join) =
+          seen-before no-crash (rw (← seen-keep ev n t (thread ev p) no-crash no-join) was-seen)
+
+  seen-precedes : (n : ℕ) → SeenPrecedes n
+  seen-precedes = from-all-smaller SeenPrecedes nothing-seen seen-precedes-next
+    where
+      nothing-seen : SeenPrecedes 0
+      nothing-seen p e store p-in-stretch e-in-stretch late was-seen =
+          absurd (omega (arith, seen-zero ev (thread ev e) (thread ev p)))
+
+  -- ---- clocks grow along happens-before
+
+  -- in a stretch, what is seen only grows
+  seen-grows-once : (n t u : ℕ) → crash? ev n ≡ false → seen ev n t u ≤ seen ev (suc n) t u
+  seen-grows-once n t u no-crash = by-join (test (joins ev n t))
+    where
+      by-join : (joins ev n t ≡ true) ⊎ (joins ev n t ≡ false) → seen ev n t u ≤ seen ev (suc n) t u
+      by-join (inl join) = omega (arith, seen-join ev n t u join)
+      by-join (inr no-join) = omega (arith, seen-keep ev n t u no-crash no-join)
+
+  seen-grows : (m n t u : ℕ) → m ≤ n → stretch ev m ≡ stretch ev n → seen ev m t u ≤ seen ev n t u
+  seen-grows m zero t u early same = let none : m ≡ 0 = omega arith in rw none (omega arith)
+  seen-grows m (suc n) t u early same =
+      last-or-earlier (same? m (suc n)) (test (crash? ev n)) (seen-grows m n t u)
+    where
+      last-or-earlier :
+          (m ≡ suc n) ⊎ (m ≢ suc n) → (crash? ev n ≡ true) ⊎ (crash? ev n ≡ false)
+          → (m ≤ n → stretch ev m ≡ stretch ev n → seen ev m t u ≤ seen ev n t u)
+          → seen ev m t u ≤ seen ev (suc n) t u
+      last-or-earlier (inl is) crash earlier = rw is (omega arith)
+      last-or-earlier (inr differs) (inl crash) earlier =
+          absurd (omega (arith, stretch-mono ev m n (omega arith), stretch-crash ev n crash))
+      last-or-earlier (inr differs) (inr no-crash) earlier =
+          let so-far : seen ev m t u ≤ seen ev n t u = earlier (omega arith) (same ∙ stretch-else ev n no-crash) in
+          omega (arith, seen-grows-once n t u no-crash)
+
+  -- what q's thread has seen after event e is in the clock of q
+  seen-in-clock :
+      (e q u : ℕ) → crash? ev e ≡ false → Issue ev q → e ≤ q → stretch ev e ≡ stretch ev q
+      → seen ev (suc e) (thread ev q) u ≤ vc ev q u
+  seen-in-clock e q u no-crash store early in-stretch = omega (arith, still-seen, by-thread (same? u (thread ev q)))
+    where
+      same : stretch ev (suc q) ≡ stretch ev q
+      same = stretch-else ev q (issue-no-crash ev store)
+
+      still-seen : seen ev (suc e) (thread ev q) u ≤ seen ev (suc q) (thread ev q) u
+      still-seen =
+          seen-grows (suc e) (suc q) (thread ev q) u (omega arith) (stretch-else ev e no-crash ∙ in-stretch ∙ sym same)
+
+      by-thread : (u ≡ thread ev q) ⊎ (u ≢ thread ev q) → seen ev (suc q) (thread ev q) u ≤ vc ev q u
+      by-thread (inr other) = omega (arith, vc-other ev q u store other)
+      by-thread (inl own-thread) = rw own-thread (omega (arith, vc-own ev q (thread ev q) store refl, issued, bound))
+        where
+          issued : issues ev (suc q) (stretch ev q) (thread ev q) ≡ suc (place ev q)
+          issued = count-it ev (issue? ev) q (stretch ev q) (thread ev q) (store .test) refl refl
+
+          bound : seen ev (suc q) (thread ev q) (thread ev q) ≤ issues ev (suc q) (stretch ev q) (thread ev q)
+          bound = rw same at (seen-bound ev (suc q) (thread ev q) (thread ev q))
+
+  clocks-grow : {p n : ℕ} → Issue ev n → Precedes ev p n → (u : ℕ) → vc ev p u ≤ vc ev n u
+  clocks-grow n-store (own {p} {n} p-store in-stretch by-thread earlier) u = by-u (same? u (thread ev p))
+    where
+      seen-by-p : seen ev (suc p) (thread ev p) u ≤ vc ev n u
+      seen-by-p = rw by-thread (seen-in-clock p n u (issue-no-crash ev p-store) n-store (omega arith) in-stretch)
+
+      by-u : (u ≡ thread ev p) ⊎ (u ≢ thread ev p) → vc ev p u ≤ vc ev n u
+      by-u (inl own-thread) =
+          let lower = place-grows p n p-store earlier in-stretch by-thread in
+          omega (arith, vc-own ev p u p-store own-thread, vc-own ev n u n-store (own-thread ∙ by-thread))
+      by-u (inr other) = rw (vc-other ev p u p-store other) seen-by-p
+  clocks-grow n-store (read {p} {n} l p-store in-stretch loads from by-thread load-in-stretch after early) u =
+      omega (arith, brought, seen-in-clock l n u (load-no-crash ev loads) n-store early load-in-stretch)
+    where
+      joined : Joined ev l (thread ev n)
+      joined =
+          record {
+            loads = loads;
+            store = rw from p-store;
+            by-t = by-thread;
+            early = rw from after;
+            in-stretch = rw from (in-stretch ∙ sym load-in-stretch);
+          }
+
+      brought : seen ev (suc l) (thread ev n) u ≡ max (seen ev l (thread ev n) u) (vc ev p u)
+      brought = rw from at (seen-join ev l (thread ev n) u (→joins ev l (thread ev n) joined))
+  clocks-grow n-store (chain {p} {q} {n} q-store first second) u =
+      let to-q : vc ev p u ≤ vc ev q u = clocks-grow q-store first u in
+      let to-n : vc ev q u ≤ vc ev n u = clocks-grow n-store second u in
+      omega arith
+
+  -- ---- the theorem
+
+  -- p's place is below q's clock for p's thread exactly if p is q or happens before it
+  pub clock-is-happens-before :
+      (q p : ℕ) → Issue ev q → Issue ev p → stretch ev p ≡ stretch ev q
+      → (place ev p < vc ev q (thread ev p)) ↔ ((p ≡ q) ⊎ Before ev p q)
+  clock-is-happens-before q p q-store p-store in-stretch =
+      (counted-is-before q p (seen-precedes (suc q)) q-store p-store in-stretch, before-is-counted)
+    where
+      itself : place ev p < vc ev p (thread ev p)
+      itself = omega (arith, vc-own ev p (thread ev p) p-store refl)
+
+      before-is-counted : (p ≡ q) ⊎ Before ev p q → place ev p < vc ev q (thread ev p)
+      before-is-counted (inl is) = rw (← is) itself
+      before-is-counted (inr before) = omega (arith, itself, clocks-grow q-store (before .precedes) (thread ev p))

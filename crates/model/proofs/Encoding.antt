@@ -1,0 +1,190 @@
+-- A trace written record by record is read as its events: where each record starts, what is read there, and that the
+-- bytes end behind the last one. So what the definitions say of such bytes is what they say of the list of events,
+-- which computes at once. Assumes nothing.
+use Prim.Native.Nat.{ℕ, zero, suc, _+_, _≤_, _<_}
+use native.Mathlib.Omega.{arith}
+use mathlib.Core.Path.{_≡_, refl, sym, ap, _∙_, fun-ext}
+use mathlib.Core.Bool.{Bool, true, false, cond, _&&_, not}
+use mathlib.Core.Logic.{_⊎_, inl, inr, _≢_}
+use mathlib.Core.List.{List, [], _∷_, _++_}
+use lib.ListN.{length, getD, drop, length-drop, List·getD-eq-default}
+use lib.Seq.{drop-drop, drop-cons, drop-length, drop-append-seam}
+use lib.Dec.{eqb, ltb}
+use borrow.Author.Tests.{eqb-true, eqb-false, eq-eqb, ltb-true, ltb-false, lt-ltb, le-ltb, not-true, not-false}
+use Rattle.record.specs.declared.events.Event.{Event}
+use Rattle.record.specs.declared.events.Event.the-variants.{Crash}
+use Rattle.record.specs.Answers.{Answer, refused, event}
+use Rattle.record.specs.Events.{recordOf}
+use Rattle.record.specs.Fields.{fieldsOf, TwoByte}
+use Rattle.record.specs.Parts.{start, sizeAt}
+use Rattle.record.specs.Reading.{readFirst, readAt}
+use Rattle.record.proofs.RoundTrips.{write-read}
+use Rattle.record.proofs.Starts.{start-inside, start-mono, read-at, read-past, read-past-end, read-grows}
+use Rattle.model.specs.Search.{some, first}
+use Rattle.model.specs.Rules.{refusal}
+use Rattle.model.specs.Reading.{events, refusalAt, endsAt, Reading, accepted, turnedAway, readingOf}
+use Rattle.model.specs.Answers as Answers
+use Rattle.model.specs.Verdict.{rulingOf}
+use Rattle.model.specs.Judge.{ruledAnswer, ruledCut, readAnswer, readCut, judgeOf, cutAfter}
+use Rattle.model.proofs.Searching.{false-true, test, parts, less?, →some, First, first-is}
+use Rattle.model.proofs.TurnedAway.{AcceptedWith, TurnedAwayWith, accepted-exactly, turned-away-exactly}
+
+-- ---- the bytes of a list of events, and the definitions of a trace as a list
+
+-- the records of the events, one after the other
+unfoldable pub encode : List Event → List ℕ
+encode [] = []
+encode (x ∷ xs) = recordOf x ++ encode xs
+
+abbrev pub trace : List Event → ℕ → Event
+trace xs e = getD xs e Crash
+
+-- each field of each event is a two-byte number
+pub record AllTwoByte (xs : List Event) : Type 0 where
+  pub two-byte : (e : ℕ) → e < length xs → TwoByte (fieldsOf (trace xs e))
+
+-- the same, as a test
+abbrev pub twoByte? : Event → Bool
+twoByte? x =
+    let f = fieldsOf x in
+    ltb (f .thread) 65536 && ltb (f .location) 65536 && ltb (f .source) 65536
+    && ltb (f .version) 65536 && ltb (f .threads) 65536 && ltb (f .locations) 65536
+
+-- the rules turn event e away
+abbrev pub turned? : List Event → ℕ → Bool
+turned? xs e = not (eqb (refusal (trace xs) e) 0)
+
+-- the reading of a list of events
+unfoldable pub readingEvents : List Event → Reading
+readingEvents xs =
+    let e = first (length xs) (turned? xs) in
+    cond (some (length xs) (turned? xs)) (turnedAway (refusal (trace xs) e) e) (accepted (length xs))
+
+-- the answer to a list of events, and the cut buffer afterwards
+abbrev pub answerEvents : List Event → Reading → Answers.Answer
+answerEvents xs (turnedAway k e) = Answers.refused k e
+answerEvents xs (accepted N) = ruledAnswer (trace xs) N (rulingOf (trace xs) N)
+
+abbrev pub cutEvents : List Event → List ℕ → Reading → List ℕ
+cutEvents xs cut (turnedAway k e) = cut
+cutEvents xs cut (accepted N) = ruledCut (trace xs) N cut (rulingOf (trace xs) N)
+
+-- ---- one record
+
+-- the record of x stands where record i starts: it is read, and behind it stands the rest
+next-record :
+    (s : List ℕ) (i : ℕ) (x : Event) (rest : List ℕ) → TwoByte (fieldsOf x) → drop (start s i) s ≡ recordOf x ++ rest
+    → (readAt s (start s i) ≡ event x (start s (suc i))) × (drop (start s (suc i)) s ≡ rest)
+unfolding start
+next-record s i x rest small here =
+    let at = start s i in
+    let n = length (recordOf x) in
+    let first-read : readFirst (drop at s) ≡ event x n = rw here (write-read x rest small) in
+    let is-read : readAt s at ≡ event x (at + n) = rw (read-at, first-read) in
+    let size-is : at + sizeAt s at ≡ at + n = sym (read-past s at x (at + n) is-read) in
+    let behind : drop (at + n) s ≡ rest = rw (← drop-drop n at s, here) (drop-append-seam (recordOf x) rest) in
+    (rw size-is is-read, rw size-is behind)
+
+module _ (xs : List Event) (small : AllTwoByte xs) where
+  abbrev s : List ℕ
+  s = encode xs
+
+  -- ---- where the records start, and what is read there
+
+  -- record e stands in front of the later ones
+  front : (e : ℕ) → e < length xs → encode (drop e xs) ≡ recordOf (trace xs e) ++ encode (drop (suc e) xs)
+  unfolding encode
+  front e inside = ap encode (drop-cons xs e Crash inside)
+
+  rest-at : (e : ℕ) → e ≤ length xs → drop (start s e) s ≡ encode (drop e xs)
+  unfolding start
+  rest-at zero inside = refl
+  rest-at (suc e) inside =
+      next-record s e (trace xs e) (encode (drop (suc e) xs)) (small .two-byte e inside)
+      (rest-at e (omega arith) ∙ front e inside) .1
+
+  is-read : (e : ℕ) → e < length xs → readAt s (start s e) ≡ event (trace xs e) (start s (suc e))
+  is-read e inside =
+      next-record s e (trace xs e) (encode (drop (suc e) xs)) (small .two-byte e inside)
+      (rest-at e (omega arith) ∙ front e inside) .0
+
+  -- the bytes end behind the last record
+  nothing-behind : drop (start s (length xs)) s ≡ []
+  unfolding encode
+  nothing-behind = rest-at (length xs) (omega arith) ∙ ap encode (drop-length xs)
+
+  ends-behind : start s (length xs) ≡ length s
+  ends-behind =
+      omega (arith, length-drop (start s (length xs)) s, ap length nothing-behind, start-inside s (length xs))
+
+  nothing-later : (e : ℕ) → length xs ≤ e → readAt s (start s e) ≡ refused 1 0
+  nothing-later e past =
+      sym (read-past-end s (start s e) (omega (arith, ends-behind, start-mono s (length xs) e past)))
+
+  -- ---- events and refusals
+
+  pub same-events : events s ≡ trace xs
+  unfolding events
+  same-events = fun-ext (λ e. by-order e (less? e (length xs)))
+    where
+      by-order : (e : ℕ) → (e < length xs) ⊎ (length xs ≤ e) → events s e ≡ trace xs e
+      by-order e (inl inside) = rw (is-read e inside)
+      by-order e (inr past) = rw (nothing-later e past) (sym (List·getD-eq-default xs Crash past))
+
+  same-refusal : (e : ℕ) → e < length xs → refusalAt s e ≡ refusal (trace xs) e
+  unfolding refusalAt
+  same-refusal e inside = rw (is-read e inside, same-events)
+
+  -- ---- the reading
+
+  turned-away-there : (e : ℕ) → First (length xs) (turned? xs) e → TurnedAwayWith s (refusal (trace xs) e) e
+  turned-away-there e found = record {
+    earlier-pass = λ i l. same-refusal i (omega (arith, found .below)) ∙ passes i (test (turned? xs i)) l;
+    number = same-refusal e (found .below);
+    some-number = eqb-false _ _ (not-true _ (found .passes));
+    no-end = no-end (test (endsAt s e));
+  }
+    where
+      passes : (i : ℕ) → (turned? xs i ≡ true) ⊎ (turned? xs i ≡ false) → i < e → refusal (trace xs) i ≡ 0
+      passes i (inl turned) l = absurd (omega (arith, found .smallest i turned))
+      passes i (inr fails) l = eqb-true _ _ (not-false _ fails)
+
+      no-end : (endsAt s e ≡ true) ⊎ (endsAt s e ≡ false) → endsAt s e ≡ false
+      no-end (inr fails) = fails
+      no-end (inl ends) =
+          let at-end = eqb-true (start s e) (length s) (parts (ltb 0 e) _ ends .1) in
+          let grows = read-grows s e (trace xs e) (start s (suc e)) (is-read e (found .below)) in
+          absurd (omega (arith, start-inside s (suc e)))
+
+  accepted-there : 0 < length xs → some (length xs) (turned? xs) ≡ false → AcceptedWith s (length xs)
+  accepted-there some-event none = record {
+    some-record = some-event;
+    all-pass = λ e l. same-refusal e l ∙ passes e (test (turned? xs e)) l;
+    ends = ends-behind;
+  }
+    where
+      passes : (e : ℕ) → (turned? xs e ≡ true) ⊎ (turned? xs e ≡ false) → e < length xs → refusal (trace xs) e ≡ 0
+      passes e (inl turned) l = false-true (sym none ∙ →some (length xs) (turned? xs) e l turned)
+      passes e (inr fails) l = eqb-true _ _ (not-false _ fails)
+
+  pub same-reading : 0 < length xs → readingOf s ≡ readingEvents xs
+  unfolding readingEvents
+  same-reading some-event = by-search (test (some (length xs) (turned? xs)))
+    where
+      by-search :
+          (some (length xs) (turned? xs) ≡ true) ⊎ (some (length xs) (turned? xs) ≡ false)
+          → readingOf s ≡ readingEvents xs
+      by-search (inl found) =
+          let e = first (length xs) (turned? xs) in
+          rw found (turned-away-exactly s _ e .1 (turned-away-there e (first-is (length xs) (turned? xs) found)))
+      by-search (inr none) = rw none (accepted-exactly s (length xs) .1 (accepted-there some-event none))
+
+  -- ---- the answer
+
+  pub same-answer : (r : Reading) → readAnswer s r ≡ answerEvents xs r
+  same-answer (accepted N) = rw same-events
+  same-answer (turnedAway k e) = refl
+
+  pub same-cut : (cut : List ℕ) (r : Reading) → readCut s cut r ≡ cutEvents xs cut r
+  same-cut cut (accepted N) = rw same-events
+  same-cut cut (turnedAway k e) = refl

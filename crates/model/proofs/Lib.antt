@@ -1,0 +1,24 @@
+-- Laws and theorems about the definitions. The theorems that others cite: `clock-is-happens-before` (Clocks),
+-- `before-committed` (Committed), `exact`, `unique`, `broken-stays`, `named-load-counts` (Exactness), `min-explains`,
+-- `max-explains` (Lattice), `explains-is-replay` (Replay), `standing-exact` (Queries), `accepted-exactly`,
+-- `turned-away-exactly` (TurnedAway), `cases-1-to-11` (Cases) and `random-sessions` (RandomSessions).
+pub mod Searching
+pub mod Induction
+pub mod Counting
+pub mod Roles
+pub mod Ordering
+pub mod ClockSteps
+pub mod Clocks
+pub mod Acceptance
+pub mod Committed
+pub mod Closure
+pub mod Pairs
+pub mod Exactness
+pub mod Lattice
+pub mod Replay
+pub mod Queries
+pub mod TurnedAway
+pub mod Encoding
+pub mod Sessions
+pub mod Cases
+pub mod RandomSessions

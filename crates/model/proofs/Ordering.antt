@@ -1,0 +1,48 @@
+-- Happens-before is a strict order on the stores of a stretch: `Precedes` and `Before` lead from a store to a later
+-- event of its stretch. The clauses `own` and `read` ask for that, and it carries over along chains.
+-- In order: the laws of `Precedes`; those of `Before`, which follow.
+use Prim.Native.Nat.{ℕ, _<_}
+use native.Mathlib.Omega.{arith}
+use mathlib.Core.Path.{_≡_, _∙_}
+use Rattle.record.specs.declared.events.Event.{Event}
+use Rattle.model.specs.Trace.{Issue, stretch}
+use Rattle.model.specs.HappensBefore.{Precedes, Before, own, read, chain}
+
+module _ (ev : ℕ → Event) where
+  -- ---- Precedes
+
+  pub precedes-lt : {p n : ℕ} → Precedes ev p n → p < n
+  precedes-lt (own store in-stretch by-thread earlier) = earlier
+  precedes-lt (read l store in-stretch loads from by-thread load-in-stretch after early) = omega arith
+  precedes-lt (chain {p} {q} {n} store first second) =
+      let p<q : p < q = precedes-lt first in
+      let q<n : q < n = precedes-lt second in
+      omega arith
+
+  pub precedes-store : {p n : ℕ} → Precedes ev p n → Issue ev p
+  precedes-store (own store in-stretch by-thread earlier) = store
+  precedes-store (read l store in-stretch loads from by-thread load-in-stretch after early) = store
+  precedes-store (chain store first second) = precedes-store first
+
+  pub precedes-stretch : {p n : ℕ} → Precedes ev p n → stretch ev p ≡ stretch ev n
+  precedes-stretch (own store in-stretch by-thread earlier) = in-stretch
+  precedes-stretch (read l store in-stretch loads from by-thread load-in-stretch after early) = in-stretch
+  precedes-stretch (chain store first second) = precedes-stretch first ∙ precedes-stretch second
+
+  -- ---- Before
+
+  pub before-lt : {p q : ℕ} → Before ev p q → p < q
+  before-lt b = precedes-lt (b .precedes)
+
+  pub before-first : {p q : ℕ} → Before ev p q → Issue ev p
+  before-first b = precedes-store (b .precedes)
+
+  pub before-last : {p q : ℕ} → Before ev p q → Issue ev q
+  before-last b = b .store
+
+  pub before-stretch : {p q : ℕ} → Before ev p q → stretch ev p ≡ stretch ev q
+  before-stretch b = precedes-stretch (b .precedes)
+
+  pub before-trans : {p q r : ℕ} → Before ev p q → Before ev q r → Before ev p r
+  before-trans first second =
+      record { store = second .store; precedes = chain (first .store) (first .precedes) (second .precedes) }

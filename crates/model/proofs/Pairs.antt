@@ -1,0 +1,148 @@
+-- The tests of specs/Verdict.antt for forbidden stores and for pairs say what `Forbidden` and `Pair` mean: each is the
+-- conjunction of its record's fields, and clocks are happens-before.
+-- In order: `newer?`, `forbids?`, `forbidden?`; then, for an accepted trace, `pair?`, `missing?`, `bad?`. Of a test
+-- `test?`, `test→` reads it and `→test` makes it.
+use Prim.Native.Nat.{ℕ, _<_}
+use native.Mathlib.Omega.{arith}
+use mathlib.Core.Path.{_≡_}
+use mathlib.Core.Bool.{Bool, true, _&&_, _||_}
+use mathlib.Core.Logic.{_⊎_, inl, inr}
+use lib.Dec.{eqb, ltb}
+use borrow.Author.Tests.{eqb-true, eq-eqb, ltb-true, lt-ltb}
+use Rattle.record.specs.declared.events.Event.{Event}
+use Rattle.model.specs.Trace.{thread, location, source, issue?, stretch, place}
+use Rattle.model.specs.Machine.{counted, commitOf}
+use Rattle.model.specs.Rules.{Accepted}
+use Rattle.model.specs.Choice.{Newer, Forbids, Observed, Forbidden, Pair}
+use Rattle.model.specs.Clocks.{vc}
+use Rattle.model.specs.Verdict.{newer?, forbids?, forbidden?, observed?, pair?, missing?, bad?}
+use Rattle.model.proofs.Searching.{both, parts, or-cases, or-left, or-right, some→, →some}
+use Rattle.model.proofs.Counting.{earlier-stretch}
+use Rattle.model.proofs.Clocks.{clock-is-happens-before}
+use Rattle.model.proofs.Closure.{same-stretch, observed→, →observed, observed-is-kept}
+
+module _ (ev : ℕ → Event) where
+  -- ---- forbidden stores, as a test
+
+  newer→ : (l p : ℕ) → newer? ev l p ≡ true → Newer ev l p
+  newer→ l p passes = by-source (or-cases (eqb (source ev l) 0) _ passes)
+    where
+      later : Bool
+      later = ltb (stretch ev (source ev l)) (stretch ev p)
+
+      committed-later : Bool
+      committed-later =
+          eqb (stretch ev (source ev l)) (stretch ev p) && ltb (commitOf ev l (source ev l)) (commitOf ev l p)
+
+      by-stretch : (later ≡ true) ⊎ (committed-later ≡ true) → Newer ev l p
+      by-stretch (inl in-later) = inr (inl (ltb-true _ _ in-later))
+      by-stretch (inr in-same) =
+          let both-hold = parts (eqb (stretch ev (source ev l)) (stretch ev p)) _ in-same in
+          inr (inr (eqb-true _ _ (both-hold .0), ltb-true _ _ (both-hold .1)))
+
+      by-source : (eqb (source ev l) 0 ≡ true) ⊎ ((later || committed-later) ≡ true) → Newer ev l p
+      by-source (inl none) = inl (eqb-true _ _ none)
+      by-source (inr newer) = by-stretch (or-cases later committed-later newer)
+
+  →newer : (l p : ℕ) → Newer ev l p → newer? ev l p ≡ true
+  →newer l p (inl none) = or-left _ _ (eq-eqb _ _ none)
+  →newer l p (inr (inl in-later)) = or-right (eqb (source ev l) 0) _ (or-left _ _ (lt-ltb _ _ in-later))
+  →newer l p (inr (inr in-same)) =
+      or-right (eqb (source ev l) 0) _
+      (or-right (ltb (stretch ev (source ev l)) (stretch ev p)) _
+      (both _ _ (eq-eqb _ _ (in-same .0)) (lt-ltb _ _ (in-same .1))))
+
+  forbids→ : (l p : ℕ) → forbids? ev l p ≡ true → Forbids ev l p
+  unfolding forbids?
+  forbids→ l p passes =
+      let to-it = counted ev l && issue? ev p && eqb (location ev p) (location ev l) in
+      let with-newer = parts (to-it && ltb (stretch ev p) (stretch ev l)) (newer? ev l p) passes in
+      let with-earlier = parts to-it _ (with-newer .0) in
+      let with-location = parts (counted ev l && issue? ev p) _ (with-earlier .0) in
+      let with-store = parts (counted ev l) _ (with-location .0) in
+      record {
+        here = with-store .0;
+        store = record { test = with-store .1 };
+        to-it = eqb-true _ _ (with-location .1);
+        earlier = ltb-true _ _ (with-earlier .1);
+        newer = newer→ l p (with-newer .1);
+      }
+
+  →forbids : (l p : ℕ) → Forbids ev l p → forbids? ev l p ≡ true
+  unfolding forbids?
+  →forbids l p it = both _ _ (both _ _ (both _ _ counted-store to-it) earlier) (→newer l p (it .newer))
+    where
+      counted-store : (counted ev l && issue? ev p) ≡ true
+      counted-store = both _ _ (it .here) (it .store .test)
+
+      to-it : eqb (location ev p) (location ev l) ≡ true
+      to-it = eq-eqb _ _ (it .to-it)
+
+      earlier : ltb (stretch ev p) (stretch ev l) ≡ true
+      earlier = lt-ltb _ _ (it .earlier)
+
+  forbidden→ : (N p : ℕ) → forbidden? ev N p ≡ true → Forbidden ev N p
+  unfolding forbidden?
+  forbidden→ N p passes =
+      let found = some→ N (λ l. forbids? ev l p) passes in
+      (found .0, found .1, forbids→ (found .0) p (found .2))
+
+  →forbidden : (N p : ℕ) → Forbidden ev N p → forbidden? ev N p ≡ true
+  unfolding forbidden?
+  →forbidden N p (l, inside, it) = →some N (λ l. forbids? ev l p) l inside (→forbids l p it)
+
+  -- ---- pairs, as a test
+
+  module _ (N : ℕ) (accepted : Accepted ev N) where
+    pub pair→ : (p q : ℕ) → pair? ev N p q ≡ true → Pair ev N p q
+    unfolding pair?
+    pair→ p q passes =
+        let both-there = forbidden? ev N p && observed? ev N q in
+        let with-clock = parts (both-there && eqb (stretch ev p) (stretch ev q)) _ passes in
+        let with-stretch = parts both-there _ (with-clock .0) in
+        let there = parts (forbidden? ev N p) _ (with-stretch .0) in
+        let missing : Forbidden ev N p = forbidden→ N p (there .0) in
+        let observed : Observed ev N q = observed→ ev N q (there .1) in
+        let kept = observed-is-kept ev N accepted q observed in
+        record {
+          missing = missing;
+          observed = observed;
+          order =
+              clock-is-happens-before ev q p (kept .store) (missing .2 .store) (eqb-true _ _ (with-stretch .1))
+              .0 (ltb-true _ _ (with-clock .1));
+        }
+
+    pub →pair : (p q : ℕ) → Pair ev N p q → pair? ev N p q ≡ true
+    unfolding pair?
+    →pair p q pair = both _ _ (both _ _ there (eq-eqb _ _ in-stretch)) (lt-ltb _ _ in-clock)
+      where
+        there : (forbidden? ev N p && observed? ev N q) ≡ true
+        there = both _ _ (→forbidden N p (pair .missing)) (→observed ev N q (pair .observed))
+
+        in-stretch : stretch ev p ≡ stretch ev q
+        in-stretch = same-stretch ev p q (pair .order)
+
+        in-clock : place ev p < vc ev q (thread ev p)
+        in-clock =
+            clock-is-happens-before ev q p (observed-is-kept ev N accepted q (pair .observed) .store)
+            (pair .missing .2 .store) in-stretch .1 (pair .order)
+
+    pub →missing : (p q : ℕ) → Pair ev N p q → missing? ev N p ≡ true
+    unfolding missing?
+    →missing p q pair =
+        →some N (pair? ev N p) q (observed-is-kept ev N accepted q (pair .observed) .early) (→pair p q pair)
+
+    -- a forbidden store is among the first N events
+    forbidden-early : (p : ℕ) → Forbidden ev N p → p < N
+    forbidden-early p (l, inside, it) = omega (arith, earlier-stretch ev p l (it .earlier))
+
+    pub bad→ : bad? ev N ≡ true → (p : ℕ) × (q : ℕ) × Pair ev N p q
+    unfolding bad? missing?
+    bad→ passes =
+        let with-p = some→ N (missing? ev N) passes in
+        let with-q = some→ N (pair? ev N (with-p .0)) (with-p .2) in
+        (with-p .0, with-q .0, pair→ (with-p .0) (with-q .0) (with-q .2))
+
+    pub →bad : (p q : ℕ) → Pair ev N p q → bad? ev N ≡ true
+    unfolding bad?
+    →bad p q pair = →some N (missing? ev N) p (forbidden-early p (pair .missing)) (→missing p q pair)

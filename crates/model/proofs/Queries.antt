@@ -1,0 +1,85 @@
+-- The order query is exact: of two stores it answers same, before, after or neither exactly as happens-before has them.
+-- The clock of a store covers another exactly if they are equal or the other happens before it. Assumes nothing.
+use Prim.Native.Nat.{ℕ, _<_}
+use native.Mathlib.Omega.{arith}
+use mathlib.Core.Path.{_≡_, refl, sym, _∙_}
+use mathlib.Core.Bool.{Bool, true, false, _&&_, not}
+use mathlib.Core.Logic.{_⊎_, inl, inr, _≢_, _↔_}
+use lib.Dec.{eqb, ltb}
+use borrow.Author.Tests.{eqb-true, eqb-false, eq-eqb, ne-eqb, ltb-true, lt-ltb, not-true}
+use Rattle.record.specs.declared.events.Event.{Event}
+use Rattle.record.specs.Tests.{_gives_else_}
+use Rattle.model.specs.Trace.{thread, issue?, Issue, stretch, place}
+use Rattle.model.specs.HappensBefore.{Before}
+use Rattle.model.specs.Clocks.{vc}
+use Rattle.model.specs.Answers.{Standing, refused, before, after, same, neither}
+use Rattle.model.specs.Judge.{before?, store?, standing}
+use Rattle.model.proofs.Searching.{false-true, test, both, parts}
+use Rattle.model.proofs.Ordering.{before-lt, before-stretch}
+use Rattle.model.proofs.Clocks.{clock-is-happens-before}
+
+module _ (ev : ℕ → Event) where
+  pub before-exactly : (p q : ℕ) → Issue ev p → Issue ev q → (before? ev p q ≡ true) ↔ Before ev p q
+  before-exactly p q p-store q-store = (to, from)
+    where
+      to : before? ev p q ≡ true → Before ev p q
+      to passes = by-clock (clock-is-happens-before ev q p q-store p-store in-stretch .0 (ltb-true _ _ (three .1)))
+        where
+          three : ((not (eqb p q) && eqb (stretch ev p) (stretch ev q)) ≡ true)
+              × (ltb (place ev p) (vc ev q (thread ev p)) ≡ true)
+          three = parts (not (eqb p q) && eqb (stretch ev p) (stretch ev q)) _ passes
+
+          two : (not (eqb p q) ≡ true) × (eqb (stretch ev p) (stretch ev q) ≡ true)
+          two = parts (not (eqb p q)) _ (three .0)
+
+          in-stretch : stretch ev p ≡ stretch ev q
+          in-stretch = eqb-true _ _ (two .1)
+
+          by-clock : (p ≡ q) ⊎ Before ev p q → Before ev p q
+          by-clock (inl is) = absurd (eqb-false p q (not-true _ (two .0)) is)
+          by-clock (inr earlier) = earlier
+
+      from : Before ev p q → before? ev p q ≡ true
+      from earlier =
+          let in-stretch = before-stretch ev earlier in
+          let differs : p ≢ q = λ is. omega (arith, before-lt ev earlier) in
+          let not-same : not (eqb p q) ≡ true = rw (ne-eqb p q differs) in
+          both _ _ (both _ _ not-same (eq-eqb _ _ in-stretch))
+          (lt-ltb _ _ (clock-is-happens-before ev q p q-store p-store in-stretch .1 (inr earlier)))
+
+  -- what an answer about the stores p and q says
+  pub Stands : ℕ → ℕ → Standing → Type 0
+  Stands p q (refused k e) = ⊥
+  Stands p q before = Before ev p q
+  Stands p q after = Before ev q p
+  Stands p q same = p ≡ q
+  Stands p q neither = (p ≢ q) × (Before ev p q → ⊥) × (Before ev q p → ⊥)
+
+  pub standing-exact :
+      (N p q : ℕ) → store? ev N p ≡ true → store? ev N q ≡ true → Stands p q (standing ev N p q)
+  unfolding Stands
+  standing-exact N p q p-store q-store =
+      rw (both _ _ p-store q-store) (by-tests (test (eqb p q)) (test (before? ev p q)) (test (before? ev q p)))
+    where
+      p-issue : Issue ev p
+      p-issue = record { test = parts (ltb p N) _ p-store .1 }
+
+      q-issue : Issue ev q
+      q-issue = record { test = parts (ltb q N) _ q-store .1 }
+
+      by-tests :
+          (eqb p q ≡ true) ⊎ (eqb p q ≡ false)
+          → (before? ev p q ≡ true) ⊎ (before? ev p q ≡ false)
+          → (before? ev q p ≡ true) ⊎ (before? ev q p ≡ false)
+          → Stands p q
+          (eqb p q gives same else before? ev p q gives before else before? ev q p gives after else neither)
+      by-tests (inl is) b c = rw is (eqb-true p q is)
+      by-tests (inr differs) (inl earlier) c = rw (earlier, differs) (before-exactly p q p-issue q-issue .0 earlier)
+      by-tests (inr differs) (inr not-earlier) (inl later) =
+          rw (not-earlier, later, differs) (before-exactly q p q-issue p-issue .0 later)
+      by-tests (inr differs) (inr not-earlier) (inr not-later) =
+          rw (not-earlier, not-later, differs) (
+            eqb-false p q differs,
+            λ earlier. false-true (sym not-earlier ∙ before-exactly p q p-issue q-issue .1 earlier),
+            λ later. false-true (sym not-later ∙ before-exactly q p q-issue p-issue .1 later),
+          )

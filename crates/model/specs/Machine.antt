@@ -1,0 +1,89 @@
+-- What the machine has done before event n, and which sources a load may have: document 01, "Rules of the machine".
+-- A queue is no list here: it is first in, first out, so of a thread's stores in a stretch the first are committed, as
+-- many as it has commits there, and the others wait.
+use Prim.Native.Nat.{ℕ, zero, suc, _≤_, _<_}
+use mathlib.Core.Bool.{Bool, true, false, cond, _&&_, _||_, not}
+use lib.Dec.{eqb, ltb, leb}
+use Rattle.record.specs.declared.events.Event.{Event}
+use Rattle.model.specs.Search.{last}
+use Rattle.model.specs.Trace.{thread, location, source, is, issue?, commit?, load?, crash?}
+use Rattle.model.specs.Trace.{stretch, issues, commits, place}
+
+module _ (ev : ℕ → Event) where
+  -- ---- queues
+
+  -- "Issue: the store joins its thread's queue": p is a store of n's thread in n's stretch
+  abbrev pub beside : ℕ → ℕ → Bool
+  beside p n = issue? ev p && eqb (stretch ev p) (stretch ev n) && eqb (thread ev p) (thread ev n)
+
+  -- the commits of n's thread in n's stretch, before event n
+  abbrev pub committedBy : ℕ → ℕ
+  committedBy n = commits ev n (stretch ev n) (thread ev n)
+
+  -- before event n, n's thread has waiting stores
+  abbrev pub queued : ℕ → Bool
+  queued n = not (eqb (issues ev n (stretch ev n) (thread ev n)) (committedBy n))
+
+  -- "Commit: the oldest waiting store of the thread takes effect": the store that commit c makes take effect
+  abbrev pub oldest : ℕ → ℕ → Bool
+  oldest c p = beside p c && eqb (place ev p) (committedBy c)
+
+  unfoldable pub committed : ℕ → ℕ
+  committed c = last c (oldest c)
+
+  -- "the order of commits is the stretch's store order": the commit, before event n, that makes p take effect, and 0 if
+  -- there is none
+  abbrev pub commitsIt : ℕ → ℕ → Bool
+  commitsIt p c =
+      commit? ev c && eqb (stretch ev c) (stretch ev p) && eqb (thread ev c) (thread ev p)
+      && eqb (committedBy c) (place ev p)
+
+  unfoldable pub commitOf : ℕ → ℕ → ℕ
+  commitOf n p = last n (commitsIt p)
+
+  -- ---- the load rule
+
+  -- "if the thread has waiting stores to the location, the source is the newest": that store, and 0 if there is none
+  abbrev pub waits : ℕ → ℕ → Bool
+  waits n p = beside p n && eqb (location ev p) (location ev n) && leb (committedBy n) (place ev p)
+
+  unfoldable pub waiting : ℕ → ℕ
+  waiting n = last n (waits n)
+
+  -- "if the stretch has commits to it, the last one committed": that store, and 0 if there is none
+  abbrev pub commitsHere : ℕ → ℕ → Bool
+  commitsHere n c =
+      commit? ev c && eqb (stretch ev c) (stretch ev n) && eqb (location ev (committed c)) (location ev n)
+
+  unfoldable pub current : ℕ → ℕ
+  current n = committed (last n (commitsHere n))
+
+  -- "a store to that location committed in an earlier stretch"
+  abbrev pub past : ℕ → ℕ → Bool
+  past n s =
+      issue? ev s && eqb (location ev s) (location ev n) && ltb (stretch ev s) (stretch ev n)
+      && ltb (place ev s) (commits ev n (stretch ev s) (thread ev s))
+
+  -- the load rule, with its three cases
+  unfoldable pub sourceFits : ℕ → Bool
+  sourceFits n =
+      cond (not (eqb (waiting n) 0)) (eqb (source ev n) (waiting n))
+      (cond (not (eqb (current n) 0)) (eqb (source ev n) (current n))
+      (eqb (source ev n) 0 || past n (source ev n)))
+
+  -- "Otherwise the load is crossing"
+  abbrev pub crossing : ℕ → Bool
+  crossing n = load? ev n && eqb (waiting n) 0 && eqb (current n) 0
+
+  -- ---- skips
+
+  -- "A skip is on or off per thread"; a crash "ends skips": thread t is in a skip before event n
+  unfoldable pub skipping : ℕ → ℕ → Bool
+  skipping zero t = false
+  skipping (suc n) t =
+      not (crash? ev n)
+      && (is ev 10 n && eqb (thread ev n) t || skipping n t && not (is ev 11 n && eqb (thread ev n) t))
+
+  -- "A crossing load in a skip is checked but not counted; all other crossing loads count."
+  unfoldable pub counted : ℕ → Bool
+  counted n = crossing n && not (skipping n (thread ev n))

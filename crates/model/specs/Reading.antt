@@ -1,0 +1,55 @@
+-- From bytes to events, and which traces are turned away: document 01, "The trace" and "When a trace is turned away".
+use Prim.Native.Nat.{ℕ, suc}
+use mathlib.Core.List.{List}
+use mathlib.Core.Bool.{Bool, cond, _&&_, not}
+use lib.ListN.{length}
+use lib.Dec.{eqb, ltb}
+use Rattle.record.specs.declared.events.Event.{Event}
+use Rattle.record.specs.declared.events.Event.the-variants.{Crash}
+use Rattle.record.specs.Answers.{Answer, refused, event, wrote}
+use Rattle.record.specs.Parts.{start}
+use Rattle.record.specs.Reading.{readAt}
+use Rattle.model.specs.Search.{first}
+use Rattle.model.specs.Rules.{refusal}
+
+-- the event that the record layer answers, and a crash where it answers none
+abbrev pub eventIn : Answer → Event
+eventIn (event e n) = e
+eventIn (refused k e) = Crash
+eventIn (wrote n) = Crash
+
+-- the number of the record layer's refusal, and 0 where it refuses nothing
+abbrev pub refusalIn : Answer → ℕ
+refusalIn (event e n) = 0
+refusalIn (refused k e) = k
+refusalIn (wrote n) = 0
+
+-- "The first record is a begin and has event number 0; the next are 1, 2 and so on": event number e of a trace's bytes
+unfoldable pub events : List ℕ → ℕ → Event
+events bytes e = eventIn (readAt bytes (start bytes e))
+
+-- what turns record number e away, and 0 if nothing does: "per record length under 2, 2, 3, wrong length", then the
+-- rules for its event. Where the bytes end there is no record: the record layer's 1
+unfoldable pub refusalAt : List ℕ → ℕ → ℕ
+refusalAt bytes e =
+    let unread = refusalIn (readAt bytes (start bytes e)) in
+    cond (eqb unread 0) (refusal (events bytes) e) unread
+
+-- the number of the first record that is turned away, or that is not there
+unfoldable pub stop : List ℕ → ℕ
+stop bytes = first (suc (length bytes)) (λ e. not (eqb (refusalAt bytes e) 0))
+
+-- the bytes end right behind the records before number e, of which there is at least one
+abbrev pub endsAt : List ℕ → ℕ → Bool
+endsAt bytes e = ltb 0 e && eqb (start bytes e) (length bytes)
+
+-- "A trace is accepted if no refusal over its records (1 to 13 here) applies": accepted, with the number of its
+-- records; or turned away, with the refusal's number and the event number
+pub data Reading : Type 0 where
+  accepted : ℕ → Reading
+  turnedAway : ℕ → ℕ → Reading
+
+unfoldable pub readingOf : List ℕ → Reading
+readingOf bytes =
+    let e = stop bytes in
+    cond (endsAt bytes e) (accepted e) (turnedAway (refusalAt bytes e) e)

@@ -1,0 +1,66 @@
+-- Which events the machine's rules forbid, and in which order: document 01, "When a trace is turned away", refusals 1
+-- and 5 to 13. Refusals 2 to 4 are the record layer's; specs/Reading.antt puts them in front.
+use Prim.Native.Nat.{ℕ, _≤_, _<_}
+use mathlib.Core.Path.{_≡_}
+use mathlib.Core.Bool.{Bool, true, false, cond, _&&_, _||_, not}
+use lib.Dec.{eqb, ltb, leb}
+use Rattle.record.specs.declared.events.Event.{Event}
+use Rattle.record.specs.Fields.{fieldsOf}
+use Rattle.model.specs.Trace.{thread, location, is, commit?, load?, crash?, stretch}
+use Rattle.model.specs.Trace.{hasThread?, hasLocation?, threads, locations}
+use Rattle.model.specs.Machine.{queued, sourceFits, skipping}
+
+-- tests in the order in which they are made, each with the number that it gives
+pub data Rules : Type 0 where
+  pass : Rules
+  _gives_else_ : Bool → ℕ → Rules → Rules
+
+infixr 1 _gives_else_
+-- the number of the first test that applies, and 0 if none does
+unfoldable pub answer : Rules → ℕ
+answer pass = 0
+answer (b gives k else r) = cond b k (answer r)
+
+abbrev pub within : ℕ → ℕ → ℕ → Bool
+within a b x = leb a x && leb x b
+
+module _ (ev : ℕ → Event) where
+  -- "version (1)", "Threads: 1 to 8", "Locations: 1 to 256"
+  abbrev pub beginFits : ℕ → Bool
+  beginFits n =
+      let f = fieldsOf (ev n) in
+      eqb (f .version) 1 && within 1 8 (f .threads) && within 1 256 (f .locations)
+
+  -- what turns event n away: "1, 5, 13, 6, 7, 8, and the kind's own rule"
+  unfoldable pub rules : ℕ → Rules
+  rules n =
+      -- "no record, or the first is no begin" (no record at all: specs/Reading.antt)
+      (eqb n 0 && not (is ev 1 n)) gives 1 else
+      -- "later begin"
+      (ltb 0 n && is ev 1 n) gives 5 else
+      -- "event 2,049, or eighth crash"
+      (ltb 2048 n || crash? ev n && eqb (stretch ev n) 8) gives 13 else
+      -- "begin field out of range"
+      (is ev 1 n && not (beginFits n)) gives 6 else
+      -- "no such thread"
+      (hasThread? ev n && leb (threads ev) (thread ev n)) gives 7 else
+      -- "no such location"
+      (hasLocation? ev n && leb (locations ev) (location ev n)) gives 8 else
+      -- "source against the load rule"
+      (load? ev n && not (sourceFits ev n)) gives 9 else
+      -- "commit, empty queue"
+      (commit? ev n && not (queued ev n)) gives 10 else
+      -- "mfence, queue not empty"
+      (is ev 8 n && queued ev n) gives 11 else
+      -- "skip already on, or already off"
+      (is ev 10 n && skipping ev n (thread ev n) || is ev 11 n && not (skipping ev n (thread ev n))) gives 12 else
+      pass
+
+  -- the number of the refusal that event n meets, and 0 if it passes
+  abbrev pub refusal : ℕ → ℕ
+  refusal n = answer (rules n)
+
+  -- "A trace is accepted if no refusal over its records applies": its first N events, at least one
+  pub record Accepted (N : ℕ) : Type 0 where
+    pub some-record : 0 < N
+    pub passes : (n : ℕ) → n < N → refusal n ≡ 0

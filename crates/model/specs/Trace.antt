@@ -1,0 +1,92 @@
+-- A trace is a numbering of events: `ev e` is event number e. How many there are, N, is said apart, so that the records
+-- 0 to e are the trace with e + 1 records, and nothing about an event changes with what comes later.
+-- Here: what an event says, the roles that it plays, stretches, and counting. Document 01, "The trace" and "Rules of
+-- the machine".
+use Prim.Native.Nat.{ℕ, zero, suc, _+_}
+use mathlib.Core.Path.{_≡_}
+use mathlib.Core.Bool.{Bool, true, not, _&&_}
+use lib.Dec.{eqb}
+use Rattle.record.specs.declared.events.Event.{Event}
+use Rattle.record.specs.Events.{kindOf}
+use Rattle.record.specs.Fields.{fieldsOf, threadIn, locationIn}
+use Rattle.record.specs.Table.{rowOf}
+use Rattle.model.specs.Search.{bit}
+
+module _ (ev : ℕ → Event) where
+  -- ---- what event e says: its kind, and its fields, 0 where its kind has no such field
+
+  abbrev pub kind : ℕ → ℕ
+  kind e = kindOf (ev e)
+
+  abbrev pub thread : ℕ → ℕ
+  thread e = fieldsOf (ev e) .thread
+
+  abbrev pub location : ℕ → ℕ
+  location e = fieldsOf (ev e) .location
+
+  abbrev pub source : ℕ → ℕ
+  source e = fieldsOf (ev e) .source
+
+  -- its kind has a thread, a location: the table of kinds
+  abbrev pub hasThread? : ℕ → Bool
+  hasThread? e = not (eqb (threadIn (rowOf (kind e))) 0)
+
+  abbrev pub hasLocation? : ℕ → Bool
+  hasLocation? e = not (eqb (locationIn (rowOf (kind e))) 0)
+
+  -- "threads n, locations m" of the begin record, event 0
+  abbrev pub threads : ℕ
+  threads = fieldsOf (ev 0) .threads
+
+  abbrev pub locations : ℕ
+  locations = fieldsOf (ev 0) .locations
+
+  -- ---- the roles that an event plays, as tests and as facts
+
+  abbrev pub is : ℕ → ℕ → Bool
+  is k e = eqb (kind e) k
+
+  -- "A store is named by its issue's event number."
+  abbrev pub issue? : ℕ → Bool
+  issue? e = is 2 e
+
+  abbrev pub commit? : ℕ → Bool
+  commit? e = is 3 e
+
+  abbrev pub load? : ℕ → Bool
+  load? e = is 4 e
+
+  abbrev pub crash? : ℕ → Bool
+  crash? e = is 9 e
+
+  pub record Issue (e : ℕ) : Type 0 where
+    pub test : issue? e ≡ true
+
+  pub record Commit (e : ℕ) : Type 0 where
+    pub test : commit? e ≡ true
+
+  pub record Load (e : ℕ) : Type 0 where
+    pub test : load? e ≡ true
+
+  -- ---- stretches and counts
+
+  -- "A stretch is the part between crashes, numbered from 1": the stretch in which event e stands
+  unfoldable pub stretch : ℕ → ℕ
+  stretch zero = 1
+  stretch (suc e) = stretch e + bit (crash? e)
+
+  -- how many events of thread t in stretch j, among the first n, pass the test f
+  unfoldable pub count : (ℕ → Bool) → ℕ → ℕ → ℕ → ℕ
+  count f zero j t = 0
+  count f (suc n) j t = count f n j t + bit (f n && eqb (stretch n) j && eqb (thread n) t)
+
+  -- "a crash [..] starts counts afresh": the stores issued, and committed, by thread t in stretch j
+  abbrev pub issues : ℕ → ℕ → ℕ → ℕ
+  issues n j t = count issue? n j t
+
+  abbrev pub commits : ℕ → ℕ → ℕ → ℕ
+  commits n j t = count commit? n j t
+
+  -- the place of store p: how many stores of its thread in its stretch come before it
+  abbrev pub place : ℕ → ℕ
+  place p = issues p (stretch p) (thread p)

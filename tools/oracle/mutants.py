@@ -1,0 +1,242 @@
+"""Wrong judges, and how many generated sessions tell each from the oracle: `python3 mutants.py SEED COUNT [switches]`.
+
+Each wrong judge replaces one or two functions of the oracle; judge_closure then runs with them. A wrong judge with
+count 0 would show that the generator misses an error.
+"""
+
+from __future__ import annotations
+
+from collections import deque
+from contextlib import contextmanager
+from typing import Callable, Iterator
+
+import generate
+import oracle
+from oracle import Event, Load, Machine, Store
+
+TRUE = {name: getattr(oracle, name) for name in ("directly_before", "happens_before", "forbids", "observes",
+                                                "legal_sources", "take_effect", "own_refusal", "smallest_pair",
+                                                "robust_answer")}
+
+
+def loaded(m: Machine, q: Store, when: int) -> set[int]:
+    """The stores of q's stretch that q's thread loaded from before an event number."""
+    return {load.source for load in m.loads if load.thread == q.thread and load.stretch == q.stretch
+            and load.event < when and load.source in m.stores and m.stores[load.source].stretch == q.stretch}
+
+
+def no_loads(m: Machine, q: Store) -> set[int]:
+    """Only the order of issue in one thread."""
+    return TRUE["directly_before"](m, q) - {p for p in m.stores if m.stores[p].thread != q.thread}
+
+
+def no_issue_order(m: Machine, q: Store) -> set[int]:
+    """Only the loads."""
+    return loaded(m, q, q.event)
+
+
+def at_commit(m: Machine, q: Store) -> set[int]:
+    """ "order taken at the commit" """
+    return TRUE["directly_before"](m, q) | {p for p in loaded(m, q, q.commit or 0) if p != q.event}
+
+
+def one_crash_point(m: Machine, q: Store) -> set[int]:
+    """ "one crash point by commit order" """
+    return {p.event for p in m.stores.values() if p.stretch == q.stretch and p.commit and q.commit
+            and p.commit < q.commit}
+
+
+def over_crashes(m: Machine, q: Store) -> set[int]:
+    """ "clocks kept over a crash": the order of issue goes on over crashes. """
+    return TRUE["directly_before"](m, q) | {p.event for p in m.stores.values()
+                                            if p.thread == q.thread and p.event < q.event and p.commit}
+
+
+def by_crossing_loads(m: Machine, q: Store) -> set[int]:
+    """Crossing loads order stores of two stretches."""
+    return TRUE["directly_before"](m, q) | {load.source for load in m.loads if load.thread == q.thread
+                                            and load.stretch == q.stretch and 0 < load.source < load.event < q.event}
+
+
+def last_load_only(m: Machine, q: Store) -> set[int]:
+    """The last load of the stretch before q orders, the others do not."""
+    sources = [load.source for load in m.loads if load.thread == q.thread and load.stretch == q.stretch
+               and load.event < q.event and load.source in m.stores and m.stores[load.source].stretch == q.stretch]
+    return no_loads(m, q) | set(sources[-1:])
+
+
+def no_chains(m: Machine) -> dict[int, set[int]]:
+    """Direct order only."""
+    return {q.event: oracle.directly_before(m, q) for q in m.stores.values()}
+
+
+def middle_forgotten(m: Machine, load: Load, committed_only: bool = False) -> set[int]:
+    """ "stores of stretches in between forgotten" """
+    stretch = m.stores[load.source].stretch if load.source else 0
+    return {p for p in TRUE["forbids"](m, load) if load.source == 0 or m.stores[p].stretch == stretch}
+
+
+def last_stretch_only(m: Machine, load: Load, committed_only: bool = False) -> set[int]:
+    """Only the stretch before the load's is forbidden."""
+    return {p for p in TRUE["forbids"](m, load) if m.stores[p].stretch == load.stretch - 1}
+
+
+def zero_free(m: Machine, load: Load, committed_only: bool = False) -> set[int]:
+    """ "a read of source 0 taken as free" """
+    return TRUE["forbids"](m, load) if load.source else set()
+
+
+def by_issue(m: Machine, load: Load, committed_only: bool = False) -> set[int]:
+    """In s's stretch, issued after s instead of committed after s."""
+    return {p.event for p in m.stores.values() if p.location == load.location and p.stretch < load.stretch
+            and p.event > load.source}
+
+
+def own_stretch_unseen(m: Machine, load: Load, committed_only: bool = False) -> set[int]:
+    """Later stores of s's own stretch are not forbidden."""
+    stretch = m.stores[load.source].stretch if load.source else 0
+    return {p for p in TRUE["forbids"](m, load) if m.stores[p].stretch != stretch}
+
+
+def nothing_observed(load: Load) -> set[int]:
+    """Loads only forbid."""
+    return set()
+
+
+def pair_of_last_load(m: Machine, loads: list[Load], before: dict[int, set[int]], committed_only: bool):
+    """The last load must itself forbid the missing store."""
+    observed = {q for load in loads for q in oracle.observes(load)}
+    return min(((p, q) for p in oracle.forbids(m, loads[-1]) for q in observed if p == q or p in before[q]),
+               default=None)
+
+
+def observed_first(m: Machine, loads: list[Load], before: dict[int, set[int]], committed_only: bool):
+    """The smallest observed store first, then the smallest missing one."""
+    observed = {q for load in loads for q in oracle.observes(load)}
+    forbidden = {p for load in loads for p in oracle.forbids(m, load)}
+    pairs = [(q, p) for p in forbidden for q in observed if p == q or p in before[q]]
+    return tuple(reversed(min(pairs))) if pairs else None
+
+
+def changed_effect(change: Callable[[Machine, Machine, Event], None]) -> Callable[[Machine, int, Event], None]:
+    """take_effect, followed by a change that may look at what the machine was before."""
+    def effect(m: Machine, number: int, event: Event) -> None:
+        old = Machine(m.threads, m.locations, m.events, m.stretch, [deque(q) for q in m.queues],
+                      {key: list(value) for key, value in m.memory.items()}, set(m.skips), m.stores, m.loads)
+        TRUE["take_effect"](m, number, event)
+        change(m, old, event)
+    return effect
+
+
+def keep_skips(m: Machine, old: Machine, event: Event) -> None:
+    """Skips live on over a crash."""
+    m.skips = old.skips if event.kind == oracle.CRASH else m.skips
+
+
+def keep_queues(m: Machine, old: Machine, event: Event) -> None:
+    """Waiting stores live on over a crash."""
+    m.queues = old.queues if event.kind == oracle.CRASH else m.queues
+
+
+def count_all(m: Machine, old: Machine, event: Event) -> None:
+    """Crossing loads in a skip count."""
+    if event.kind == oracle.LOAD:
+        last = m.loads.pop()
+        m.loads.append(Load(last.event, last.thread, last.location, last.source, last.stretch, last.crossing,
+                            last.crossing))
+
+
+def skip_unorders(m: Machine, old: Machine, event: Event) -> None:
+    """Loads in a skip are forgotten whole."""
+    if event.kind == oracle.LOAD and event.get("thread") in m.skips:
+        m.loads.pop()
+
+
+def any_skip(m: Machine, old: Machine, event: Event) -> None:
+    """A skip of any thread is taken as a skip of all."""
+    if event.kind == oracle.LOAD and m.skips:
+        last = m.loads.pop()
+        m.loads.append(Load(last.event, last.thread, last.location, last.source, last.stretch, last.crossing, False))
+
+
+def own_queue_unseen(m: Machine, thread: int, location: int) -> tuple[list[int], bool]:
+    """Loads look past the thread's own waiting stores."""
+    empty = Machine(m.threads, m.locations, m.events, m.stretch, [deque() for _ in m.queues], m.memory, m.skips,
+                    m.stores, m.loads)
+    return TRUE["legal_sources"](empty, thread, location)
+
+
+def dropped_allowed(m: Machine, thread: int, location: int) -> tuple[list[int], bool]:
+    """A crossing load may take a store that was never committed."""
+    sources, crossing = TRUE["legal_sources"](m, thread, location)
+    old = [s.event for s in m.stores.values() if s.location == location and s.stretch < m.stretch]
+    return ([0] + old, True) if crossing else (sources, False)
+
+
+def greatest_share(m: Machine, choice: oracle.Choice) -> oracle.Robust:
+    """The share is taken of issued instead of committed stores."""
+    true = TRUE["robust_answer"](m, choice)
+    issued = sum(len(oracle.issued_at(m, place)) for place in oracle.places(m))
+    return oracle.Robust(true.events, true.cut, 100 * sum(choice) // issued if issued else 100)
+
+
+MUTANTS: dict[str, dict[str, Callable]] = {
+    "no order by loads": {"directly_before": no_loads},
+    "no order by issue": {"directly_before": no_issue_order},
+    "order taken at the commit": {"directly_before": at_commit},
+    "one crash point by commit order": {"directly_before": one_crash_point},
+    "order of issue over crashes": {"directly_before": over_crashes},
+    "crossing loads order": {"directly_before": by_crossing_loads},
+    "only the last load orders": {"directly_before": last_load_only},
+    "no chains": {"happens_before": no_chains},
+    "stretches in between forgotten": {"forbids": middle_forgotten},
+    "only the stretch before forbidden": {"forbids": last_stretch_only},
+    "source 0 free": {"forbids": zero_free},
+    "later by issue": {"forbids": by_issue},
+    "own stretch not forbidden": {"forbids": own_stretch_unseen},
+    "nothing observed": {"observes": nothing_observed},
+    "pair of the last load": {"smallest_pair": pair_of_last_load},
+    "smallest observed first": {"smallest_pair": observed_first},
+    "skips kept over a crash": {"take_effect": changed_effect(keep_skips)},
+    "queues kept over a crash": {"take_effect": changed_effect(keep_queues)},
+    "skipped loads count": {"take_effect": changed_effect(count_all)},
+    "skipped loads do not order": {"take_effect": changed_effect(skip_unorders)},
+    "skip of any thread": {"take_effect": changed_effect(any_skip)},
+    "own queue not seen": {"legal_sources": own_queue_unseen},
+    "dropped stores as source": {"legal_sources": dropped_allowed},
+    "share of issued stores": {"robust_answer": greatest_share},
+}
+
+
+@contextmanager
+def replaced(functions: dict[str, Callable]) -> Iterator[None]:
+    """The oracle with some functions replaced."""
+    for name, function in functions.items():
+        setattr(oracle, name, function)
+    try:
+        yield
+    finally:
+        for name in functions:
+            setattr(oracle, name, TRUE[name])
+
+
+def differs(data: bytes, answer: oracle.Answer, functions: dict[str, Callable]) -> bool:
+    """Whether the wrong judge gives another answer; one that stumbles counts too."""
+    with replaced(functions):
+        try:
+            return oracle.judge_closure(data) != answer
+        except (AssertionError, KeyError, IndexError, ValueError):
+            return True
+
+
+def main() -> None:
+    """Print for each wrong judge how many sessions tell it from the oracle."""
+    values = vars(generate.arguments())
+    seed, count, _ = values.pop("seed"), values.pop("count"), values.pop("format")
+    listed = list(generate.generate(seed, count, generate.Limits(**values)))
+    for name, functions in MUTANTS.items():
+        print(f"{sum(differs(data, answer, functions) for data, answer in listed):6} of {count}  {name}")
+
+
+if __name__ == "__main__":
+    main()

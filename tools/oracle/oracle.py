@@ -1,0 +1,404 @@
+"""Brute-force oracle for the judge of store order across crashes.
+
+Every function states one sentence of document 01 ("A judge of store order across crashes") and computes it in the
+most direct way: queues are queues, happens-before is a graph search, and the verdict comes from trying all choices.
+Refusals 14 and 15 (sizes of lent buffers) are not treated here.
+"""
+
+from __future__ import annotations
+
+from collections import deque
+from dataclasses import dataclass, field
+from itertools import product
+from typing import Iterator, Optional, Union
+
+from records import (BEGIN, CLFLUSH, CLFLUSHOPT, COMMIT, CRASH, ISSUE, KINDS, LOAD, MFENCE, SFENCE, SKIP_OFF, SKIP_ON,
+                     Event, Refused, decode, encode, frame_at, number_at, read_record, record_part, write_event)
+
+MAX_EVENT, MAX_CRASHES, MAX_THREADS, MAX_LOCATIONS, CUT_NUMBERS, MAX_INPUT = 2048, 7, 8, 256, 56, 65535
+
+
+@dataclass(frozen=True)
+class Robust:
+    """ "Robust: a closed choice explains all counted loads." `cut` is the least one, 56 numbers. """
+
+    events: int
+    cut: tuple[int, ...]
+    share: int
+
+
+@dataclass(frozen=True)
+class Broken:
+    """ "Broken: no closed choice does." `kind` is "contradiction" or "flush". """
+
+    events: int
+    load: int
+    missing: int
+    observed: int
+    kind: str
+
+
+Answer = Union[Refused, Robust, Broken]
+
+
+# ---- The machine ----
+
+@dataclass
+class Store:
+    """ "A store is named by its issue's event number." `commit` is the event number of its commit, if it has one. """
+
+    event: int
+    thread: int
+    location: int
+    stretch: int
+    commit: Optional[int] = None
+
+
+@dataclass(frozen=True)
+class Load:
+    """An accepted load. `crossing` and `counted` as in the rules of the machine."""
+
+    event: int
+    thread: int
+    location: int
+    source: int
+    stretch: int
+    crossing: bool
+    counted: bool
+
+
+@dataclass
+class Machine:
+    """ "The trace starts with empty queues, no skips and no commits." Stretches are "numbered from 1". """
+
+    threads: int = 0
+    locations: int = 0
+    events: int = -1  # number of the last event; "Events after begin"
+    stretch: int = 1
+    queues: list[deque[int]] = field(default_factory=list)
+    memory: dict[int, list[int]] = field(default_factory=dict)  # location -> stores committed in this stretch
+    skips: set[int] = field(default_factory=set)
+    stores: dict[int, Store] = field(default_factory=dict)
+    loads: list[Load] = field(default_factory=list)
+
+    def finished(self) -> range:
+        """ "A stretch is the part between crashes, numbered from 1; a crash finishes it." """
+        return range(1, self.stretch)
+
+
+def legal_sources(m: Machine, thread: int, location: int) -> tuple[list[int], bool]:
+    """The sources that the load rule allows, and whether the load is crossing.
+
+    "Load: if the thread has waiting stores to the location, the source is the newest. Otherwise, if the stretch has
+    commits to it, the last one committed. Otherwise the load is crossing, and the source is 0 or a store to that
+    location committed in an earlier stretch."
+    """
+    waiting = [store for store in m.queues[thread] if m.stores[store].location == location]
+    if waiting:
+        return [waiting[-1]], False
+    if m.memory.get(location):
+        return [m.memory[location][-1]], False
+    old = [s.event for s in m.stores.values()
+           if s.location == location and s.commit is not None and s.stretch < m.stretch]
+    return [0] + old, True
+
+
+def general_refusal(m: Machine, number: int, event: Event) -> int:
+    """ "Order: ... 1, 5, 13, 6, 7, 8, and the kind's own rule": the refusal before the kind's own rule, or 0. """
+    if number == 0 and event.kind != BEGIN:
+        return 1
+    if number > 0 and event.kind == BEGIN:
+        return 5
+    if number > MAX_EVENT or (event.kind == CRASH and m.stretch - 1 == MAX_CRASHES):
+        return 13
+    if event.kind == BEGIN:
+        version, threads, locations = event.fields
+        return 0 if version == 1 and 1 <= threads <= MAX_THREADS and 1 <= locations <= MAX_LOCATIONS else 6
+    if event.has("thread") and event.get("thread") >= m.threads:
+        return 7
+    if event.has("location") and event.get("location") >= m.locations:
+        return 8
+    return 0
+
+
+def own_refusal(m: Machine, event: Event) -> int:
+    """The refusal of "the kind's own rule" (9 to 12), or 0."""
+    if event.kind == LOAD:
+        sources, _ = legal_sources(m, event.get("thread"), event.get("location"))
+        return 0 if event.get("source") in sources else 9
+    if event.kind == COMMIT:
+        return 0 if m.queues[event.get("thread")] else 10
+    if event.kind == MFENCE:
+        return 11 if m.queues[event.get("thread")] else 0
+    if event.kind == SKIP_ON:
+        return 12 if event.get("thread") in m.skips else 0
+    if event.kind == SKIP_OFF:
+        return 0 if event.get("thread") in m.skips else 12
+    return 0
+
+
+def take_effect(m: Machine, number: int, event: Event) -> None:
+    """The change that an accepted event makes. "Each kind has its own rule." """
+    m.events = number
+    if event.kind == BEGIN:
+        _, m.threads, m.locations = event.fields
+        m.queues = [deque() for _ in range(m.threads)]
+    elif event.kind == ISSUE:  # "the store joins its thread's queue"
+        thread, location = event.fields
+        m.stores[number] = Store(number, thread, location, m.stretch)
+        m.queues[thread].append(number)
+    elif event.kind == COMMIT:  # "the oldest waiting store of the thread takes effect"
+        store = m.stores[m.queues[event.get("thread")].popleft()]
+        store.commit = number
+        m.memory.setdefault(store.location, []).append(store.event)
+    elif event.kind == LOAD:  # "A crossing load in a skip is checked but not counted; all other crossing loads count."
+        thread, location, source = event.fields
+        _, crossing = legal_sources(m, thread, location)
+        counted = crossing and thread not in m.skips
+        m.loads.append(Load(number, thread, location, source, m.stretch, crossing, counted))
+    elif event.kind == CRASH:  # "a crash finishes it, drops waiting stores, ends skips and starts counts afresh"
+        m.stretch += 1
+        m.queues = [deque() for _ in range(m.threads)]
+        m.memory = {}
+        m.skips = set()
+    elif event.kind == SKIP_ON:
+        m.skips.add(event.get("thread"))
+    elif event.kind == SKIP_OFF:
+        m.skips.remove(event.get("thread"))
+
+
+def run(data: bytes) -> Union[Machine, Refused]:
+    """ "A record that can't be read ends the judging there with its refusal." "A trace is accepted if no refusal over
+    its records (1 to 13 here) applies." """
+    if not data:
+        return Refused(1, 0)
+    m, at, number = Machine(), 0, 0
+    while at < len(data):
+        record = frame_at(data, at)
+        event = record if isinstance(record, int) else decode(record)
+        if isinstance(event, int):
+            return Refused(event, number)
+        refusal = general_refusal(m, number, event) or own_refusal(m, event)
+        if refusal:
+            return Refused(refusal, number)
+        take_effect(m, number, event)
+        at, number = at + len(record), number + 1
+    return m
+
+
+def prefix(data: bytes, last: int) -> bytes:
+    """The bytes of "records 0 to" `last`, for a trace that has them."""
+    at = 0
+    for _ in range(last + 1):
+        at += 2 + number_at(data, at)
+    return data[:at]
+
+
+# ---- Happens-before ----
+
+def directly_before(m: Machine, q: Store) -> set[int]:
+    """ "Store p happens before q in the same stretch if p is issued earlier by the same thread, or q's thread, before
+    issuing q, loaded from p in that stretch": all such p, without chains. """
+    same_thread = {p.event for p in m.stores.values()
+                   if p.thread == q.thread and p.stretch == q.stretch and p.event < q.event}
+    loaded = {load.source for load in m.loads
+              if load.thread == q.thread and load.stretch == q.stretch and load.event < q.event}
+    return same_thread | {p for p in loaded if p in m.stores and m.stores[p].stretch == q.stretch}
+
+
+def happens_before(m: Machine) -> dict[int, set[int]]:
+    """ "or by a chain of these": for each store q, all p that happen before it, by depth-first search. """
+    direct = {q.event: directly_before(m, q) for q in m.stores.values()}
+    result: dict[int, set[int]] = {}
+    for q in m.stores:
+        found: set[int] = set()
+        to_visit = list(direct[q])
+        while to_visit:
+            p = to_visit.pop()
+            if p not in found:
+                found.add(p)
+                to_visit.extend(direct[p])
+        result[q] = found
+    return result
+
+
+def order(data: bytes, first: int, second: int) -> Union[str, Refused]:
+    """ "The order query takes a trace, a work area and two event numbers: before, after, same, neither."
+    The trace's own refusal comes first, then 16: "query number is no issue". """
+    m = run(data)
+    if isinstance(m, Refused):
+        return m
+    if first not in m.stores or second not in m.stores:
+        return Refused(16, 0)
+    before = happens_before(m)
+    if first == second:
+        return "same"
+    if first in before[second]:
+        return "before"
+    return "after" if second in before[first] else "neither"
+
+
+# ---- The choice ----
+
+Choice = tuple[int, ...]  # one count for each place, in the order of places()
+
+
+def places(m: Machine) -> list[tuple[int, int]]:
+    """ "each finished stretch and thread" """
+    return [(stretch, thread) for stretch in m.finished() for thread in range(m.threads)]
+
+
+def issued_at(m: Machine, place: tuple[int, int]) -> list[int]:
+    """The stores that a thread issued in a stretch, in the order of issue."""
+    return [s.event for s in m.stores.values() if (s.stretch, s.thread) == place]
+
+
+def commits_at(m: Machine, place: tuple[int, int]) -> int:
+    """ "its commits there": how many stores of the thread were committed in the stretch. """
+    return sum(m.stores[store].commit is not None for store in issued_at(m, place))
+
+
+def choices_size(m: Machine) -> int:
+    """How many choices there are, closed or not."""
+    size = 1
+    for place in places(m):
+        size *= commits_at(m, place) + 1
+    return size
+
+
+def all_choices(m: Machine) -> Iterator[Choice]:
+    """ "A choice gives each finished stretch and thread a count (the thread's crash point), at most its commits
+    there" """
+    return product(*(range(commits_at(m, place) + 1) for place in places(m)))
+
+
+def observes(load: Load) -> set[int]:
+    """ "A counted load with source s observes s (unless s is 0)" """
+    return {load.source} - {0}
+
+
+def forbids(m: Machine, load: Load, committed_only: bool = False) -> set[int]:
+    """ "and forbids every store to its location in earlier stretches that is in a later stretch than s, or in s's
+    stretch and committed after s; with source 0, all of them."
+
+    By the letter this covers stores that were never committed; `committed_only` leaves them out.
+    """
+    earlier = [p for p in m.stores.values() if p.location == load.location and p.stretch < load.stretch]
+    if committed_only:
+        earlier = [p for p in earlier if p.commit is not None]
+    if load.source == 0:
+        return {p.event for p in earlier}
+    s = m.stores[load.source]
+    assert s.commit is not None
+    return {p.event for p in earlier if p.stretch > s.stretch
+            or (p.stretch == s.stretch and p.commit is not None and p.commit > s.commit)}
+
+
+def explaining_choices(m: Machine, committed_only: bool = False) -> Iterator[Choice]:
+    """All closed choices that explain all counted loads, by trying every choice.
+
+    "that many of its first stores are in. It is closed if each store before one that is in is in too." "The choice
+    explains the load if the observed store is in and no forbidden one is. One choice serves the whole trace."
+    """
+    before = happens_before(m)
+    issued = [issued_at(m, place) for place in places(m)]
+    loads = [(observes(load), forbids(m, load, committed_only)) for load in m.loads if load.counted]
+    for choice in all_choices(m):
+        inside = {store for stores, count in zip(issued, choice) for store in stores[:count]}
+        if all(observed <= inside and not forbidden & inside for observed, forbidden in loads):
+            if all(before[q] <= inside for q in inside):
+                yield choice
+
+
+# ---- The verdict ----
+
+def least(choices: list[Choice]) -> Choice:
+    """ "The least (every other such choice has at least its count at every place)" """
+    minimum = tuple(min(counts) for counts in zip(*choices))
+    assert minimum in choices, "the pointwise minimum is itself no such choice"
+    assert all(a <= b for choice in choices for a, b in zip(minimum, choice))
+    return minimum
+
+
+def robust_answer(m: Machine, choice: Choice) -> Robust:
+    """ "stretch j, thread t stands at 8 × (j − 1) + t, the rest 0. Share: the percentage of stores committed in
+    finished stretches that are in the least choice, rounded down; 100 if there are none." """
+    cut = [0] * CUT_NUMBERS
+    for (stretch, thread), count in zip(places(m), choice):
+        cut[8 * (stretch - 1) + thread] = count
+    committed = sum(commits_at(m, place) for place in places(m))
+    return Robust(m.events, tuple(cut), 100 * sum(choice) // committed if committed else 100)
+
+
+def smallest_pair(m: Machine, loads: list[Load], before: dict[int, set[int]],
+                  committed_only: bool) -> Optional[tuple[int, int]]:
+    """ "Missing is a store that some counted load of those records forbids, observed one that some counted load there
+    observes, and they are equal or missing happens before observed; of all such pairs, the smallest missing, then the
+    smallest observed event number." None if there is no such pair. """
+    observed = {q for load in loads for q in observes(load)}
+    forbidden = {p for load in loads for p in forbids(m, load, committed_only)}
+    return min(((p, q) for p in forbidden for q in observed if p == q or p in before[q]), default=None)
+
+
+def broken_answer(events: int, load: int, pair: tuple[int, int]) -> Broken:
+    """ 'Kind is "contradiction" if they are equal, else "flush".' """
+    return Broken(events, load, pair[0], pair[1], "contradiction" if pair[0] == pair[1] else "flush")
+
+
+def judge(data: bytes) -> Answer:
+    """The verdict by trying all choices. "A refusal anywhere outranks broken." "Load is the smallest event number for
+    which records 0 to load, taken as a trace, have none either." """
+    m = run(data)
+    if isinstance(m, Refused):
+        return m
+    found = list(explaining_choices(m))
+    assert found == list(explaining_choices(m, committed_only=True)), "the dropped stores changed the choices"
+    if found:
+        return robust_answer(m, least(found))
+    for load in range(m.events + 1):
+        short = run(prefix(data, load))
+        assert isinstance(short, Machine), "a prefix of an accepted trace is accepted"
+        if next(explaining_choices(short), None) is None:
+            break
+    loads, before = [one for one in short.loads if one.counted], happens_before(short)
+    pair = smallest_pair(short, loads, before, False)
+    assert pair is not None, "broken without a pair"
+    assert pair == smallest_pair(short, loads, before, True), "the dropped stores changed the pair"
+    return broken_answer(m.events, load, pair)
+
+
+def judge_closure(data: bytes) -> Answer:
+    """A second judge, for traces with too many choices to try. It is not document 01's wording: it takes as in exactly
+    the observed stores and all that happens before them, and is broken at the first counted load with a pair. """
+    m = run(data)
+    if isinstance(m, Refused):
+        return m
+    before, counted = happens_before(m), [load for load in m.loads if load.counted]
+    for many, load in enumerate(counted, start=1):
+        pair = smallest_pair(m, counted[:many], before, False)
+        if pair is not None:
+            return broken_answer(m.events, load.event, pair)
+    inside = {p for load in counted for q in observes(load) for p in before[q] | {q}}
+    return robust_answer(m, tuple(sum(p in inside for p in issued_at(m, place)) for place in places(m)))
+
+
+def answer_lines(answer: Answer, finished: int, threads: int) -> list[str]:
+    """The lines of the program `verdict` for an answer: "one cut line per finished stretch: its number, then each
+    thread's count"; "`refused` gives number and event, and is then the only line". """
+    if isinstance(answer, Refused):
+        return [f"refused {answer.number} {answer.event}"]
+    if isinstance(answer, Broken):
+        return [f"events {answer.events}", "verdict broken", f"load {answer.load}", f"missing {answer.missing}",
+                f"observed {answer.observed}", f"kind {answer.kind}"]
+    cuts = [" ".join(["cut", str(j)] + [str(answer.cut[8 * (j - 1) + t]) for t in range(threads)])
+            for j in range(1, finished + 1)]
+    return [f"events {answer.events}", "verdict robust", *cuts, f"share {answer.share}"]
+
+
+def verdict_lines(data: bytes, judging=judge) -> list[str]:
+    """ "Reads a trace from standard input; over 65,535 bytes it prints `refused 13 0`." """
+    if len(data) > MAX_INPUT:
+        return ["refused 13 0"]
+    m = run(data)
+    finished, threads = (0, 0) if isinstance(m, Refused) else (m.stretch - 1, m.threads)
+    return answer_lines(judging(data), finished, threads)

@@ -1,0 +1,274 @@
+"""Sessions of document 01 with their expected answers, written down by hand from document 01.
+
+Notation, separated by blanks (T thread, L location, S source):
+I0.1 issue, C0 commit, L0.1<3 load from 3, F0.1 clflush, O0.1 clflushopt or clwb, SF0 sfence, MF0 mfence, X crash,
+SKIP0 skip on, UNSKIP0 skip off, B1.2.2 begin (version, threads, locations).
+
+`python3 sessions.py` compares the oracle with every expectation and prints 'N passed, 0 failed'.
+"""
+
+from __future__ import annotations
+
+import re
+import sys
+from typing import Callable, Optional
+
+import oracle
+from oracle import Event, Refused
+
+LETTERS = {"B": oracle.BEGIN, "I": oracle.ISSUE, "C": oracle.COMMIT, "L": oracle.LOAD, "F": oracle.CLFLUSH,
+           "O": oracle.CLFLUSHOPT, "SF": oracle.SFENCE, "MF": oracle.MFENCE, "X": oracle.CRASH,
+           "SKIP": oracle.SKIP_ON, "UNSKIP": oracle.SKIP_OFF}
+NAMES = {kind: letters for letters, kind in LETTERS.items()}
+
+
+def parse_event(word: str) -> Event:
+    """The event of one word of the notation."""
+    letters, numbers = re.fullmatch(r"([A-Z]+)([0-9.<]*)", word).groups()
+    return Event(LETTERS[letters], tuple(int(number) for number in re.split("[.<]", numbers) if number))
+
+
+def show_event(event: Event) -> str:
+    """One word of the notation for an event."""
+    text = ".".join(str(value) for value in event.fields[:3 if event.kind == oracle.BEGIN else 2])
+    return NAMES[event.kind] + text + (f"<{event.fields[2]}" if event.kind == oracle.LOAD else "")
+
+
+def show(data: bytes) -> str:
+    """A trace in the notation, for messages; unreadable bytes are shown in hexadecimal."""
+    words, at = [], 0
+    while at < len(data):
+        event = oracle.read_record(data[at:])
+        if isinstance(event, Refused):
+            return " ".join(words + [data[at:].hex(" ")])
+        words.append(show_event(event))
+        at += len(oracle.encode(event))
+    return " ".join(words)
+
+
+def begin(threads: int, locations: int, version: int = 1) -> bytes:
+    """A begin record."""
+    return oracle.encode(Event(oracle.BEGIN, (version, threads, locations)))
+
+
+def body(text: str) -> bytes:
+    """The records of a text in the notation, without a begin in front."""
+    return b"".join(oracle.encode(parse_event(word)) for word in text.split())
+
+
+def session(text: str, threads: Optional[int] = None, locations: int = 2) -> bytes:
+    """ "Each has 2 locations and the threads it names, at least one". """
+    events = [parse_event(word) for word in text.split()]
+    named = [event.get("thread") + 1 for event in events if event.has("thread")]
+    return begin(max(named, default=1) if threads is None else threads, locations) + body(text)
+
+
+def raw(text: str) -> bytes:
+    """Bytes written in hexadecimal."""
+    return bytes.fromhex(text)
+
+
+B = raw("08 00 01 00 01 00 01 00 02 00")
+CASE_1 = "I0.0 C0 I0.1 C0 I0.0 C0 I0.1 C0 X"
+CASE_11 = "I0.0 I1.0 C1 C0 X"
+
+# Cases 1 to 11: name, trace, the lines of `verdict` joined by ' / '.
+CASES: list[tuple[str, bytes, str]] = [
+    ("case 1", session(CASE_1 + " L0.0<1 L0.1<7"),
+     "events 11 / verdict broken / load 11 / missing 5 / observed 7 / kind flush"),
+    ("case 2", session("I0.0 C0 I1.1 C1 X L0.0<0 L0.1<3"), "events 7 / verdict robust / cut 1 0 1 / share 50"),
+    ("case 3", session(CASE_1 + " L0.0<5 L0.1<7"), "events 11 / verdict robust / cut 1 4 / share 100"),
+    ("case 4", session("I0.0 C0 I0.1 C0 X L0.0<0 I0.1 C0 X L0.1<3"),
+     "events 10 / verdict broken / load 10 / missing 1 / observed 3 / kind flush"),
+    ("case 5", session("I0.0 C0 L1.0<1 I1.1 C1 X L0.0<0 L0.1<4"),
+     "events 8 / verdict broken / load 8 / missing 1 / observed 4 / kind flush"),
+    ("case 6", session("I0.0 C0 I1.1 L1.0<1 C1 X L0.0<0 L0.1<3"),
+     "events 8 / verdict robust / cut 1 0 1 / share 50"),
+    ("case 7", session("I0.0 C0 X L0.0<1 L0.0<0"),
+     "events 5 / verdict broken / load 5 / missing 1 / observed 1 / kind contradiction"),
+    ("case 8", session("I0.0 X L0.0<1"), "refused 9 3"),
+    ("case 9", session(""), "events 0 / verdict robust / share 100"),
+    ("case 10", session(CASE_1 + " L0.0<1 SKIP0 L0.1<7"), "events 12 / verdict robust / cut 1 1 / share 25"),
+    ("case 11, from 1", session(CASE_11 + " L0.0<1"), "events 6 / verdict robust / cut 1 1 0 / share 50"),
+    ("case 11, from 2", session(CASE_11 + " L0.0<2"), "events 6 / verdict robust / cut 1 0 1 / share 50"),
+]
+
+# Every example of the refusal table that is a trace (14 to 17 are no matter of the trace; 16 and 17 are below).
+REFUSALS: list[tuple[str, bytes, str]] = [
+    ("refusal 1, empty", b"", "refused 1 0"),
+    ("refusal 1, first is no begin", body("X"), "refused 1 0"),
+    ("refusal 2", raw("08 00 01"), "refused 2 0"),
+    ("refusal 3", B + raw("02 00 63 00"), "refused 3 1"),
+    ("refusal 4", B + raw("04 00 09 00 00 00"), "refused 4 1"),
+    ("refusal 5", B + B, "refused 5 1"),
+    ("refusal 6, 9 threads", begin(9, 2), "refused 6 0"),
+    ("refusal 7", B + body("C1"), "refused 7 1"),
+    ("refusal 8", B + body("I0.2"), "refused 8 1"),
+    ("refusal 9", B + body("L0.0<1"), "refused 9 1"),
+    ("refusal 10", B + body("C0"), "refused 10 1"),
+    ("refusal 11", B + body("I0.0 MF0"), "refused 11 2"),
+    ("refusal 12, already off", B + body("UNSKIP0"), "refused 12 1"),
+    ("refusal 13, 8 crashes", B + body("X " * 8), "refused 13 8"),
+]
+
+# More refusals and the order between them, from "Order: 14, 15; then per record length under 2, 2, 3, wrong length,
+# 1, 5, 13, 6, 7, 8, and the kind's own rule", the load rule and the rules of the machine.
+MORE_REFUSALS: list[tuple[str, bytes, str]] = [
+    ("one leftover byte", B + raw("00"), "refused 2 1"),
+    ("length 1 alone", raw("01 00"), "refused 4 0"),
+    ("length 0 after begin", B + raw("00 00"), "refused 4 1"),
+    ("length only", raw("08 00"), "refused 2 0"),
+    ("bytes missing before unknown kind", raw("08 00 63 00"), "refused 2 0"),
+    ("unknown kind before wrong length", B + raw("03 00 63 00 00"), "refused 3 1"),
+    ("kind 0", B + raw("02 00 00 00"), "refused 3 1"),
+    ("kind 12", B + raw("02 00 0c 00"), "refused 3 1"),
+    ("kind 256 + 9", B + raw("02 00 09 01"), "refused 3 1"),
+    ("odd length for the kind", B + raw("03 00 09 00 00"), "refused 4 1"),
+    ("wrong length before no begin", raw("04 00 09 00 00 00"), "refused 4 0"),
+    ("unknown kind before no begin", raw("02 00 63 00"), "refused 3 0"),
+    ("version 2", begin(1, 2, version=2), "refused 6 0"),
+    ("version 0", begin(1, 2, version=0), "refused 6 0"),
+    ("0 threads", begin(0, 2), "refused 6 0"),
+    ("0 locations", begin(1, 0), "refused 6 0"),
+    ("later begin before its range", B + begin(9, 257), "refused 5 1"),
+    ("eighth crash before later begin", B + body("X " * 8) + B, "refused 13 8"),
+    ("later begin after 7 crashes", B + body("X " * 7) + B, "refused 5 8"),
+    ("thread before location", B + body("I1.2"), "refused 7 1"),
+    ("location before source", B + body("L0.2<5"), "refused 8 1"),
+    ("flush: thread", B + body("F1.0"), "refused 7 1"),
+    ("flush: location", B + body("O0.2"), "refused 8 1"),
+    ("sfence: thread", B + body("SF1"), "refused 7 1"),
+    ("mfence: thread before queue", B + body("I0.0 MF1"), "refused 7 2"),
+    ("sfence passes with a waiting store", B + body("I0.0 SF0"), "events 2 / verdict robust / share 100"),
+    ("skip already on", B + body("SKIP0 SKIP0"), "refused 12 2"),
+    ("skip ended by a crash", B + body("SKIP0 X UNSKIP0"), "refused 12 3"),
+    ("skip on again after a crash", B + body("SKIP0 X SKIP0"), "events 3 / verdict robust / cut 1 0 / share 100"),
+    ("commit of a dropped store", B + body("I0.0 X C0"), "refused 10 3"),
+    ("mfence after drop", B + body("I0.0 X MF0"), "events 3 / verdict robust / cut 1 0 / share 100"),
+    ("load past the own waiting store", B + body("I0.0 L0.0<0"), "refused 9 2"),
+    ("load from the older waiting store", B + body("I0.0 I0.0 L0.0<1"), "refused 9 3"),
+    ("load from another's waiting store", session("I0.0 L1.0<1"), "refused 9 2"),
+    ("load past a commit", session("I0.0 C0 L1.0<0"), "refused 9 3"),
+    ("load from the commit before the last", B + body("I0.0 C0 I0.0 C0 L0.0<1"), "refused 9 5"),
+    ("load from another location", B + body("I0.0 C0 X L0.1<1"), "refused 9 4"),
+    ("load from a commit's number", B + body("I0.0 C0 L0.0<2"), "refused 9 3"),
+    ("load in a skip is checked", B + body("SKIP0 L0.0<1"), "refused 9 2"),
+    ("a refusal outranks broken", session("I0.0 C0 X L0.0<1 L0.0<0 C0"), "refused 10 6"),
+    ("own waiting store before another's commit", session("I0.0 I1.0 C1 L0.0<1"),
+     "events 4 / verdict robust / share 100"),
+    ("last commit counts, not last issue", session("I0.0 I1.0 C1 C0 L1.0<1"), "events 5 / verdict robust / share 100"),
+]
+
+# "Edges: 2,048 events pass, 2,049 refused; 7 crashes pass, 8 refused; 8 threads pass, 9 refused; 256 locations pass,
+# 257 refused."
+EDGES: list[tuple[str, bytes, str]] = [
+    ("2,048 events", B + body("SF0 " * 2048), "events 2048 / verdict robust / share 100"),
+    ("2,049 events", B + body("SF0 " * 2049), "refused 13 2049"),
+    ("event 2,049 of no such thread", B + body("SF0 " * 2048 + "SF1"), "refused 13 2049"),
+    ("event 2,049 is a begin", B + body("SF0 " * 2048) + B, "refused 5 2049"),
+    ("event 2,049 is unreadable", B + body("SF0 " * 2048) + raw("02 00"), "refused 2 2049"),
+    ("last load at 2,048", B + body("I0.0 C0 X L0.0<1 " + "SF0 " * 2043 + "L0.0<0"),
+     "events 2048 / verdict broken / load 2048 / missing 1 / observed 1 / kind contradiction"),
+    ("7 crashes", B + body("X " * 7), "events 7 / verdict robust / cut 1 0 / cut 2 0 / cut 3 0 / cut 4 0 / cut 5 0"
+     " / cut 6 0 / cut 7 0 / share 100"),
+    ("8 crashes", B + body("X " * 8), "refused 13 8"),
+    ("8 threads", begin(8, 2) + body("I7.0 C7 X L0.0<1"),
+     "events 4 / verdict robust / cut 1 0 0 0 0 0 0 0 1 / share 100"),
+    ("9 threads", begin(9, 2) + body("I7.0 C7 X L0.0<1"), "refused 6 0"),
+    ("256 locations", begin(1, 256) + body("I0.255 C0 X L0.255<1"), "events 4 / verdict robust / cut 1 1 / share 100"),
+    ("257 locations", begin(1, 257) + body("I0.255 C0 X L0.255<1"), "refused 6 0"),
+    ("65,535 bytes", b"\0" * 65535, "refused 4 0"),
+    ("65,536 bytes", b"\0" * 65536, "refused 13 0"),
+]
+
+# "Errors the trade has made": a session for each that has no case of its own, and for rules with no session.
+ERRORS: list[tuple[str, bytes, str]] = [
+    ("stretches in between forgotten", session("I0.0 C0 X I0.0 C0 X L0.0<1 L0.0<4"),
+     "events 8 / verdict broken / load 8 / missing 4 / observed 4 / kind contradiction"),
+    ("clocks kept over a crash, same thread", session("I0.0 C0 X I0.1 C0 X L0.0<0 L0.1<4"),
+     "events 8 / verdict robust / cut 1 0 / cut 2 1 / share 50"),
+    ("clocks kept over a crash, by a load", session("I0.0 C0 X SKIP1 L1.0<1 I1.1 C1 X L0.0<0 L0.1<6"),
+     "events 10 / verdict robust / cut 1 0 0 / cut 2 0 1 / share 50"),
+    ("a read of source 0 taken as free", session("I0.0 C0 I0.1 C0 X L0.0<0 L0.1<3"),
+     "events 7 / verdict broken / load 7 / missing 1 / observed 3 / kind flush"),
+    ("loads in a skip still order", session("I0.0 C0 SKIP1 L1.0<1 I1.1 C1 X L0.0<0 L0.1<5"),
+     "events 9 / verdict broken / load 9 / missing 1 / observed 5 / kind flush"),
+    ("a chain over three threads", session("I0.0 C0 L1.0<1 I1.1 C1 L2.1<4 I2.2 C2 X L0.0<0 L0.2<7", locations=3),
+     "events 11 / verdict broken / load 11 / missing 1 / observed 7 / kind flush"),
+    ("a waiting store stays out of the share", session("I0.0 C0 I0.1 X L0.0<1 I0.1 C0"),
+     "events 7 / verdict robust / cut 1 1 / share 100"),
+    ("share is rounded down", session("I0.0 C0 I0.0 C0 I0.0 C0 X L0.0<3"), "events 8 / verdict robust / cut 1 2 /"
+     " share 66"),
+    ("smallest missing goes before smallest observed",
+     session("I0.0 C0 I1.0 C1 I1.1 C1 I0.2 C0 X L0.1<5 L0.2<7 L0.0<0", locations=3),
+     "events 12 / verdict broken / load 12 / missing 1 / observed 7 / kind flush"),
+    ("every load before the issue orders",
+     session("I0.0 C0 I1.1 C1 L2.0<1 L2.1<3 I2.2 C2 X L0.0<0 L0.2<7", locations=3),
+     "events 11 / verdict broken / load 11 / missing 1 / observed 7 / kind flush"),
+    ("a skip is a matter of its own thread", session("I0.0 C0 X SKIP1 L0.0<1 L0.0<0"),
+     "events 6 / verdict broken / load 6 / missing 1 / observed 1 / kind contradiction"),
+    ("a dropped store in between changes nothing", session("I0.0 C0 X I0.0 X L0.0<1"),
+     "events 6 / verdict robust / cut 1 1 / cut 2 0 / share 100"),
+    ("another's waiting store leaves the load crossing", session("I0.0 C0 X I1.0 L0.0<1"),
+     "events 5 / verdict robust / cut 1 1 0 / share 100"),
+    ("an own waiting store does not", session("I0.0 C0 X I1.0 L1.0<4 L0.0<0"),
+     "events 6 / verdict robust / cut 1 0 0 / share 0"),
+    ("a load of the first stretch forbids nothing", session("L0.0<0 I0.0 C0 X L0.0<2"),
+     "events 5 / verdict robust / cut 1 1 / share 100"),
+]
+
+# Order queries: name, trace, first, second, expected answer.
+ORDERS: list[tuple[str, bytes, int, int, object]] = [
+    ("query 0", B, 0, 0, Refused(16, 0)),
+    ("query past the end", session("I0.0"), 1, 2, Refused(16, 0)),
+    ("query of a commit", session("I0.0 C0"), 2, 1, Refused(16, 0)),
+    ("refused trace first", session("C0"), 0, 0, Refused(10, 1)),
+    ("same", session("I0.0"), 1, 1, "same"),
+    ("before, same thread", session("I0.0 I0.1"), 1, 2, "before"),
+    ("after, same thread", session("I0.0 I0.1"), 2, 1, "after"),
+    ("case 5: by a load", session("I0.0 C0 L1.0<1 I1.1"), 1, 4, "before"),
+    ("case 6: the load comes after the issue", session("I0.0 C0 I1.1 L1.0<1 C1"), 1, 3, "neither"),
+    ("two stretches", session("I0.0 C0 X I0.1"), 1, 4, "neither"),
+    ("a crossing load adds nothing", session("I0.0 C0 X L1.0<1 I1.1"), 1, 5, "neither"),
+]
+
+
+def record_checks() -> list[tuple[str, bool]]:
+    """The record layer: reading one record, framing, writing, refusal 17."""
+    crash, output = Event(oracle.CRASH), bytearray(b"\xaa" * 6)
+    large = Event(oracle.LOAD, (65535, 65535, 65535))
+    return [
+        ("read: no bytes", oracle.read_record(b"") == Refused(1, 0)),
+        ("read: ignores what follows", oracle.read_record(body("C0") + b"\0\0") == Event(oracle.COMMIT, (0,))),
+        ("read: ranges are the judge's matter", oracle.read_record(oracle.encode(large)) == large),
+        ("write: crash into 3 bytes", oracle.write_event(crash, bytearray(3)) == Refused(17, 0)),
+        ("write: crash into 6 bytes", oracle.write_event(crash, output) is None),
+        ("write: no other bytes", bytes(output) == raw("02 00 09 00 aa aa")),
+        ("frame: record 1", oracle.record_part(B + body("C0 X"), 1) == raw("04 00 03 00 00 00")),
+        ("frame: past the end", oracle.record_part(B, 1) == b""),
+        ("frame: unknown kind is framed", oracle.record_part(B + raw("02 00 63 00"), 1) == raw("02 00 63 00")),
+        ("frame: length under 2 on the way", oracle.record_part(raw("01 00") + B, 1) == b""),
+        ("frame: bytes missing", oracle.record_part(B + raw("08 00 01"), 1) == b""),
+        ("frame: a bad record after it", oracle.record_part(B + raw("01 00"), 0) == B),
+    ]
+
+
+def self_test() -> list[tuple[str, bool]]:
+    """All comparisons: a name and whether it holds."""
+    results: list[tuple[str, bool]] = []
+    judges: list[tuple[str, Callable]] = [("judge", oracle.judge), ("judge_closure", oracle.judge_closure)]
+    for name, data, expected in CASES + REFUSALS + MORE_REFUSALS + EDGES + ERRORS:
+        for label, judging in judges:
+            results.append((f"{name} ({label})", " / ".join(oracle.verdict_lines(data, judging)) == expected))
+    for name, data, first, second, answer in ORDERS:
+        results.append((f"order: {name}", oracle.order(data, first, second) == answer))
+    return results + record_checks()
+
+
+if __name__ == "__main__":
+    outcome = self_test()
+    failed = [name for name, holds in outcome if not holds]
+    for name in failed:
+        print("failed:", name)
+    print(f"{len(outcome) - len(failed)} passed, {len(failed)} failed")
+    sys.exit(1 if failed else 0)
