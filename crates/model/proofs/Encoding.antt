@@ -21,6 +21,7 @@ use Rattle.record.specs.Reading.{readFirst, readAt}
 use Rattle.record.proofs.RoundTrips.{write-read}
 use Rattle.record.proofs.Starts.{start-inside, start-mono, read-at, read-past, read-past-end, read-grows}
 use Rattle.model.specs.Search.{some, first}
+use Rattle.model.specs.Trace.{traceOf}
 use Rattle.model.specs.Rules.{refusal}
 use Rattle.model.specs.Reading.{events, refusalAt, endsAt, Reading, accepted, turnedAway, readingOf}
 use Rattle.model.specs.Answers as Answers
@@ -36,12 +37,9 @@ unfoldable pub encode : List Event → List ℕ
 encode [] = []
 encode (x ∷ xs) = recordOf x ++ encode xs
 
-abbrev pub trace : List Event → ℕ → Event
-trace xs e = getD xs e Crash
-
 -- each field of each event is a two-byte number
 pub record AllTwoByte (xs : List Event) : Type 0 where
-  pub two-byte : (e : ℕ) → e < length xs → TwoByte (fieldsOf (trace xs e))
+  pub two-byte : (e : ℕ) → e < length xs → TwoByte (fieldsOf (traceOf xs e))
 
 -- the same, as a test
 abbrev pub twoByte? : Event → Bool
@@ -52,22 +50,22 @@ twoByte? x =
 
 -- the rules turn event e away
 abbrev pub turned? : List Event → ℕ → Bool
-turned? xs e = not (eqb (refusal (trace xs) e) 0)
+turned? xs e = not (eqb (refusal (traceOf xs) e) 0)
 
 -- the reading of a list of events
 unfoldable pub readingEvents : List Event → Reading
 readingEvents xs =
     let e = first (length xs) (turned? xs) in
-    cond (some (length xs) (turned? xs)) (turnedAway (refusal (trace xs) e) e) (accepted (length xs))
+    cond (some (length xs) (turned? xs)) (turnedAway (refusal (traceOf xs) e) e) (accepted (length xs))
 
 -- the answer to a list of events, and the cut buffer afterwards
 abbrev pub answerEvents : List Event → Reading → Answers.Answer
 answerEvents xs (turnedAway k e) = Answers.refused k e
-answerEvents xs (accepted N) = ruledAnswer (trace xs) N (rulingOf (trace xs) N)
+answerEvents xs (accepted N) = ruledAnswer (traceOf xs) N (rulingOf (traceOf xs) N)
 
 abbrev pub cutEvents : List Event → List ℕ → Reading → List ℕ
 cutEvents xs cut (turnedAway k e) = cut
-cutEvents xs cut (accepted N) = ruledCut (trace xs) N cut (rulingOf (trace xs) N)
+cutEvents xs cut (accepted N) = ruledCut (traceOf xs) N cut (rulingOf (traceOf xs) N)
 
 -- ---- one record
 
@@ -92,7 +90,7 @@ module _ (xs : List Event) (small : AllTwoByte xs) where
   -- ---- where the records start, and what is read there
 
   -- record e stands in front of the later ones
-  front : (e : ℕ) → e < length xs → encode (drop e xs) ≡ recordOf (trace xs e) ++ encode (drop (suc e) xs)
+  front : (e : ℕ) → e < length xs → encode (drop e xs) ≡ recordOf (traceOf xs e) ++ encode (drop (suc e) xs)
   unfolding encode
   front e inside = ap encode (drop-cons xs e Crash inside)
 
@@ -100,12 +98,12 @@ module _ (xs : List Event) (small : AllTwoByte xs) where
   unfolding start
   rest-at zero inside = refl
   rest-at (suc e) inside =
-      next-record s e (trace xs e) (encode (drop (suc e) xs)) (small .two-byte e inside)
+      next-record s e (traceOf xs e) (encode (drop (suc e) xs)) (small .two-byte e inside)
       (rest-at e (omega arith) ∙ front e inside) .1
 
-  is-read : (e : ℕ) → e < length xs → readAt s (start s e) ≡ event (trace xs e) (start s (suc e))
+  is-read : (e : ℕ) → e < length xs → readAt s (start s e) ≡ event (traceOf xs e) (start s (suc e))
   is-read e inside =
-      next-record s e (trace xs e) (encode (drop (suc e) xs)) (small .two-byte e inside)
+      next-record s e (traceOf xs e) (encode (drop (suc e) xs)) (small .two-byte e inside)
       (rest-at e (omega arith) ∙ front e inside) .0
 
   -- the bytes end behind the last record
@@ -123,21 +121,21 @@ module _ (xs : List Event) (small : AllTwoByte xs) where
 
   -- ---- events and refusals
 
-  pub same-events : events s ≡ trace xs
+  pub same-events : events s ≡ traceOf xs
   unfolding events
   same-events = fun-ext (λ e. by-order e (less? e (length xs)))
     where
-      by-order : (e : ℕ) → (e < length xs) ⊎ (length xs ≤ e) → events s e ≡ trace xs e
+      by-order : (e : ℕ) → (e < length xs) ⊎ (length xs ≤ e) → events s e ≡ traceOf xs e
       by-order e (inl inside) = rw (is-read e inside)
       by-order e (inr past) = rw (nothing-later e past) (sym (List·getD-eq-default xs Crash past))
 
-  same-refusal : (e : ℕ) → e < length xs → refusalAt s e ≡ refusal (trace xs) e
+  same-refusal : (e : ℕ) → e < length xs → refusalAt s e ≡ refusal (traceOf xs) e
   unfolding refusalAt
   same-refusal e inside = rw (is-read e inside, same-events)
 
   -- ---- the reading
 
-  turned-away-there : (e : ℕ) → First (length xs) (turned? xs) e → TurnedAwayWith s (refusal (trace xs) e) e
+  turned-away-there : (e : ℕ) → First (length xs) (turned? xs) e → TurnedAwayWith s (refusal (traceOf xs) e) e
   turned-away-there e found = record {
     earlier-pass = λ i l. same-refusal i (omega (arith, found .below)) ∙ passes i (test (turned? xs i)) l;
     number = same-refusal e (found .below);
@@ -145,7 +143,7 @@ module _ (xs : List Event) (small : AllTwoByte xs) where
     no-end = no-end (test (endsAt s e));
   }
     where
-      passes : (i : ℕ) → (turned? xs i ≡ true) ⊎ (turned? xs i ≡ false) → i < e → refusal (trace xs) i ≡ 0
+      passes : (i : ℕ) → (turned? xs i ≡ true) ⊎ (turned? xs i ≡ false) → i < e → refusal (traceOf xs) i ≡ 0
       passes i (inl turned) l = absurd (omega (arith, found .smallest i turned))
       passes i (inr fails) l = eqb-true _ _ (not-false _ fails)
 
@@ -153,7 +151,7 @@ module _ (xs : List Event) (small : AllTwoByte xs) where
       no-end (inr fails) = fails
       no-end (inl ends) =
           let at-end = eqb-true (start s e) (length s) (parts (ltb 0 e) _ ends .1) in
-          let grows = read-grows s e (trace xs e) (start s (suc e)) (is-read e (found .below)) in
+          let grows = read-grows s e (traceOf xs e) (start s (suc e)) (is-read e (found .below)) in
           absurd (omega (arith, start-inside s (suc e)))
 
   accepted-there : 0 < length xs → some (length xs) (turned? xs) ≡ false → AcceptedWith s (length xs)
@@ -163,7 +161,7 @@ module _ (xs : List Event) (small : AllTwoByte xs) where
     ends = ends-behind;
   }
     where
-      passes : (e : ℕ) → (turned? xs e ≡ true) ⊎ (turned? xs e ≡ false) → e < length xs → refusal (trace xs) e ≡ 0
+      passes : (e : ℕ) → (turned? xs e ≡ true) ⊎ (turned? xs e ≡ false) → e < length xs → refusal (traceOf xs) e ≡ 0
       passes e (inl turned) l = false-true (sym none ∙ →some (length xs) (turned? xs) e l turned)
       passes e (inr fails) l = eqb-true _ _ (not-false _ fails)
 

@@ -1,7 +1,7 @@
 -- Laws and theorems about the definitions. The theorems that others cite: `clock-is-happens-before` (Clocks),
 -- `before-committed` (Committed), `exact`, `unique`, `broken-stays`, `named-load-counts` (Exactness), `min-explains`,
--- `max-explains` (Lattice), `explains-is-replay` (Replay), `standing-exact` (Queries), `accepted-exactly`,
--- `turned-away-exactly` (TurnedAway), `cases-1-to-11` (Cases) and `random-sessions` (RandomSessions).
+-- `max-explains` (Lattice), `explains-is-replay` (Replay), `standing-exact` (Queries), `flush-neutral` (FlushNeutral),
+-- `accepted-exactly`, `turned-away-exactly` (TurnedAway), `cases-1-to-11` (Cases), `random-sessions` (RandomSessions).
 pub mod Searching
 pub mod Induction
 pub mod Counting
@@ -17,6 +17,13 @@ pub mod Exactness
 pub mod Lattice
 pub mod Replay
 pub mod Queries
+pub mod Renumbering
+pub mod RenumberedMachine
+pub mod RenumberedLoads
+pub mod RenumberedRuling
+pub mod Removing
+pub mod FlushNeutral
+pub mod FlushRuling
 pub mod TurnedAway
 pub mod Encoding
 pub mod Sessions

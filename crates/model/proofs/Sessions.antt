@@ -12,10 +12,11 @@ use borrow.Author.Tests.{ltb-true}
 use Rattle.record.specs.declared.events.Event.{Event}
 use Rattle.record.specs.declared.events.Event.the-variants.{Begin, Crash}
 use Rattle.record.specs.Fields.{fieldsOf, TwoByte}
+use Rattle.model.specs.Trace.{traceOf}
 use Rattle.model.specs.Answers.{Answer}
 use Rattle.model.specs.Judge.{cleared, judgeOf, cutAfter}
 use Rattle.model.proofs.Searching.{false-true, parts}
-use Rattle.model.proofs.Encoding.{encode, trace, AllTwoByte, twoByte?, readingEvents, answerEvents, cutEvents}
+use Rattle.model.proofs.Encoding.{encode, AllTwoByte, twoByte?, readingEvents, answerEvents, cutEvents}
 use Rattle.model.proofs.Encoding.{same-reading, same-answer, same-cut}
 
 -- a cut buffer of 56 sevens, lent, so that one that is untouched can be told from one that is filled
@@ -77,7 +78,8 @@ two-byte x passes =
       locations = ltb-true _ _ (six .1);
     }
 
-each-two-byte : (xs : List Event) → every twoByte? xs ≡ true → (e : ℕ) → e < length xs → TwoByte (fieldsOf (trace xs e))
+each-two-byte :
+    (xs : List Event) → every twoByte? xs ≡ true → (e : ℕ) → e < length xs → TwoByte (fieldsOf (traceOf xs e))
 each-two-byte [] passes e inside = absurd (omega arith)
 each-two-byte (x ∷ xs) passes zero inside = two-byte x (parts (twoByte? x) _ passes .0)
 each-two-byte (x ∷ xs) passes (suc e) inside = each-two-byte xs (parts (twoByte? x) _ passes .1) e (omega arith)

@@ -1,5 +1,5 @@
--- What a reader has to believe, in document 01's order: Trace, Machine, Rules, HappensBefore, Choice, Reading, Answers
--- and Judge. Search, Clocks and Verdict compute what these say; that they do is proved in proofs/.
+-- What a reader has to believe, in document 01's order: Trace, Machine, Rules, HappensBefore, Choice, Memory, Flushes,
+-- Reading, Answers and Judge. Search, Clocks and Verdict compute what these say, which is proved in proofs/.
 pub mod Search
 pub mod Trace
 pub mod Machine
@@ -7,6 +7,7 @@ pub mod Rules
 pub mod HappensBefore
 pub mod Choice
 pub mod Memory
+pub mod Flushes
 pub mod Reading
 pub mod Answers
 pub mod Clocks

@@ -5,12 +5,19 @@
 use Prim.Native.Nat.{ℕ, zero, suc, _+_}
 use mathlib.Core.Path.{_≡_}
 use mathlib.Core.Bool.{Bool, true, not, _&&_}
+use mathlib.Core.List.{List}
+use lib.ListN.{getD}
 use lib.Dec.{eqb}
 use Rattle.record.specs.declared.events.Event.{Event}
+use Rattle.record.specs.declared.events.Event.the-variants.{Crash}
 use Rattle.record.specs.Events.{kindOf}
 use Rattle.record.specs.Fields.{fieldsOf, threadIn, locationIn}
 use Rattle.record.specs.Table.{rowOf}
 use Rattle.model.specs.Search.{bit}
+
+-- a list of events as a trace; what it gives past the list's end is in no trace of the list's length
+abbrev pub traceOf : List Event → ℕ → Event
+traceOf es e = getD es e Crash
 
 module _ (ev : ℕ → Event) where
   -- ---- what event e says: its kind, and its fields, 0 where its kind has no such field

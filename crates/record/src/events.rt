@@ -47,16 +47,17 @@ pub enum Event {
 }
 
 // The values of an event's fields; 0 where its kind has no such field.
-pub(crate) struct Fields {
-    pub(crate) thread: u16,
-    pub(crate) location: u16,
-    pub(crate) source: u16,
-    pub(crate) version: u16,
-    pub(crate) threads: u16,
-    pub(crate) locations: u16,
+pub struct Fields {
+    pub thread: u16,
+    pub location: u16,
+    pub source: u16,
+    pub version: u16,
+    pub threads: u16,
+    pub locations: u16,
 }
 
-pub(crate) fn kind_of(e: Event) -> u16
+// The number of an event's kind.
+pub fn kind_of(e: Event) -> u16
     ensures { λ r. ⌜ r ≡ kindOf e ⌝ }
 {
     match e {
@@ -105,7 +106,8 @@ fn thread_fields(thread: u16, location: u16, source: u16) -> Fields
     }
 }
 
-pub(crate) fn fields_of(e: Event) -> Fields
+// An event's fields by name; 0 where its kind has no such field.
+pub fn fields_of(e: Event) -> Fields
     ensures { λ r. ⌜ r ≡ fieldsOf e ⌝ }
 {
     match e {

@@ -12,6 +12,9 @@ mod reading;
 mod writing;
 
 pub use events::Event;
+pub use events::Fields;
+pub use events::fields_of;
+pub use events::kind_of;
 pub use parts::part;
 pub use reader::Reader;
 pub use reader::new;
