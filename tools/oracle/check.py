@@ -136,7 +136,7 @@ def check(data: bytes, answer: Answer, counts: Counter) -> None:
 def main() -> None:
     """Run the checks and print the counts."""
     values = vars(generate.arguments())
-    seed, count, _ = values.pop("seed"), values.pop("count"), values.pop("format")
+    seed, count = values.pop("seed"), values.pop("count")
     counts: Counter = Counter()
     for data, answer in generate.generate(seed, count, generate.Limits(**values)):
         try:

@@ -8,11 +8,10 @@ from __future__ import annotations
 import argparse
 from dataclasses import dataclass
 from random import Random
-from typing import Iterable, Iterator, Optional
+from typing import Iterator, Optional
 
 import oracle
-import sessions
-from oracle import Answer, Broken, Event, Machine, Refused, Robust
+from oracle import Answer, Broken, Event, Machine, Refused
 
 
 @dataclass(frozen=True)
@@ -403,23 +402,6 @@ def generate(seed: int, count: int, limits: Limits) -> Iterator[tuple[bytes, Ans
 
 # ---- Output ----
 
-def antt_list(numbers: Iterable[int]) -> str:
-    """A list of numbers as an antt expression."""
-    return " ∷ ".join([str(number) for number in numbers] + ["[]"])
-
-
-def antt_pair(data: bytes, answer: Answer) -> tuple[str, str]:
-    """The bytes and the answer as antt expressions."""
-    if isinstance(answer, Refused):
-        shown = f"Refused {answer.number} {answer.event}"
-    elif isinstance(answer, Robust):
-        shown = f"Robust {answer.events} {answer.share} ({antt_list(answer.cut)})"
-    else:
-        kind = ["contradiction", "flush"].index(answer.kind)
-        shown = f"Broken {answer.events} {answer.load} {answer.missing} {answer.observed} {kind}"
-    return antt_list(data), shown
-
-
 def text_line(data: bytes, answer: Answer) -> str:
     """Hexadecimal bytes, a TAB, and the lines of `verdict` joined by ' / '."""
     return data.hex() + "\t" + " / ".join(oracle.verdict_lines(data, lambda _: answer))
@@ -435,20 +417,15 @@ def arguments() -> argparse.Namespace:
     parser.add_argument("--spread", action="store_true", help="locations anywhere below 256")
     parser.add_argument("--long", action="store_true", help="also traces up to event 2,049")
     parser.add_argument("--only", choices=["accepted", "refused", "all"], default="all")
-    parser.add_argument("--format", choices=["text", "antt"], default="text")
     return parser.parse_args()
 
 
 def main() -> None:
     """Print the sessions."""
     values = vars(arguments())
-    seed, count, form = values.pop("seed"), values.pop("count"), values.pop("format")
-    for number, (data, answer) in enumerate(generate(seed, count, Limits(**values))):
-        if form == "text":
-            print(text_line(data, answer))
-        else:
-            expression, shown = antt_pair(data, answer)
-            print(f"-- session {number}: {sessions.show(data)}\n{expression}\n{shown}\n")
+    seed, count = values.pop("seed"), values.pop("count")
+    for data, answer in generate(seed, count, Limits(**values)):
+        print(text_line(data, answer))
 
 
 if __name__ == "__main__":

@@ -232,7 +232,7 @@ def differs(data: bytes, answer: oracle.Answer, functions: dict[str, Callable]) 
 def main() -> None:
     """Print for each wrong judge how many sessions tell it from the oracle."""
     values = vars(generate.arguments())
-    seed, count, _ = values.pop("seed"), values.pop("count"), values.pop("format")
+    seed, count = values.pop("seed"), values.pop("count")
     listed = list(generate.generate(seed, count, generate.Limits(**values)))
     for name, functions in MUTANTS.items():
         print(f"{sum(differs(data, answer, functions) for data, answer in listed):6} of {count}  {name}")

@@ -14,7 +14,7 @@ from typing import Iterable
 
 import generate
 import oracle
-from oracle import Event, Refused, Robust
+from oracle import Event, Refused
 from sessions import CASES
 
 CONSTRUCTORS = {oracle.BEGIN: "Begin", oracle.ISSUE: "Issue", oracle.COMMIT: "Commit", oracle.LOAD: "Load",
@@ -22,10 +22,12 @@ CONSTRUCTORS = {oracle.BEGIN: "Begin", oracle.ISSUE: "Issue", oracle.COMMIT: "Co
                 oracle.CRASH: "Crash", oracle.SKIP_ON: "SkipOn", oracle.SKIP_OFF: "SkipOff"}
 
 HEADERS = {
-    "cases": """-- Document 01, "Sessions": "Cases 1 to 11 are the proved ones." The definitions give each case's bytes the answer that
+    "cases": """\
+-- Document 01, "Sessions": "Cases 1 to 11 are the proved ones." The definitions give each case's bytes the answer that
 -- document 01 states, and the cut buffer; case 11 stands for both its loads. Shown together as one list, by
 -- computation. Made by tools/oracle/proof_file.py. Assumes nothing.""",
-    "random": """-- Random sessions: the definitions give their bytes the answers of an independent brute force over all choices
+    "random": """\
+-- Random sessions: the definitions give their bytes the answers of an independent brute force over all choices
 -- (tools/oracle). Shown together as one list, by computation.
 -- Made by tools/oracle/proof_file.py. Assumes nothing.""",
 }

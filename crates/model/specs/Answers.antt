@@ -19,7 +19,8 @@ unfoldable pub tabulate : ℕ → (ℕ → ℕ) → List ℕ
 tabulate zero f = []
 tabulate (suc n) f = tabulate n f ++ (f n ∷ [])
 
--- "the cut buffer, 56 numbers of two bytes; stretch j, thread t stands at 8 × (j − 1) + t"
+-- "the cut buffer, 56 numbers of two bytes; stretch j, thread t stands at 8 × (j − 1) + t, the rest 0": a choice is 0
+-- where there is no such finished stretch or thread
 unfoldable pub cutOf : Choice → List ℕ
 cutOf c = tabulate 56 (λ i. c (i / 8 + 1) (i % 8))
 
@@ -48,7 +49,7 @@ abbrev pub faultOf : ℕ → ℕ → Fault
 faultOf missing observed = cond (eqb missing observed) contradiction flush
 
 pub data Answer : Type 0 where
-  -- the refusal's number and its event number
+  -- "Each refusal carries its event number; 14, 15, 16 and 17 carry 0."
   refused : ℕ → ℕ → Answer
   -- events after begin, share
   robust : ℕ → ℕ → Answer
@@ -66,7 +67,7 @@ verdictAnswer (Broken events load missing observed kind) = broken events load mi
 
 -- ---- the order query
 
--- "before, after, same, neither"
+-- "The order query takes a trace, a work area and two event numbers: before, after, same, neither."
 pub data Standing : Type 0 where
   refused : ℕ → ℕ → Standing
   before : Standing

@@ -19,7 +19,7 @@ pub data Ruling : Type 0 where
   broken : ℕ → ℕ → ℕ → Ruling
 
 module _ (ev : ℕ → Event) where
-  -- "that many of its first stores are in"
+  -- "that many of its first stores are in"; "Intervals exclude their upper end."
   abbrev pub In : Choice → ℕ → Type 0
   In c p = place ev p < c (stretch ev p) (thread ev p)
 

@@ -80,7 +80,7 @@ module _ (ev : ℕ → Event) (N : ℕ) where
   abbrev pub store? : ℕ → Bool
   store? p = ltb p N && issue? ev p
 
-  -- 16: "query number is no issue"; then "before, after, same, neither"
+  -- 16: "query number is no issue"; then how the two stores stand
   abbrev pub standing : ℕ → ℕ → answers.Standing
   standing p q =
       not (store? p && store? q) gives answers.refused 16 0 else

@@ -12,7 +12,8 @@ use Rattle.model.specs.Trace.{stretch, issues, commits, place}
 module _ (ev : ℕ → Event) where
   -- ---- queues
 
-  -- "Issue: the store joins its thread's queue": p is a store of n's thread in n's stretch
+  -- "Issue: the store joins its thread's queue": p is a store of n's thread in n's stretch; a crash "drops waiting
+  -- stores", so no other stretch's
   abbrev pub beside : ℕ → ℕ → Bool
   beside p n = issue? ev p && eqb (stretch ev p) (stretch ev n) && eqb (thread ev p) (thread ev n)
 
@@ -84,6 +85,7 @@ module _ (ev : ℕ → Event) where
       not (crash? ev n)
       && (is ev 10 n && eqb (thread ev n) t || skipping n t && not (is ev 11 n && eqb (thread ev n) t))
 
-  -- "A crossing load in a skip is checked but not counted; all other crossing loads count."
+  -- "A crossing load in a skip is checked but not counted; all other crossing loads count." No choice has a say in it:
+  -- "a load stays counted even if the choice cuts its own thread short"
   unfoldable pub counted : ℕ → Bool
   counted n = crossing n && not (skipping n (thread ev n))

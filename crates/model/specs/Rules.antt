@@ -31,7 +31,7 @@ module _ (ev : ℕ → Event) where
       let f = fieldsOf (ev n) in
       eqb (f .version) 1 && within 1 8 (f .threads) && within 1 256 (f .locations)
 
-  -- what turns event n away: "1, 5, 13, 6, 7, 8, and the kind's own rule"
+  -- what turns event n away: "1, 5, 13, 6, 7, 8, and the kind's own rule". "Each kind has its own rule."
   unfoldable pub rules : ℕ → Rules
   rules n =
       -- "no record, or the first is no begin" (no record at all: specs/Reading.antt)
@@ -50,17 +50,18 @@ module _ (ev : ℕ → Event) where
       (load? ev n && not (sourceFits ev n)) gives 9 else
       -- "commit, empty queue"
       (commit? ev n && not (queued ev n)) gives 10 else
-      -- "mfence, queue not empty"
+      -- "mfence, queue not empty": "mfence needs an empty queue."
       (is ev 8 n && queued ev n) gives 11 else
       -- "skip already on, or already off"
       (is ev 10 n && skipping ev n (thread ev n) || is ev 11 n && not (skipping ev n (thread ev n))) gives 12 else
+      -- "Flushes and sfence have only their fields checked."
       pass
 
   -- the number of the refusal that event n meets, and 0 if it passes
   abbrev pub refusal : ℕ → ℕ
   refusal n = answer (rules n)
 
-  -- "A trace is accepted if no refusal over its records applies": its first N events, at least one
+  -- no rule turns away any of the first N events, of which there is at least one
   pub record Accepted (N : ℕ) : Type 0 where
     pub some-record : 0 < N
     pub passes : (n : ℕ) → n < N → refusal n ≡ 0

@@ -82,7 +82,8 @@ module _ (ev : ℕ → Event) where
   stretch zero = 1
   stretch (suc e) = stretch e + bit (crash? e)
 
-  -- how many events of thread t in stretch j, among the first n, pass the test f
+  -- how many events of thread t in stretch j, among the first n, pass the test f. "The trace starts with empty queues,
+  -- no skips and no commits."
   unfoldable pub count : (ℕ → Bool) → ℕ → ℕ → ℕ → ℕ
   count f zero j t = 0
   count f (suc n) j t = count f n j t + bit (f n && eqb (stretch n) j && eqb (thread n) t)
