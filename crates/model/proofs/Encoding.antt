@@ -24,11 +24,12 @@ use Rattle.model.specs.Search.{some, first}
 use Rattle.model.specs.Trace.{traceOf}
 use Rattle.model.specs.Rules.{refusal}
 use Rattle.model.specs.Reading.{events, refusalAt, endsAt, Reading, accepted, turnedAway, readingOf}
+use Rattle.model.specs.Reading.{AcceptedWith, TurnedAwayWith}
 use Rattle.model.specs.Answers as Answers
 use Rattle.model.specs.Verdict.{rulingOf}
 use Rattle.model.specs.Judge.{ruledAnswer, ruledCut, readAnswer, readCut, judgeOf, cutAfter}
 use Rattle.model.proofs.Searching.{false-true, test, parts, less?, →some, First, first-is}
-use Rattle.model.proofs.TurnedAway.{AcceptedWith, TurnedAwayWith, accepted-exactly, turned-away-exactly}
+use Rattle.model.proofs.TurnedAway.{accepted-exactly, turned-away-exactly}
 
 -- ---- the bytes of a list of events, and the definitions of a trace as a list
 

@@ -1,7 +1,8 @@
 -- Laws and theorems about the definitions. The theorems that others cite: `clock-is-happens-before` (Clocks),
 -- `before-committed` (Committed), `exact`, `unique`, `broken-stays`, `named-load-counts` (Exactness), `min-explains`,
--- `max-explains` (Lattice), `explains-is-replay` (Replay), `standing-exact` (Queries), `flush-neutral` (FlushNeutral),
--- `accepted-exactly`, `turned-away-exactly` (TurnedAway), `cases-1-to-11` (Cases), `random-sessions` (RandomSessions).
+-- `max-explains` (Lattice), `explains-is-replay` (Replay), `flush-neutral` (FlushNeutral), `accepted-exactly`,
+-- `turned-away-exactly` (TurnedAway), `ordered-as-demanded` (Queries), `judged-as-demanded` (Demanded),
+-- `cases-1-to-11` (Cases) and `random-sessions` (RandomSessions).
 pub mod Searching
 pub mod Induction
 pub mod Counting
@@ -16,7 +17,6 @@ pub mod Pairs
 pub mod Exactness
 pub mod Lattice
 pub mod Replay
-pub mod Queries
 pub mod Renumbering
 pub mod RenumberedMachine
 pub mod RenumberedLoads
@@ -25,6 +25,8 @@ pub mod Removing
 pub mod FlushNeutral
 pub mod FlushRuling
 pub mod TurnedAway
+pub mod Queries
+pub mod Demanded
 pub mod Encoding
 pub mod Sessions
 pub mod Cases

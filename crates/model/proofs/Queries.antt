@@ -1,22 +1,26 @@
 -- The order query is exact: of two stores it answers same, before, after or neither exactly as happens-before has them.
 -- The clock of a store covers another exactly if they are equal or the other happens before it. Assumes nothing.
-use Prim.Native.Nat.{ℕ, _<_}
+use Prim.Native.Nat.{ℕ, _≤_, _<_}
 use native.Mathlib.Omega.{arith}
 use mathlib.Core.Path.{_≡_, refl, sym, _∙_}
 use mathlib.Core.Bool.{Bool, true, false, _&&_, not}
 use mathlib.Core.Logic.{_⊎_, inl, inr, _≢_, _↔_}
+use mathlib.Core.List.{List}
 use lib.Dec.{eqb, ltb}
-use borrow.Author.Tests.{eqb-true, eqb-false, eq-eqb, ne-eqb, ltb-true, lt-ltb, not-true}
+use borrow.Author.Tests.{eqb-true, eqb-false, eq-eqb, ne-eqb, ltb-true, lt-ltb, le-ltb, not-true}
 use Rattle.record.specs.declared.events.Event.{Event}
 use Rattle.record.specs.Tests.{_gives_else_}
 use Rattle.model.specs.Trace.{thread, issue?, Issue, stretch, place}
 use Rattle.model.specs.HappensBefore.{Before}
 use Rattle.model.specs.Clocks.{vc}
-use Rattle.model.specs.Answers.{Standing, refused, before, after, same, neither}
-use Rattle.model.specs.Judge.{before?, store?, standing}
+use Rattle.model.specs.Answers.{before, after, same, neither}
+use Rattle.model.specs.Reading.{events, AcceptedWith}
+use Rattle.model.specs.Judge.{before?, store?, standing, orderOf}
+use Rattle.model.specs.Demand.{Stands}
 use Rattle.model.proofs.Searching.{false-true, test, both, parts}
 use Rattle.model.proofs.Ordering.{before-lt, before-stretch}
 use Rattle.model.proofs.Clocks.{clock-is-happens-before}
+use Rattle.model.proofs.TurnedAway.{accepted-exactly}
 
 module _ (ev : ℕ → Event) where
   pub before-exactly : (p q : ℕ) → Issue ev p → Issue ev q → (before? ev p q ≡ true) ↔ Before ev p q
@@ -47,17 +51,8 @@ module _ (ev : ℕ → Event) where
           both _ _ (both _ _ not-same (eq-eqb _ _ in-stretch))
           (lt-ltb _ _ (clock-is-happens-before ev q p q-store p-store in-stretch .1 (inr earlier)))
 
-  -- what an answer about the stores p and q says
-  pub Stands : ℕ → ℕ → Standing → Type 0
-  Stands p q (refused k e) = ⊥
-  Stands p q before = Before ev p q
-  Stands p q after = Before ev q p
-  Stands p q same = p ≡ q
-  Stands p q neither = (p ≢ q) × (Before ev p q → ⊥) × (Before ev q p → ⊥)
-
   pub standing-exact :
-      (N p q : ℕ) → store? ev N p ≡ true → store? ev N q ≡ true → Stands p q (standing ev N p q)
-  unfolding Stands
+      (N p q : ℕ) → store? ev N p ≡ true → store? ev N q ≡ true → Stands ev p q (standing ev N p q)
   standing-exact N p q p-store q-store =
       rw (both _ _ p-store q-store) (by-tests (test (eqb p q)) (test (before? ev p q)) (test (before? ev q p)))
     where
@@ -71,7 +66,7 @@ module _ (ev : ℕ → Event) where
           (eqb p q ≡ true) ⊎ (eqb p q ≡ false)
           → (before? ev p q ≡ true) ⊎ (before? ev p q ≡ false)
           → (before? ev q p ≡ true) ⊎ (before? ev q p ≡ false)
-          → Stands p q
+          → Stands ev p q
           (eqb p q gives same else before? ev p q gives before else before? ev q p gives after else neither)
       by-tests (inl is) b c = rw is (eqb-true p q is)
       by-tests (inr differs) (inl earlier) c = rw (earlier, differs) (before-exactly p q p-issue q-issue .0 earlier)
@@ -83,3 +78,13 @@ module _ (ev : ℕ → Event) where
             λ earlier. false-true (sym not-earlier ∙ before-exactly p q p-issue q-issue .1 earlier),
             λ later. false-true (sym not-later ∙ before-exactly q p q-issue p-issue .1 later),
           )
+
+-- what the query answers about two stores of an accepted trace
+pub ordered-as-demanded :
+    (bytes : List ℕ) (N work p q : ℕ) → AcceptedWith bytes N → 32768 ≤ work
+    → store? (events bytes) N p ≡ true → store? (events bytes) N q ≡ true
+    → Stands (events bytes) p q (orderOf bytes work p q)
+unfolding orderOf
+ordered-as-demanded bytes N work p q accepted enough p-store q-store =
+    rw (le-ltb work 32768 enough, accepted-exactly bytes N .1 accepted)
+    (standing-exact (events bytes) N p q p-store q-store)

@@ -19,7 +19,7 @@ use Rattle.record.proofs.Starts.{start-inside, read-grows, read-at-answers}
 use Rattle.model.specs.Search.{some, first}
 use Rattle.model.specs.Rules.{refusal, Accepted}
 use Rattle.model.specs.Reading.{refusalIn, events, refusalAt, stop, endsAt}
-use Rattle.model.specs.Reading.{Reading, accepted, turnedAway, readingOf}
+use Rattle.model.specs.Reading.{Reading, accepted, turnedAway, readingOf, AcceptedWith, TurnedAwayWith}
 use Rattle.model.proofs.Searching.{false-true, test, both, parts, same?, less?, some→, →some, First, first-is}
 
 module _ (bytes : List ℕ) where
@@ -114,21 +114,8 @@ module _ (bytes : List ℕ) where
 
   -- ---- the theorem
 
-  -- accepted with N records: each passes, and the bytes end right behind them
-  pub record AcceptedWith (N : ℕ) : Type 0 where
-    pub some-record : 0 < N
-    pub all-pass : (e : ℕ) → e < N → refusalAt bytes e ≡ 0
-    pub ends : start bytes N ≡ length bytes
-
-  -- turned away with number k at event e: number k applies there, nothing earlier does, and it is not the trace's end
-  pub record TurnedAwayWith (k e : ℕ) : Type 0 where
-    pub earlier-pass : (i : ℕ) → i < e → refusalAt bytes i ≡ 0
-    pub number : refusalAt bytes e ≡ k
-    pub some-number : k ≢ 0
-    pub no-end : endsAt bytes e ≡ false
-
   -- behind the last record nothing passes: a record that is read would need four bytes more
-  nothing-behind : (N : ℕ) → AcceptedWith N → Stops N
+  nothing-behind : (N : ℕ) → AcceptedWith bytes N → Stops N
   nothing-behind N a =
       record {
         earlier-pass = a .all-pass;
@@ -137,14 +124,14 @@ module _ (bytes : List ℕ) where
             omega (arith, read-grows bytes N (p .x) (p .next) (p .is-read), start-inside bytes (suc N), a .ends);
       }
 
-  pub accepted-exactly : (N : ℕ) → (readingOf bytes ≡ accepted N) ↔ AcceptedWith N
+  pub accepted-exactly : (N : ℕ) → (readingOf bytes ≡ accepted N) ↔ AcceptedWith bytes N
   unfolding readingOf
   accepted-exactly N = (λ h. to (test (endsAt bytes (stop bytes))) h, from)
     where
       to :
           (endsAt bytes (stop bytes) ≡ true) ⊎ (endsAt bytes (stop bytes) ≡ false)
           → readingOf bytes ≡ accepted N
-          → AcceptedWith N
+          → AcceptedWith bytes N
       to (inl ends) h =
           let is : accepted (stop bytes) ≡ accepted N = rw ends at h in
           let same : stop bytes ≡ N = cc in
@@ -159,20 +146,20 @@ module _ (bytes : List ℕ) where
           let z : _≡_ {A = ℕ} 0 1 = cc in
           absurd (omega arith)
 
-      from : AcceptedWith N → readingOf bytes ≡ accepted N
+      from : AcceptedWith bytes N → readingOf bytes ≡ accepted N
       from a =
           let same : stop bytes ≡ N = stop-unique N (nothing-behind N a) in
           let ends : endsAt bytes N ≡ true = both _ _ (lt-ltb _ _ (a .some-record)) (eq-eqb _ _ (a .ends)) in
           rw (same, ends)
 
-  pub turned-away-exactly : (k e : ℕ) → (readingOf bytes ≡ turnedAway k e) ↔ TurnedAwayWith k e
+  pub turned-away-exactly : (k e : ℕ) → (readingOf bytes ≡ turnedAway k e) ↔ TurnedAwayWith bytes k e
   unfolding readingOf
   turned-away-exactly k e = (λ h. to (test (endsAt bytes (stop bytes))) h, from)
     where
       to :
           (endsAt bytes (stop bytes) ≡ true) ⊎ (endsAt bytes (stop bytes) ≡ false)
           → readingOf bytes ≡ turnedAway k e
-          → TurnedAwayWith k e
+          → TurnedAwayWith bytes k e
       to (inl ends) h =
           let is : accepted (stop bytes) ≡ turnedAway k e = rw ends at h in
           let z : _≡_ {A = ℕ} 0 1 = cc in
@@ -188,7 +175,7 @@ module _ (bytes : List ℕ) where
             no-end = rw same at ends;
           }
 
-      from : TurnedAwayWith k e → readingOf bytes ≡ turnedAway k e
+      from : TurnedAwayWith bytes k e → readingOf bytes ≡ turnedAway k e
       from t =
           let stops : Stops e =
           record { earlier-pass = t .earlier-pass; turned = λ z. t .some-number (sym (t .number) ∙ z) }
@@ -197,5 +184,5 @@ module _ (bytes : List ℕ) where
           rw (same, t .no-end, t .number)
 
   -- the events of an accepted trace's bytes are an accepted trace
-  pub accepted-events : (N : ℕ) → AcceptedWith N → Accepted (events bytes) N
+  pub accepted-events : (N : ℕ) → AcceptedWith bytes N → Accepted (events bytes) N
   accepted-events N a = record { some-record = a .some-record; passes = λ n l. passed→ n (a .all-pass n l) .passes }

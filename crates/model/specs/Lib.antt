@@ -1,5 +1,5 @@
 -- What a reader has to believe, in document 01's order: Trace, Machine, Rules, HappensBefore, Choice, Memory, Flushes,
--- Reading, Answers and Judge. Search, Clocks and Verdict compute what these say, which is proved in proofs/.
+-- Reading, Answers, Judge and Demand. Search, Clocks and Verdict compute what these say, which is proved in proofs/.
 pub mod Search
 pub mod Trace
 pub mod Machine
@@ -10,6 +10,7 @@ pub mod Memory
 pub mod Flushes
 pub mod Reading
 pub mod Answers
+pub mod Demand
 pub mod Clocks
 pub mod Verdict
 pub mod Judge

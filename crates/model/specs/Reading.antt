@@ -1,7 +1,9 @@
 -- From bytes to events, and which traces are turned away: document 01, "The trace" and "When a trace is turned away".
-use Prim.Native.Nat.{ℕ, suc}
+use Prim.Native.Nat.{ℕ, suc, _<_}
+use mathlib.Core.Path.{_≡_}
+use mathlib.Core.Logic.{_≢_}
 use mathlib.Core.List.{List}
-use mathlib.Core.Bool.{Bool, cond, _&&_, not}
+use mathlib.Core.Bool.{Bool, false, cond, _&&_, not}
 use lib.ListN.{length}
 use lib.Dec.{eqb, ltb}
 use Rattle.record.specs.declared.events.Event.{Event}
@@ -53,3 +55,19 @@ unfoldable pub readingOf : List ℕ → Reading
 readingOf bytes =
     let e = stop bytes in
     cond (endsAt bytes e) (accepted e) (turnedAway (refusalAt bytes e) e)
+
+-- ---- the same, as relations: `accepted-exactly`, `turned-away-exactly` of proofs/TurnedAway.antt join the two
+
+module _ (bytes : List ℕ) where
+  -- accepted with N records: each passes, and the bytes end right behind them
+  pub record AcceptedWith (N : ℕ) : Type 0 where
+    pub some-record : 0 < N
+    pub all-pass : (e : ℕ) → e < N → refusalAt bytes e ≡ 0
+    pub ends : start bytes N ≡ length bytes
+
+  -- turned away with number k at event e: number k applies there, nothing earlier does, and it is not the trace's end
+  pub record TurnedAwayWith (k e : ℕ) : Type 0 where
+    pub earlier-pass : (i : ℕ) → i < e → refusalAt bytes i ≡ 0
+    pub number : refusalAt bytes e ≡ k
+    pub some-number : k ≢ 0
+    pub no-end : endsAt bytes e ≡ false
