@@ -15,11 +15,11 @@ use Rattle.model.specs.Reading.{events, Reading, accepted, turnedAway, r
 use Rattle.model.specs.Answers.{cutOf, shareOf, faultOf}
 use Rattle.model.specs.Answers as answers
 
--- "The work area is at least 32,768 two-byte numbers."
+-- 14, "work area too small": "The work area is at least 32,768 two-byte numbers."
 abbrev pub smallWork : ℕ → Bool
 smallWork size = ltb size 32768
 
--- "cut buffer is not 56 numbers"
+-- 15: "cut buffer is not 56 numbers"
 abbrev pub wrongCut : ℕ → Bool
 wrongCut size = not (eqb size 56)
 
