@@ -13,7 +13,7 @@ use Rattle.record.specs.declared.events.Event.{Event}
 use Rattle.model.specs.Trace.{thread, source, commit?, Issue, stretch, commits, place}
 use Rattle.model.specs.Machine.{counted}
 use Rattle.model.specs.Rules.{Accepted}
-use Rattle.model.specs.HappensBefore.{Before}
+use Rattle.model.specs.HappensBefore.{Before, AtOrBefore}
 use Rattle.model.specs.Choice.{Choice, In, finished, Closed, Observes, Observed, Forbidden, Explains}
 use Rattle.model.specs.Choice.{Robust, Pair}
 use Rattle.model.specs.Clocks.{vc}
@@ -26,11 +26,7 @@ use Rattle.model.proofs.Acceptance.{FromPast, counted-source}
 use Rattle.model.proofs.Committed.{Committed, before-committed}
 
 module _ (ev : ℕ → Event) where
-  -- p is q or happens before it
-  abbrev pub AtOrBefore : ℕ → ℕ → Type 0
-  AtOrBefore p q = (p ≡ q) ⊎ Before ev p q
-
-  pub same-stretch : (p q : ℕ) → AtOrBefore p q → stretch ev p ≡ stretch ev q
+  pub same-stretch : (p q : ℕ) → AtOrBefore ev p q → stretch ev p ≡ stretch ev q
   same-stretch p q (inl same) = ap (λ (e : ℕ). stretch ev e) same
   same-stretch p q (inr before) = before-stretch ev before
 
@@ -86,13 +82,13 @@ module _ (ev : ℕ → Event) where
   -- ---- a pair leaves no choice
 
   -- a choice that explains takes in an observed store, and what happens before it
-  explained-in : (N : ℕ) (c : Choice) → Explains ev N c → (p q : ℕ) → Observed ev N q → AtOrBefore p q → In ev c p
+  explained-in : (N : ℕ) (c : Choice) → Explains ev N c → (p q : ℕ) → Observed ev N q → AtOrBefore ev p q → In ev c p
   explained-in N c explains p q (l, inside, it) = by-order
     where
       q-in : In ev c q
       q-in = explains .loads l inside .observed-in q it
 
-      by-order : AtOrBefore p q → In ev c p
+      by-order : AtOrBefore ev p q → In ev c p
       by-order (inl same) = rw same q-in
       by-order (inr before) = explains .closed p q before q-in
 
@@ -108,7 +104,7 @@ module _ (ev : ℕ → Event) where
     record Reached (p : ℕ) : Type 0 where
       q : ℕ
       observed : Observed ev N q
-      order : AtOrBefore p q
+      order : AtOrBefore ev p q
 
     -- place i of thread t is in the clock of an observed store q of stretch j
     record InClock (j t i : ℕ) : Type 0 where
@@ -197,13 +193,13 @@ module _ (ev : ℕ → Event) where
     unfolding finished
     finished-is j t done = rw (lt-ltb j (stretch ev N) done)
 
-    kept-in-finished : (p q : ℕ) → Kept N q → AtOrBefore p q → In ev (finished ev N) p
+    kept-in-finished : (p q : ℕ) → Kept N q → AtOrBefore ev p q → In ev (finished ev N) p
     kept-in-finished p q kept order = rw (finished-is (stretch ev p) (thread ev p) done) (p-committed order)
       where
         done : stretch ev p < stretch ev N
         done = rw (same-stretch p q order) (kept .in-finished)
 
-        p-committed : AtOrBefore p q → Committed ev N p
+        p-committed : AtOrBefore ev p q → Committed ev N p
         p-committed (inl same) = rw same (kept .committed)
         p-committed (inr before) = before-committed ev N accepted p q before (kept .committed) .committed
 
@@ -225,7 +221,7 @@ module _ (ev : ℕ → Event) where
           order = inr (on-to (reached .q) (reached .order));
         })
       where
-        on-to : (r : ℕ) → AtOrBefore q r → Before ev p r
+        on-to : (r : ℕ) → AtOrBefore ev q r → Before ev p r
         on-to r (inl same) = rw same at before
         on-to r (inr further) = before-trans ev before further
 

@@ -1,24 +1,31 @@
 -- Demand 3 of the computed answer: for every accepted trace, with any buffers that refusals 14 and 15 let pass, what
--- `judgeOf` answers and `cutAfter` leaves in the cut buffer make the claim of specs/Demand.antt. Assumes nothing.
+-- `judgeOf` answers and `cutAfter` leaves in the cut buffer make the claim of specs/Demand.antt. And demand 1: a trace
+-- that is turned away is refused, and a refusal leaves the cut buffer as lent. Assumes nothing.
 use Prim.Native.Nat.{ℕ, _≤_}
+use native.Mathlib.Omega.{arith}
 use mathlib.Core.Path.{_≡_, refl}
+use mathlib.Core.Bool.{Bool, true, false}
 use mathlib.Core.List.{List}
 use lib.ListN.{length}
 use borrow.Author.Tests.{eq-eqb, le-ltb}
+use Rattle.record.specs.Tests.{_gives_else_}
 use Rattle.model.specs.Choice.{Ruling, robust, broken, Exact}
 use Rattle.model.specs.Verdict.{rulingOf}
-use Rattle.model.specs.Reading.{events, AcceptedWith}
-use Rattle.model.specs.Judge.{ruledAnswer, ruledCut, judgeOf, cutAfter}
+use Rattle.model.specs.Reading.{events, Reading, accepted, turnedAway, readingOf}
+use Rattle.model.specs.Reading.{AcceptedWith, TurnedAwayWith}
+use Rattle.model.specs.Answers.{refused}
+use Rattle.model.specs.Judge.{smallWork, wrongCut, ruledAnswer, ruledCut, readingAnswer, readingCut}
+use Rattle.model.specs.Judge.{judgeOf, cutAfter}
 use Rattle.model.specs.Demand.{Claims}
 use Rattle.model.proofs.Exactness.{exact}
-use Rattle.model.proofs.TurnedAway.{accepted-exactly, accepted-events}
+use Rattle.model.proofs.TurnedAway.{accepted-exactly, turned-away-exactly, accepted-events}
 
 module _ (bytes : List ℕ) (N : ℕ) (accepted : AcceptedWith bytes N) where
   ruling-claims :
       (cut : List ℕ) (v : Ruling) → Exact (events bytes) N v
       → Claims (events bytes) N cut (ruledCut (events bytes) N cut v) (ruledAnswer (events bytes) N v)
-  ruling-claims cut (robust c) least = (c, least, refl)
-  ruling-claims cut (broken load missing observed) it = (it, refl)
+  ruling-claims cut (robust c) least = (c, least, refl, refl, refl)
+  ruling-claims cut (broken load missing observed) it = (it, refl, refl, refl)
 
   pub judged-as-demanded :
       (work : ℕ) (cut : List ℕ) → 32768 ≤ work → length cut ≡ 56
@@ -31,3 +38,35 @@ module _ (bytes : List ℕ) (N : ℕ) (accepted : AcceptedWith bytes N) where
         accepted-exactly bytes N .1 accepted,
       )
       (ruling-claims cut (rulingOf (events bytes) N) (exact (events bytes) N (accepted-events bytes N accepted)))
+
+-- a trace that is turned away is refused with that number and event, and the cut buffer is as lent
+pub refused-as-demanded :
+    (bytes : List ℕ) (k e work : ℕ) (cut : List ℕ) → TurnedAwayWith bytes k e → 32768 ≤ work → length cut ≡ 56
+    → (judgeOf bytes work (length cut) ≡ refused k e) × (cutAfter bytes work cut ≡ cut)
+unfolding judgeOf cutAfter
+refused-as-demanded bytes k e work cut turned enough right-size =
+    let reading = turned-away-exactly bytes k e .1 turned in
+    let room = le-ltb work 32768 enough in
+    let size = eq-eqb (length cut) 56 right-size in
+    (rw (room, size, reading), rw (room, size, reading))
+
+-- "A refusal leaves the cut [..] untouched", whatever the buffers
+pub refusal-leaves-cut :
+    (bytes : List ℕ) (work k e : ℕ) (cut : List ℕ) → judgeOf bytes work (length cut) ≡ refused k e
+    → cutAfter bytes work cut ≡ cut
+unfolding judgeOf cutAfter
+refusal-leaves-cut bytes work k e cut = by-tests (smallWork work) (wrongCut (length cut)) (readingOf bytes)
+  where
+    by-ruling :
+        (N : ℕ) (v : Ruling) → ruledAnswer (events bytes) N v ≡ refused k e → ruledCut (events bytes) N cut v ≡ cut
+    by-ruling N (robust c) h = let z : _≡_ {A = ℕ} 0 1 = cc in absurd (omega arith)
+    by-ruling N (broken load missing observed) h = refl
+
+    by-tests :
+        (small wrong : Bool) (r : Reading)
+        → (small gives refused 14 0 else wrong gives refused 15 0 else readingAnswer bytes r) ≡ refused k e
+        → (small gives cut else wrong gives cut else readingCut bytes cut r) ≡ cut
+    by-tests true wrong r h = refl
+    by-tests false true r h = refl
+    by-tests false false (turnedAway number event) h = refl
+    by-tests false false (accepted N) h = by-ruling N (rulingOf (events bytes) N) h

@@ -27,7 +27,7 @@ use Rattle.model.specs.Reading.{events, refusalAt, endsAt, Reading, acce
 use Rattle.model.specs.Reading.{AcceptedWith, TurnedAwayWith}
 use Rattle.model.specs.Answers as Answers
 use Rattle.model.specs.Verdict.{rulingOf}
-use Rattle.model.specs.Judge.{ruledAnswer, ruledCut, readAnswer, readCut, judgeOf, cutAfter}
+use Rattle.model.specs.Judge.{ruledAnswer, ruledCut, readingAnswer, readingCut, judgeOf, cutAfter}
 use Rattle.model.proofs.Searching.{false-true, test, parts, less?, →some, First, first-is}
 use Rattle.model.proofs.TurnedAway.{accepted-exactly, turned-away-exactly}
 
@@ -180,10 +180,10 @@ module _ (xs : List Event) (small : AllTwoByte xs) where
 
   -- ---- the answer
 
-  pub same-answer : (r : Reading) → readAnswer s r ≡ answerEvents xs r
+  pub same-answer : (r : Reading) → readingAnswer s r ≡ answerEvents xs r
   same-answer (accepted N) = rw same-events
   same-answer (turnedAway k e) = refl
 
-  pub same-cut : (cut : List ℕ) (r : Reading) → readCut s cut r ≡ cutEvents xs cut r
+  pub same-cut : (cut : List ℕ) (r : Reading) → readingCut s cut r ≡ cutEvents xs cut r
   same-cut cut (accepted N) = rw same-events
   same-cut cut (turnedAway k e) = refl

@@ -7,13 +7,12 @@ use mathlib.Core.Path.{ap, ap₂}
 use mathlib.Core.Logic.{_⊎_, inl, inr, _↔_}
 use Rattle.record.specs.declared.events.Event.{Event}
 use Rattle.model.specs.Trace.{thread, Issue, stretch, place}
-use Rattle.model.specs.HappensBefore.{Before}
+use Rattle.model.specs.HappensBefore.{Before, AtOrBefore}
 use Rattle.model.specs.Choice.{Choice, In, Closed, Forbids, Explains}
 use Rattle.model.specs.Clocks.{vc}
 use Rattle.model.proofs.Searching.{less?}
 use Rattle.model.proofs.Ordering.{before-first, before-last, before-stretch}
 use Rattle.model.proofs.Clocks.{clock-is-happens-before, ClockPlace, clock-place}
-use Rattle.model.proofs.Closure.{AtOrBefore}
 
 module _ (ev : ℕ → Event) where
   -- the count of thread and stretch of store p

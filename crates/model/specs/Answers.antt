@@ -19,8 +19,8 @@ unfoldable pub tabulate : ℕ → (ℕ → ℕ) → List ℕ
 tabulate zero f = []
 tabulate (suc n) f = tabulate n f ++ (f n ∷ [])
 
--- "the cut buffer, 56 numbers of two bytes; stretch j, thread t stands at 8 × (j − 1) + t, the rest 0": a choice is 0
--- where there is no such finished stretch or thread
+-- "the cut buffer, 56 numbers of two bytes; stretch j, thread t stands at 8 × (j − 1) + t, the rest 0": a choice that
+-- explains is 0 where there is no such finished stretch or thread, by `fits`
 unfoldable pub cutOf : Choice → List ℕ
 cutOf c = tabulate 56 (λ i. c (i / 8 + 1) (i % 8))
 

@@ -7,9 +7,10 @@ use lib.Dec.{ltb}
 use Rattle.record.specs.declared.events.Event.{Event}
 use Rattle.model.specs.Trace.{thread, location, source, Issue, stretch, commits, place}
 use Rattle.model.specs.Machine.{counted, commitOf}
-use Rattle.model.specs.HappensBefore.{Before}
+use Rattle.model.specs.HappensBefore.{Before, AtOrBefore}
 
--- "A choice gives each finished stretch and thread a count (the thread's crash point)": stretch, then thread
+-- "A choice gives each finished stretch and thread a count (the thread's crash point)": stretch, then thread. The type
+-- gives every pair of numbers a count; `fits` of `Explains` makes it 0 elsewhere
 abbrev pub Choice : Type 0
 Choice = ℕ → ℕ → ℕ
 
@@ -23,7 +24,7 @@ module _ (ev : ℕ → Event) where
   abbrev pub In : Choice → ℕ → Type 0
   In c p = place ev p < c (stretch ev p) (thread ev p)
 
-  -- the commits of a thread in a stretch that the first N events finish, and 0 in any other
+  -- "a crash finishes it": the commits of a thread in a stretch that the first N events finish, and 0 in any other
   unfoldable pub finished : ℕ → Choice
   finished N j t = cond (ltb j (stretch ev N)) (commits ev N j t) 0
 
@@ -86,7 +87,7 @@ module _ (ev : ℕ → Event) where
   pub record Pair (N p q : ℕ) : Type 0 where
     pub missing : Forbidden N p
     pub observed : Observed N q
-    pub order : (p ≡ q) ⊎ Before ev p q
+    pub order : AtOrBefore ev p q
 
   -- "Broken: no closed choice does. Load is the smallest event number for which records 0 to load, taken as a trace,
   -- have none either. [..] of all such pairs, the smallest missing, then the smallest observed event number."

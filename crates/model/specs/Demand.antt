@@ -1,12 +1,12 @@
 -- Demand 3 as a relation over all choices: what the judge's answer to an accepted trace, and the cut buffer afterwards,
 -- claim. "the verdict is broken exactly when no choice of crash points explains the loads, and robust otherwise."
-use Prim.Native.Nat.{ℕ}
+use Prim.Native.Nat.{ℕ, _-_}
 use mathlib.Core.Path.{_≡_}
 use mathlib.Core.Logic.{_≢_}
 use mathlib.Core.List.{List}
 use Rattle.record.specs.declared.events.Event.{Event}
 use Rattle.model.specs.HappensBefore.{Before}
-use Rattle.model.specs.Choice.{Choice, Least, Broken}
+use Rattle.model.specs.Choice.{Choice, finished, Least, Broken}
 use Rattle.model.specs.Answers as answers
 
 module _ (ev : ℕ → Event) (N : ℕ) (lent after : List ℕ) where
@@ -14,10 +14,14 @@ module _ (ev : ℕ → Event) (N : ℕ) (lent after : List ℕ) where
   -- an accepted trace, with buffers of the right size, is not refused
   Claims (answers.refused number event) = ⊥
   -- "Robust fills the cut buffer with the least such choice"
-  Claims (answers.robust events share) = (c : Choice) × Least ev N c × (after ≡ answers.cutOf c)
+  Claims (answers.robust events share) =
+      (c : Choice) × Least ev N c × (after ≡ answers.cutOf c)
+      × (events ≡ N - 1) × (share ≡ answers.shareOf c (finished ev N))
   -- "Broken leaves that buffer as lent and names the first event [..]; and [..] a store that a counted load forbids and
   -- an observed store which is that store or happens after it"
-  Claims (answers.broken events load missing observed kind) = Broken ev N load missing observed × (after ≡ lent)
+  Claims (answers.broken events load missing observed kind) =
+      Broken ev N load missing observed × (after ≡ lent)
+      × (events ≡ N - 1) × (kind ≡ answers.faultOf missing observed)
 
 -- what the order query's answer about the stores p and q claims, by happens-before itself
 abbrev pub Stands : (ℕ → Event) → ℕ → ℕ → answers.Standing → Type 0

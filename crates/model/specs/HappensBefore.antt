@@ -1,14 +1,14 @@
--- Document 01, "Happens-before and the choice": "Store p happens before q in the same stretch if p is issued earlier by
--- the same thread, or q's thread, before issuing q, loaded from p in that stretch, or by a chain of these. Crossing
--- loads add nothing. Stores of two stretches are unordered."
+-- Document 01, "Happens-before and the choice": when "Store p happens before q in the same stretch". "Stores of two
+-- stretches are unordered." "Crossing loads add nothing": their sources are of earlier stretches.
 use Prim.Native.Nat.{ℕ, _≤_, _<_}
 use mathlib.Core.Path.{_≡_}
+use mathlib.Core.Logic.{_⊎_}
 use Rattle.record.specs.declared.events.Event.{Event}
 use Rattle.model.specs.Trace.{thread, source, Issue, Load, stretch}
 
 module _ (ev : ℕ → Event) where
-  -- Store p happens before a store that n's thread issues in the place of event n. A crossing load's source is of an
-  -- earlier stretch, so the clause `read` never takes one.
+  -- Store p happens before event n: before the store that n issues or, if n issues none, before a store that its thread
+  -- would issue right behind n.
   pub data Precedes : ℕ → ℕ → Type 0 where
     -- "p is issued earlier by the same thread"
     own : {p n : ℕ} → Issue ev p → stretch ev p ≡ stretch ev n → thread ev p ≡ thread ev n → p < n → Precedes p n
@@ -24,3 +24,7 @@ module _ (ev : ℕ → Event) where
   pub record Before (p q : ℕ) : Type 0 where
     pub store : Issue ev q
     pub precedes : Precedes p q
+
+  -- p is q or happens before it
+  abbrev pub AtOrBefore : ℕ → ℕ → Type 0
+  AtOrBefore p q = (p ≡ q) ⊎ Before p q

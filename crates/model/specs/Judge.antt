@@ -36,34 +36,34 @@ module _ (ev : ℕ → Event) (N : ℕ) where
   ruledAnswer (broken load missing observed) =
       answers.broken (N - 1) load missing observed (faultOf missing observed)
 
-  -- "The least goes to the cut buffer"; broken: "The cut buffer is untouched."
+  -- "The least [..] goes to the cut buffer"; broken: "The cut buffer is untouched."
   abbrev pub ruledCut : List ℕ → Ruling → List ℕ
   ruledCut cut (robust c) = cutOf c
   ruledCut cut (broken load missing observed) = cut
 
 -- "A refusal anywhere outranks broken."
-abbrev pub readAnswer : List ℕ → Reading → answers.Answer
-readAnswer bytes (turnedAway k e) = answers.refused k e
-readAnswer bytes (accepted N) = ruledAnswer (events bytes) N (rulingOf (events bytes) N)
+abbrev pub readingAnswer : List ℕ → Reading → answers.Answer
+readingAnswer bytes (turnedAway k e) = answers.refused k e
+readingAnswer bytes (accepted N) = ruledAnswer (events bytes) N (rulingOf (events bytes) N)
 
--- "A refusal leaves the cut and output buffers untouched."
-abbrev pub readCut : List ℕ → List ℕ → Reading → List ℕ
-readCut bytes cut (turnedAway k e) = cut
-readCut bytes cut (accepted N) = ruledCut (events bytes) N cut (rulingOf (events bytes) N)
+-- Demand 1: "A refusal leaves the cut and output buffers untouched."
+abbrev pub readingCut : List ℕ → List ℕ → Reading → List ℕ
+readingCut bytes cut (turnedAway k e) = cut
+readingCut bytes cut (accepted N) = ruledCut (events bytes) N cut (rulingOf (events bytes) N)
 
 -- the answer, from the bytes and the two buffers' lengths: "Order: 14, 15; then per record"
 unfoldable pub judgeOf : List ℕ → ℕ → ℕ → answers.Answer
 judgeOf bytes work cut =
     smallWork work gives answers.refused 14 0 else
     wrongCut cut gives answers.refused 15 0 else
-    readAnswer bytes (readingOf bytes)
+    readingAnswer bytes (readingOf bytes)
 
 -- the cut buffer afterwards
 unfoldable pub cutAfter : List ℕ → ℕ → List ℕ → List ℕ
 cutAfter bytes work cut =
     smallWork work gives cut else
     wrongCut (length cut) gives cut else
-    readCut bytes cut (readingOf bytes)
+    readingCut bytes cut (readingOf bytes)
 
 -- the work area afterwards: "refusals 14 and 15 touch nothing"
 unfoldable pub workAfter : List ℕ → ℕ → List ℕ
@@ -89,14 +89,14 @@ module _ (ev : ℕ → Event) (N : ℕ) where
       before? ev q p gives answers.after else
       answers.neither
 
-abbrev pub readStanding : List ℕ → ℕ → ℕ → Reading → answers.Standing
-readStanding bytes p q (turnedAway k e) = answers.refused k e
-readStanding bytes p q (accepted N) = standing (events bytes) N p q
+abbrev pub readingStanding : List ℕ → ℕ → ℕ → Reading → answers.Standing
+readingStanding bytes p q (turnedAway k e) = answers.refused k e
+readingStanding bytes p q (accepted N) = standing (events bytes) N p q
 
 -- the answer to the query about p and q: "14, [..] then per record [..] then 16"
 unfoldable pub orderOf : List ℕ → ℕ → ℕ → ℕ → answers.Standing
 orderOf bytes work p q =
-    smallWork work gives answers.refused 14 0 else readStanding bytes p q (readingOf bytes)
+    smallWork work gives answers.refused 14 0 else readingStanding bytes p q (readingOf bytes)
 
 -- the work area after a query
 unfoldable pub orderWorkAfter : List ℕ → List ℕ

@@ -1,5 +1,6 @@
--- What a reader has to believe, in document 01's order: Trace, Machine, Rules, HappensBefore, Choice, Memory, Flushes,
--- Reading, Answers, Judge and Demand. Search, Clocks and Verdict compute what these say, which is proved in proofs/.
+-- What a reader has to believe, in document 01's order: Search (`bit`, `last`, `first`), Trace, Machine, Rules,
+-- HappensBefore, Choice, Memory, Flushes, Reading, Answers, Judge and Demand. Clocks and Verdict, with `some` and
+-- `most` of Search, compute what these say, which is proved in proofs/.
 pub mod Search
 pub mod Trace
 pub mod Machine

@@ -1,19 +1,19 @@
 -- What the machine has done before event n, and which sources a load may have: document 01, "Rules of the machine".
 -- A queue is no list here: it is first in, first out, so of a thread's stores in a stretch the first are committed, as
--- many as it has commits there, and the others wait.
+-- many as it has commits there, and the others wait. "A thread's state is handed to each record and comes back
+-- changed": that state is the code's; here it is what the events before n say.
 use Prim.Native.Nat.{ℕ, zero, suc, _≤_, _<_}
 use mathlib.Core.Bool.{Bool, true, false, cond, _&&_, _||_, not}
 use lib.Dec.{eqb, ltb, leb}
 use Rattle.record.specs.declared.events.Event.{Event}
 use Rattle.model.specs.Search.{last}
-use Rattle.model.specs.Trace.{thread, location, source, is, issue?, commit?, load?, crash?}
+use Rattle.model.specs.Trace.{thread, location, source, issue?, commit?, load?, crash?, skipOn?, skipOff?}
 use Rattle.model.specs.Trace.{stretch, issues, commits, place}
 
 module _ (ev : ℕ → Event) where
   -- ---- queues
 
-  -- "Issue: the store joins its thread's queue": p is a store of n's thread in n's stretch; a crash "drops waiting
-  -- stores", so no other stretch's
+  -- p is a store of n's thread in n's stretch
   abbrev pub beside : ℕ → ℕ → Bool
   beside p n = issue? ev p && eqb (stretch ev p) (stretch ev n) && eqb (thread ev p) (thread ev n)
 
@@ -21,7 +21,8 @@ module _ (ev : ℕ → Event) where
   abbrev pub committedBy : ℕ → ℕ
   committedBy n = commits ev n (stretch ev n) (thread ev n)
 
-  -- before event n, n's thread has waiting stores
+  -- "Issue: the store joins its thread's queue": before event n, n's thread has issued more stores than it has
+  -- committed, in n's stretch alone, since a crash "drops waiting stores"
   abbrev pub queued : ℕ → Bool
   queued n = not (eqb (issues ev n (stretch ev n) (thread ev n)) (committedBy n))
 
@@ -59,13 +60,14 @@ module _ (ev : ℕ → Event) where
   unfoldable pub current : ℕ → ℕ
   current n = committed (last n (commitsHere n))
 
-  -- "a store to that location committed in an earlier stretch"
+  -- s is such a store
   abbrev pub past : ℕ → ℕ → Bool
   past n s =
       issue? ev s && eqb (location ev s) (location ev n) && ltb (stretch ev s) (stretch ev n)
       && ltb (place ev s) (commits ev n (stretch ev s) (thread ev s))
 
-  -- the load rule, with its three cases
+  -- the load rule, with its three cases; in the third "the source is 0 or a store to that location committed in an
+  -- earlier stretch"
   unfoldable pub sourceFits : ℕ → Bool
   sourceFits n =
       cond (not (eqb (waiting n) 0)) (eqb (source ev n) (waiting n))
@@ -78,12 +80,13 @@ module _ (ev : ℕ → Event) where
 
   -- ---- skips
 
-  -- "A skip is on or off per thread"; a crash "ends skips": thread t is in a skip before event n
+  -- "A skip [..] is on or off per thread"; a crash "ends skips"; the trace starts with "no skips": thread t is in a
+  -- skip before event n
   unfoldable pub skipping : ℕ → ℕ → Bool
   skipping zero t = false
   skipping (suc n) t =
       not (crash? ev n)
-      && (is ev 10 n && eqb (thread ev n) t || skipping n t && not (is ev 11 n && eqb (thread ev n) t))
+      && (skipOn? ev n && eqb (thread ev n) t || skipping n t && not (skipOff? ev n && eqb (thread ev n) t))
 
   -- "A crossing load in a skip is checked but not counted; all other crossing loads count." No choice has a say in it:
   -- "a load stays counted even if the choice cuts its own thread short"

@@ -31,7 +31,8 @@ unfoldable pub events : List ℕ → ℕ → Event
 events bytes e = eventIn (readAt bytes (start bytes e))
 
 -- what turns record number e away, and 0 if nothing does: "per record length under 2, 2, 3, wrong length", then the
--- rules for its event. Where the bytes end there is no record: the record layer's 1
+-- rules for its event. "A record that can't be read ends the judging there with its refusal." Where the bytes end there
+-- is no record: the record layer's 1
 unfoldable pub refusalAt : List ℕ → ℕ → ℕ
 refusalAt bytes e =
     let unread = refusalIn (readAt bytes (start bytes e)) in

@@ -6,7 +6,8 @@ use mathlib.Core.Bool.{Bool, true, false, cond, _&&_, _||_, not}
 use lib.Dec.{eqb, ltb, leb}
 use Rattle.record.specs.declared.events.Event.{Event}
 use Rattle.record.specs.Fields.{fieldsOf}
-use Rattle.model.specs.Trace.{thread, location, is, commit?, load?, crash?, stretch}
+use Rattle.model.specs.Trace.{thread, location, stretch}
+use Rattle.model.specs.Trace.{begin?, commit?, load?, mfence?, crash?, skipOn?, skipOff?}
 use Rattle.model.specs.Trace.{hasThread?, hasLocation?, threads, locations}
 use Rattle.model.specs.Machine.{queued, sourceFits, skipping}
 
@@ -35,25 +36,25 @@ module _ (ev : ℕ → Event) where
   unfoldable pub rules : ℕ → Rules
   rules n =
       -- "no record, or the first is no begin" (no record at all: specs/Reading.antt)
-      (eqb n 0 && not (is ev 1 n)) gives 1 else
+      (eqb n 0 && not (begin? ev n)) gives 1 else
       -- "later begin"
-      (ltb 0 n && is ev 1 n) gives 5 else
-      -- "event 2,049, or eighth crash"
+      (ltb 0 n && begin? ev n) gives 5 else
+      -- "event 2,049, or eighth crash": events are numbered "1, 2 and so on, at most 2,048"; "At most 7 crashes."
       (ltb 2048 n || crash? ev n && eqb (stretch ev n) 8) gives 13 else
       -- "begin field out of range"
-      (is ev 1 n && not (beginFits n)) gives 6 else
-      -- "no such thread"
+      (begin? ev n && not (beginFits n)) gives 6 else
+      -- "no such thread": threads are "numbered from 0"
       (hasThread? ev n && leb (threads ev) (thread ev n)) gives 7 else
-      -- "no such location"
+      -- "no such location": so are locations
       (hasLocation? ev n && leb (locations ev) (location ev n)) gives 8 else
       -- "source against the load rule"
       (load? ev n && not (sourceFits ev n)) gives 9 else
       -- "commit, empty queue"
       (commit? ev n && not (queued ev n)) gives 10 else
       -- "mfence, queue not empty": "mfence needs an empty queue."
-      (is ev 8 n && queued ev n) gives 11 else
+      (mfence? ev n && queued ev n) gives 11 else
       -- "skip already on, or already off"
-      (is ev 10 n && skipping ev n (thread ev n) || is ev 11 n && not (skipping ev n (thread ev n))) gives 12 else
+      (skipOn? ev n && skipping ev n (thread ev n) || skipOff? ev n && not (skipping ev n (thread ev n))) gives 12 else
       -- "Flushes and sfence have only their fields checked."
       pass
 

@@ -66,6 +66,18 @@ module _ (ev : ℕ → Event) where
   abbrev pub crash? : ℕ → Bool
   crash? e = is 9 e
 
+  abbrev pub begin? : ℕ → Bool
+  begin? e = is 1 e
+
+  abbrev pub mfence? : ℕ → Bool
+  mfence? e = is 8 e
+
+  abbrev pub skipOn? : ℕ → Bool
+  skipOn? e = is 10 e
+
+  abbrev pub skipOff? : ℕ → Bool
+  skipOff? e = is 11 e
+
   pub record Issue (e : ℕ) : Type 0 where
     pub test : issue? e ≡ true
 
@@ -82,8 +94,8 @@ module _ (ev : ℕ → Event) where
   stretch zero = 1
   stretch (suc e) = stretch e + bit (crash? e)
 
-  -- how many events of thread t in stretch j, among the first n, pass the test f. "The trace starts with empty queues,
-  -- no skips and no commits."
+  -- how many events of thread t in stretch j, among the first n, pass the test f. "The trace starts with empty queues"
+  -- and "no commits"
   unfoldable pub count : (ℕ → Bool) → ℕ → ℕ → ℕ → ℕ
   count f zero j t = 0
   count f (suc n) j t = count f n j t + bit (f n && eqb (stretch n) j && eqb (thread n) t)

@@ -19,7 +19,7 @@ abbrev pub readAnswer : Read → Answer
 readAnswer (Record e n) = event e n
 readAnswer (Refused k) = refused k 0
 
--- "refuses only with 17"; "14, 15, 16 and 17 carry 0"
+-- "refuses only with 17", whose event is 0
 abbrev pub writeAnswer : Written → Answer
 writeAnswer (Done n) = wrote n
 writeAnswer NoRoom = refused 17 0

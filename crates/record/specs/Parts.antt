@@ -24,7 +24,8 @@ start s (suc e) = start s e + sizeAt s (start s e)
 unfoldable pub recordPart : List ℕ → ℕ → List ℕ
 recordPart s e = take (sizeAt s (start s e)) (drop (start s e) s)
 
--- records 0 to e can all be framed: none has "a length under 2, or bytes missing"
+-- records 0 to e can all be framed: none has "a length under 2, or bytes missing". The part is empty exactly if not:
+-- `empty-exactly` of proofs/Starts.antt
 pub record AllFramed (s : List ℕ) (e : ℕ) : Type 0 where
   pub framed : (i : ℕ) → i ≤ e → (n : ℕ) × (frame (drop (start s i) s) ≡ Size n)
 

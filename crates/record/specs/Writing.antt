@@ -8,7 +8,8 @@ use Rattle.record.specs.Events.{recordOf}
 use Rattle.record.specs.Answers.{Answer, refused, wrote}
 use Rattle.record.specs.declared.events.Event.{Event}
 
--- 17: "output shorter than the record"
+-- 17: "output shorter than the record"; "Writing takes all field values from 0 to 65,535", and refuses for no other
+-- reason
 unfoldable pub writing : Event → List ℕ → Answer
 writing e out = ltb (length out) (length (recordOf e)) gives refused 17 0 else wrote (length (recordOf e))
 

@@ -1,8 +1,8 @@
 // Trace records: reading them, writing them, and finding record number e in a trace.
 //
 // This layer knows nothing of threads or crashes: a field's value may be anything from 0 to 65,535. Every public call
-// takes any input, always returns, and has no `requires`; its answer, and every byte that it was lent, is an equation
-// with a definition of specs/.
+// takes any input, always returns, and has no `requires`; its answer, and every byte lent for writing, is an equation
+// with a definition of specs/. Behind a shared reference nothing can change.
 mod bytes;
 mod events;
 mod kinds;
