@@ -2,7 +2,7 @@
 -- `before-committed` (Committed), `exact`, `unique`, `broken-stays`, `named-load-counts` (Exactness), `min-explains`,
 -- `max-explains` (Lattice), `explains-is-replay` (Replay), `flush-neutral` (FlushNeutral), `accepted-exactly`,
 -- `turned-away-exactly` (TurnedAway), `ordered-as-demanded` (Queries), `judged-as-demanded` (Demanded),
--- `cases-1-to-11` (Cases) and `random-sessions` (RandomSessions).
+-- `cases-1-to-11` (Cases), `refusals-1-to-5` (NoTrace) and `random-sessions` (RandomSessions).
 pub mod Searching
 pub mod Induction
 pub mod Counting
@@ -30,4 +30,5 @@ pub mod Demanded
 pub mod Encoding
 pub mod Sessions
 pub mod Cases
+pub mod NoTrace
 pub mod RandomSessions
