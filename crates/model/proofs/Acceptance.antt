@@ -22,12 +22,12 @@ use Rattle.model.proofs.Roles.{begin-no-issue}
 -- ---- the list of refusals, read backwards
 
 -- every test that gives a number other than 0 failed
-abbrev Passes : Rules → Type 0
+abbrev pub Passes : Rules → Type 0
 Passes pass = Unit
 Passes (b gives zero else r) = Unit
 Passes (b gives suc k else r) = (b ≡ false) × Passes r
 
-passes : (r : Rules) → answer r ≡ 0 → Passes r
+pub passes : (r : Rules) → answer r ≡ 0 → Passes r
 unfolding answer
 passes pass none = tt
 passes (b gives zero else r) none = tt

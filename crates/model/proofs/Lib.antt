@@ -11,6 +11,10 @@ pub mod Ordering
 pub mod ClockSteps
 pub mod Clocks
 pub mod Acceptance
+pub mod Limits
+pub mod StorePlaces
+pub mod Unchanged
+pub mod LoadRule
 pub mod Committed
 pub mod Closure
 pub mod Pairs

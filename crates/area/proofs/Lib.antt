@@ -1,0 +1,2 @@
+-- What is read after a store.
+pub mod ReadBack

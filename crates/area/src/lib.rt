@@ -1,0 +1,99 @@
+// The lent work area as rows and tables. Reads and stores are total: a cell that is not there reads as 0 and takes no
+// store, so callers owe no bound, and the numbers from 32,768 on are never touched.
+ghost use mathlib.Core.Path.{_≡_};
+ghost use lib.ListN.{getD, set};
+ghost use Rattle.area.specs.Cells.{getRow, putRow, cell, putCell};
+ghost use Rattle.area.specs.Tables.{newestRow};
+
+pub mod numbers;
+pub mod slots;
+
+pub fn get(work: &[u16], i: usize) -> u16
+    ensures { λ r. ⌜ r ≡ getD (now (work .entry)) i 0 ⌝ }
+{
+    if i < work.len() { work[i] } else { 0 }
+}
+
+pub fn put(work: &mut [u16], i: usize, v: u16)
+    ensures { λ _. ⌜ now (work .exit) ≡ set (now (work .entry)) i v ⌝ }
+{
+    if i < work.len() {
+        work[i] = v;
+    }
+}
+
+// Column k of row e.
+fn at_get(work: &[u16], e: usize, k: usize) -> u16
+    ensures { λ r. ⌜ r ≡ getRow (now (work .entry)) e k ⌝ }
+{
+    if e == 0 {
+        return 0;
+    }
+    if 2048 < e {
+        return 0;
+    }
+    if 15 < k {
+        return 0;
+    }
+    get(work, 16 * (e - 1) + k)
+}
+
+fn at_put(work: &mut [u16], e: usize, k: usize, v: u16)
+    ensures { λ _. ⌜ now (work .exit) ≡ putRow (now (work .entry)) e k v ⌝ }
+{
+    if e == 0 {
+        return;
+    }
+    if 2048 < e {
+        return;
+    }
+    if 15 < k {
+        return;
+    }
+    put(work, 16 * (e - 1) + k, v);
+}
+
+// Column k of event e's row.
+pub fn row_get(work: &[u16], e: u16, k: u16) -> u16
+    ensures { λ r. ⌜ r ≡ getRow (now (work .entry)) e k ⌝ }
+{
+    at_get(work, e as usize, k as usize)
+}
+
+pub fn row_put(work: &mut [u16], e: u16, k: u16, v: u16)
+    ensures { λ _. ⌜ now (work .exit) ≡ putRow (now (work .entry)) e k v ⌝ }
+{
+    at_put(work, e as usize, k as usize, v);
+}
+
+// Slot i of the tables, the cells of column 13; module `slots` numbers them.
+pub fn slot_get(work: &[u16], i: usize) -> u16
+    ensures { λ r. ⌜ r ≡ cell (now (work .entry)) i ⌝ }
+{
+    if 2048 <= i {
+        return 0;
+    }
+    at_get(work, i + 1, 13)
+}
+
+pub fn slot_put(work: &mut [u16], i: usize, v: u16)
+    ensures { λ _. ⌜ now (work .exit) ≡ putCell (now (work .entry)) i v ⌝ }
+{
+    if 2048 <= i {
+        return;
+    }
+    at_put(work, i + 1, 13, v);
+}
+
+// The newest store of thread t at location x, in column 15.
+pub fn newest_get(work: &[u16], x: u16, t: u16) -> u16
+    ensures { λ r. ⌜ r ≡ getRow (now (work .entry)) (newestRow x t) 15 ⌝ }
+{
+    at_get(work, 1 + 8 * (x as usize) + (t as usize), 15)
+}
+
+pub fn newest_put(work: &mut [u16], x: u16, t: u16, v: u16)
+    ensures { λ _. ⌜ now (work .exit) ≡ putRow (now (work .entry)) (newestRow x t) 15 v ⌝ }
+{
+    at_put(work, 1 + 8 * (x as usize) + (t as usize), 15, v);
+}

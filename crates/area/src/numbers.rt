@@ -1,0 +1,17 @@
+// Small functions on numbers that branch or could overflow.
+ghost use mathlib.Core.Path.{_≡_};
+ghost use Prim.Native.Nat.{max};
+ghost use Rattle.area.specs.Cells.{up};
+
+// One more, and at most 65,535.
+pub fn next_number(x: u16) -> u16
+    ensures { λ r. ⌜ r ≡ up x ⌝ }
+{
+    if x < 65535 { x + 1 } else { x }
+}
+
+pub fn larger(a: u16, b: u16) -> u16
+    ensures { λ r. ⌜ r ≡ max a b ⌝ }
+{
+    if a < b { b } else { a }
+}

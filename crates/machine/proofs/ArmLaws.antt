@@ -1,0 +1,82 @@
+-- Which arm of the match on the kind is taken, by the range in which the kind is. The single kinds compute.
+use mathlib.Core.Path.{_≡_}
+use mathlib.Core.Logic.{_⊎_, inl, inr}
+use Prim.Native.Nat.{ℕ, _≤_, _<_}
+use native.Mathlib.Omega.{arith}
+use borrow.Author.Tests.{ne-eqb, le-leb, lt-leb}
+use Rattle.model.proofs.Searching.{less?}
+use Rattle.machine.specs.Arms.{byKind}
+
+module _ {A : Type 0} (k : ℕ) (issue commit load flush fence crash skip other : A) where
+  pub flush-arm : 5 ≤ k → k ≤ 6 → flush ≡ byKind k issue commit load flush fence crash skip other
+  unfolding byKind
+  flush-arm low high =
+      rw (
+        ne-eqb k 2 (λ is. omega arith),
+        ne-eqb k 3 (λ is. omega arith),
+        ne-eqb k 4 (λ is. omega arith),
+        le-leb 5 k low,
+        le-leb k 6 high,
+      )
+
+  pub fence-arm : 7 ≤ k → k ≤ 8 → fence ≡ byKind k issue commit load flush fence crash skip other
+  unfolding byKind
+  fence-arm low high =
+      rw (
+        ne-eqb k 2 (λ is. omega arith),
+        ne-eqb k 3 (λ is. omega arith),
+        ne-eqb k 4 (λ is. omega arith),
+        le-leb 5 k (omega arith),
+        lt-leb k 6 (omega arith),
+        le-leb 7 k low,
+        le-leb k 8 high,
+      )
+
+  pub skip-arm : 10 ≤ k → k ≤ 11 → skip ≡ byKind k issue commit load flush fence crash skip other
+  unfolding byKind
+  skip-arm low high =
+      rw (
+        ne-eqb k 2 (λ is. omega arith),
+        ne-eqb k 3 (λ is. omega arith),
+        ne-eqb k 4 (λ is. omega arith),
+        le-leb 5 k (omega arith),
+        lt-leb k 6 (omega arith),
+        le-leb 7 k (omega arith),
+        lt-leb k 8 (omega arith),
+        ne-eqb k 9 (λ is. omega arith),
+        le-leb 10 k low,
+        le-leb k 11 high,
+      )
+
+  pub other-arm : (2 ≤ k → k ≤ 11 → ⊥) → other ≡ byKind k issue commit load flush fence crash skip other
+  unfolding byKind
+  other-arm outside = by-order (less? k 2)
+    where
+      by-order : (k < 2) ⊎ (2 ≤ k) → other ≡ byKind k issue commit load flush fence crash skip other
+      by-order (inl low) =
+          rw (
+            ne-eqb k 2 (λ is. omega arith),
+            ne-eqb k 3 (λ is. omega arith),
+            ne-eqb k 4 (λ is. omega arith),
+            lt-leb 5 k (omega arith),
+            lt-leb 7 k (omega arith),
+            ne-eqb k 9 (λ is. omega arith),
+            lt-leb 10 k (omega arith),
+          )
+      by-order (inr some) = by-top (less? 11 k)
+        where
+          by-top : (11 < k) ⊎ (k ≤ 11) → other ≡ byKind k issue commit load flush fence crash skip other
+          by-top (inr within-range) = absurd (outside some within-range)
+          by-top (inl high) =
+              rw (
+                ne-eqb k 2 (λ is. omega arith),
+                ne-eqb k 3 (λ is. omega arith),
+                ne-eqb k 4 (λ is. omega arith),
+                le-leb 5 k (omega arith),
+                lt-leb k 6 (omega arith),
+                le-leb 7 k (omega arith),
+                lt-leb k 8 (omega arith),
+                ne-eqb k 9 (λ is. omega arith),
+                le-leb 10 k (omega arith),
+                lt-leb k 11 high,
+              )

@@ -1,0 +1,242 @@
+-- The machine turns an event away exactly by the definitions' number: first what the definitions say of each kind, then
+-- that the machine's tests are theirs.
+use mathlib.Core.Path.{_≡_, refl, sym, ap, _∙_}
+use mathlib.Core.Bool.{Bool, true, false, cond, _&&_, _||_, not}
+use Prim.Native.Nat.{ℕ, _<_}
+use native.Mathlib.Omega.{arith}
+use borrow.Author.Tests.{ne-eqb, lt-ltb, le-ltb, leb-true, leb-false}
+use lib.Dec.{eqb, ltb, leb}
+use Rattle.record.specs.declared.events.Event.{Event}
+use Rattle.record.specs.declared.events.Event.the-variants.{Begin, Issue, Commit, Load, Clflush, Clwb}
+use Rattle.record.specs.declared.events.Event.the-variants.{Sfence, Mfence, Crash, SkipOn, SkipOff}
+use Rattle.record.specs.Fields.{fieldsOf}
+use Rattle.record.specs.Table.{rowOf}
+use Rattle.record.specs.Tests.{_gives_else_}
+use Rattle.model.specs.Trace.{thread, location, source, threads, locations, stretch}
+use Rattle.model.specs.Machine.{sourceFits, skipping}
+use Rattle.model.specs.Rules.{answer, rules, refusal}
+use Rattle.machine.specs.Arms.{byKind}
+use Rattle.machine.specs.Twin.{World, threadAt, fitsW}
+use Rattle.machine.specs.Turning.{emptyM, onThread, onPlace, refusalK, refusalW, beginRule, beginRefusal}
+use Rattle.machine.specs.Sim.{issued, done, Sim}
+use Rattle.machine.proofs.Searches.{fits-is}
+
+or-off : (b : Bool) → (b || false) ≡ b
+or-off true = refl
+or-off false = refl
+
+-- ---- what the definitions say of each kind
+
+module _ (ev : ℕ → Event) (n : ℕ) (begun : 0 < n) where
+  not-first : eqb n 0 ≡ false
+  not-first = ne-eqb n 0 (λ is-0. omega arith)
+
+  thread-of : (e : Event) → ev n ≡ e → thread ev n ≡ fieldsOf e .thread
+  thread-of e is = ap (λ (f : Event). fieldsOf f .thread) is
+
+  location-of : (e : Event) → ev n ≡ e → location ev n ≡ fieldsOf e .location
+  location-of e is = ap (λ (f : Event). fieldsOf f .location) is
+
+  abbrev threadRule : ℕ → ℕ → ℕ
+  threadRule t r = cond (ltb 2048 n) 13 (cond (leb (threads ev) t) 7 r)
+
+  abbrev placeRule : ℕ → ℕ → ℕ → ℕ
+  placeRule t x r = threadRule t (cond (leb (locations ev) x) 8 r)
+
+  pub refusal-begin : (v a b : ℕ) → ev n ≡ Begin v a b → refusal ev n ≡ 5
+  unfolding rules answer
+  refusal-begin v a b is = rw (is, not-first, lt-ltb 0 n begun) refl
+
+  refusal-issue : (t x : ℕ) → ev n ≡ Issue t x → refusal ev n ≡ placeRule t x 0
+  unfolding rules answer rowOf
+  refusal-issue t x is =
+      rw (is, thread-of (Issue t x) is, location-of (Issue t x) is, not-first, lt-ltb 0 n begun, or-off) refl
+
+  refusal-commit :
+      (t : ℕ) → ev n ≡ Commit t
+      → refusal ev n ≡ threadRule t (cond (not (not (eqb (issued ev n t) (done ev n t)))) 10 0)
+  unfolding rules answer rowOf
+  refusal-commit t is =
+      rw (is, thread-of (Commit t) is, not-first, lt-ltb 0 n begun, or-off) refl
+
+  refusal-load :
+      (t x s : ℕ) → ev n ≡ Load t x s → refusal ev n ≡ placeRule t x (cond (not (sourceFits ev n)) 9 0)
+  unfolding rules answer rowOf
+  refusal-load t x s is =
+      rw (is, thread-of (Load t x s) is, location-of (Load t x s) is, not-first, lt-ltb 0 n begun, or-off) refl
+
+  refusal-clflush : (t x : ℕ) → ev n ≡ Clflush t x → refusal ev n ≡ placeRule t x 0
+  unfolding rules answer rowOf
+  refusal-clflush t x is =
+      rw (is, thread-of (Clflush t x) is, location-of (Clflush t x) is, not-first, lt-ltb 0 n begun, or-off) refl
+
+  refusal-clwb : (t x : ℕ) → ev n ≡ Clwb t x → refusal ev n ≡ placeRule t x 0
+  unfolding rules answer rowOf
+  refusal-clwb t x is =
+      rw (is, thread-of (Clwb t x) is, location-of (Clwb t x) is, not-first, lt-ltb 0 n begun, or-off) refl
+
+  refusal-sfence : (t : ℕ) → ev n ≡ Sfence t → refusal ev n ≡ threadRule t 0
+  unfolding rules answer rowOf
+  refusal-sfence t is =
+      rw (is, thread-of (Sfence t) is, not-first, lt-ltb 0 n begun, or-off) refl
+
+  refusal-mfence :
+      (t : ℕ) → ev n ≡ Mfence t
+      → refusal ev n ≡ threadRule t (cond (not (eqb (issued ev n t) (done ev n t))) 11 0)
+  unfolding rules answer rowOf
+  refusal-mfence t is =
+      rw (is, thread-of (Mfence t) is, not-first, lt-ltb 0 n begun, or-off) refl
+
+  refusal-crash : ev n ≡ Crash → refusal ev n ≡ cond (ltb 2048 n || eqb (stretch ev n) 8) 13 0
+  unfolding rules answer rowOf
+  refusal-crash is = rw (is, not-first, lt-ltb 0 n begun) refl
+
+  refusal-on : (t : ℕ) → ev n ≡ SkipOn t → refusal ev n ≡ threadRule t (cond (skipping ev n t || false) 12 0)
+  unfolding rules answer rowOf
+  refusal-on t is =
+      rw (is, thread-of (SkipOn t) is, not-first, lt-ltb 0 n begun, or-off (ltb 2048 n)) refl
+
+  refusal-off : (t : ℕ) → ev n ≡ SkipOff t → refusal ev n ≡ threadRule t (cond (not (skipping ev n t)) 12 0)
+  unfolding rules answer rowOf
+  refusal-off t is =
+      rw (is, thread-of (SkipOff t) is, not-first, lt-ltb 0 n begun, or-off (ltb 2048 n)) refl
+
+-- ---- the machine's tests are theirs
+
+-- the same choice, where the second answers agree wherever they count
+under : (b : Bool) (a r r′ : ℕ) → (b ≡ false → r ≡ r′) → (b gives a else r) ≡ cond b a r′
+under true a r r′ agree = refl
+under false a r r′ agree = agree refl
+
+twice : (b : Bool) (a r : ℕ) → cond b a r ≡ cond (not (not b)) a r
+twice true a r = refl
+twice false a r = refl
+
+swapped : (b : Bool) (a r : ℕ) → cond b a r ≡ cond (not b) r a
+swapped true a r = refl
+swapped false a r = refl
+
+module _ (ev : ℕ → Event) (n : ℕ) (w : World) (sim : Sim ev n w) where
+  abbrev begun : 0 < n
+  begun = sim .limits .accepted .some-record
+
+  on-thread : (t r r′ : ℕ) → (t < 8 → r ≡ r′) → onThread (w .machine) t r ≡ threadRule ev n begun t r′
+  on-thread t r r′ agree =
+      rw (sim .numbers .event-is, sim .numbers .threads-is)
+      (under (ltb 2048 n) 13 _ _ (λ _. under (leb (threads ev) t) 7 r r′ (λ below. agree (one-of-eight below))))
+    where
+      one-of-eight : leb (threads ev) t ≡ false → t < 8
+      one-of-eight below = omega (arith, leb-false (threads ev) t below, sim .limits .few-threads)
+
+  on-place :
+      (t x r r′ : ℕ) → (t < 8 → x < 256 → r ≡ r′) → onPlace (w .machine) t x r ≡ placeRule ev n begun t x r′
+  on-place t x r r′ agree =
+      on-thread t _ _
+      (λ few.
+      rw (sim .numbers .locations-is) (under (leb (locations ev) x) 8 r r′ (λ below. agree few (in-range below))))
+    where
+      in-range : leb (locations ev) x ≡ false → x < 256
+      in-range below = omega (arith, leb-false (locations ev) x below, sim .limits .few-locations)
+
+  empty-is :
+      (t a r : ℕ) → t < 8 → (emptyM (w .machine) t gives a else r) ≡ cond (eqb (issued ev n t) (done ev n t)) a r
+  empty-is t a r few =
+      let queue = sim .queues t few in
+      rw (queue .issued-is, queue .committed-is) (under (eqb (issued ev n t) (done ev n t)) a r r (λ _. refl))
+
+  skip-is : (t a r : ℕ) → t < 8 → (threadAt (w .machine) t .skip gives a else r) ≡ cond (skipping ev n t) a r
+  skip-is t a r few = rw (sim .queues t few .skip-is) (under (skipping ev n t) a r r (λ _. refl))
+
+  load-rule :
+      (t x s : ℕ) → ev n ≡ Load t x s → t < 8 → x < 256
+      → _≡_ {A = ℕ} (fitsW w t x s gives 0 else 9) (cond (not (sourceFits ev n)) 9 0)
+  load-rule t x s is few-t few-x =
+      let t-is : t ≡ thread ev n = sym (ap (λ (e : Event). fieldsOf e .thread) is) in
+      let x-is : x ≡ location ev n = sym (ap (λ (e : Event). fieldsOf e .location) is) in
+      let s-is : s ≡ source ev n = sym (ap (λ (e : Event). fieldsOf e .source) is) in
+      rw (t-is, x-is, s-is, fits-is ev n w sim (rw (← t-is) few-t) (rw (← x-is) few-x))
+      (under (sourceFits ev n) 0 9 9 (λ _. refl) ∙ swapped (sourceFits ev n) 0 9)
+
+  crash-rule :
+      (late eighth : Bool) → _≡_ {A = ℕ} (late gives 13 else eighth gives 13 else 0) (cond (late || eighth) 13 0)
+  crash-rule true eighth = refl
+  crash-rule false true = refl
+  crash-rule false false = refl
+
+  refusal-is : (e : Event) → ev n ≡ e → refusalW w e ≡ refusal ev n
+  unfolding refusalK byKind
+  refusal-is (Begin v a b) is = sym (refusal-begin ev n begun v a b is)
+  refusal-is (Issue t x) is = on-place t x 0 0 (λ _ _. refl) ∙ sym (refusal-issue ev n begun t x is)
+  refusal-is (Commit t) is =
+      on-thread t _ _ (λ few. empty-is t 10 0 few ∙ twice (eqb (issued ev n t) (done ev n t)) 10 0)
+      ∙ sym (refusal-commit ev n begun t is)
+  refusal-is (Load t x s) is = on-place t x _ _ (load-rule t x s is) ∙ sym (refusal-load ev n begun t x s is)
+  refusal-is (Clflush t x) is = on-place t x 0 0 (λ _ _. refl) ∙ sym (refusal-clflush ev n begun t x is)
+  refusal-is (Clwb t x) is = on-place t x 0 0 (λ _ _. refl) ∙ sym (refusal-clwb ev n begun t x is)
+  refusal-is (Sfence t) is = on-thread t 0 0 (λ _. refl) ∙ sym (refusal-sfence ev n begun t is)
+  refusal-is (Mfence t) is =
+      on-thread t _ _ (λ few. empty-is t 0 11 few ∙ swapped (eqb (issued ev n t) (done ev n t)) 0 11)
+      ∙ sym (refusal-mfence ev n begun t is)
+  refusal-is Crash is =
+      rw (refusal-crash ev n begun is, sim .numbers .event-is, sim .numbers .stretch-is)
+      (crash-rule (ltb 2048 n) (eqb (stretch ev n) 8))
+  refusal-is (SkipOn t) is =
+      on-thread t _ _
+      (λ few. skip-is t 12 0 few ∙ ap (λ (b : Bool). cond b 12 0) (sym (or-off (skipping ev n t))))
+      ∙ sym (refusal-on ev n begun t is)
+  refusal-is (SkipOff t) is =
+      on-thread t _ _ (λ few. skip-is t 0 12 few ∙ swapped (skipping ev n t) 0 12)
+      ∙ sym (refusal-off ev n begun t is)
+
+  -- THE MACHINE TURNS AWAY WHAT THE DEFINITIONS DO
+  pub refusals : refusalW w (ev n) ≡ refusal ev n
+  refusals = refusal-is (ev n) refl
+
+-- ---- the first event
+
+-- the tests of a begin's fields, one after the other and together
+begin-tests :
+    (version some-threads few-threads some-locations few-locations : Bool)
+    → _≡_ {A = ℕ}
+    (version gives
+    (not some-threads gives 6 else
+    not few-threads gives 6 else
+    not some-locations gives 6 else
+    not few-locations gives 6 else
+    0) else
+    6)
+    (cond (not (version && (some-threads && few-threads) && (some-locations && few-locations))) 6 0)
+begin-tests false b c d e = refl
+begin-tests true false c d e = refl
+begin-tests true true false d e = refl
+begin-tests true true true false e = refl
+begin-tests true true true true false = refl
+begin-tests true true true true true = refl
+
+ltb-not : (a b : ℕ) → ltb a b ≡ not (leb b a)
+ltb-not a b = by-test (leb b a) refl
+  where
+    by-test : (le : Bool) → leb b a ≡ le → ltb a b ≡ not le
+    by-test true is = le-ltb a b (leb-true b a is)
+    by-test false is = lt-ltb a b (leb-false b a is)
+
+module _ (ev : ℕ → Event) where
+  first-is : (e : Event) → ev 0 ≡ e → beginRefusal e ≡ refusal ev 0
+  unfolding beginRefusal beginRule rules answer rowOf
+  first-is (Begin v a b) is =
+      rw (is, ltb-not a 1, ltb-not 8 a, ltb-not b 1, ltb-not 256 b)
+      (begin-tests (eqb v 1) (leb 1 a) (leb a 8) (leb 1 b) (leb b 256))
+  first-is (Issue t x) is = rw is
+  first-is (Commit t) is = rw is
+  first-is (Load t x s) is = rw is
+  first-is (Clflush t x) is = rw is
+  first-is (Clwb t x) is = rw is
+  first-is (Sfence t) is = rw is
+  first-is (Mfence t) is = rw is
+  first-is Crash is = rw is
+  first-is (SkipOn t) is = rw is
+  first-is (SkipOff t) is = rw is
+
+  -- and so of the first event
+  pub begin-refusals : beginRefusal (ev 0) ≡ refusal ev 0
+  begin-refusals = first-is (ev 0) refl

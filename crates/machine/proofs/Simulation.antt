@@ -1,0 +1,107 @@
+-- The simulation, one kind at a time: an event that passes takes the state before event n to the state before the next
+-- (`step-next`), and the machine counts the loads that the definitions count (`counts-is`).
+use mathlib.Core.Path.{_≡_, refl, sym, ap, _∙_}
+use mathlib.Core.Bool.{true, false}
+use mathlib.Core.Logic.{_⊎_, inl, inr}
+use Prim.Native.Nat.{ℕ, suc}
+use native.Mathlib.Omega.{arith}
+use borrow.Author.Tests.{eqb-true, eq-eqb}
+use Rattle.record.specs.declared.events.Event.{Event}
+use Rattle.record.specs.declared.events.Event.the-variants.{Begin, Issue, Commit, Load, Clflush, Clwb}
+use Rattle.record.specs.declared.events.Event.the-variants.{Sfence, Mfence, Crash, SkipOn, SkipOff}
+use Rattle.record.specs.Events.{kindOf}
+use Rattle.record.specs.Fields.{fieldsOf}
+use Rattle.record.specs.Table.{rowOf}
+use Rattle.model.specs.Trace.{kind, thread, load?}
+use Rattle.model.specs.Trace as trace
+use Rattle.model.specs.Machine.{counted}
+use Rattle.model.specs.Rules.{refusal}
+use Rattle.model.proofs.Roles.{load-or-not}
+use Rattle.model.proofs.Unchanged.{skipping-on, skipping-off}
+use Rattle.machine.specs.Arms.{byKind}
+use Rattle.machine.specs.Twin.{World}
+use Rattle.machine.specs.Turning.{countsW}
+use Rattle.machine.specs.Effects.{stepK, stepW}
+use Rattle.machine.specs.Sim.{Sim}
+use Rattle.machine.proofs.Keep.{few-own, small-own}
+use Rattle.machine.proofs.Searches.{waiting-is, current-is}
+use Rattle.machine.proofs.Refusals.{refusal-begin}
+use Rattle.machine.proofs.Quiet.{pass-next, skip-next, crash-next}
+use Rattle.machine.proofs.Loads.{load-next}
+use Rattle.machine.proofs.Commits.{commit-next}
+use Rattle.machine.proofs.Issues.{issue-next}
+
+module _ (ev : ℕ → Event) (n : ℕ) (w : World) (sim : Sim ev n w) (passes : refusal ev n ≡ 0) where
+  next-of-issue : kind ev n ≡ 2 → Sim ev (suc n) (stepK w 2 (fieldsOf (ev n)))
+  unfolding stepK byKind rowOf
+  next-of-issue kind-is =
+      issue-next ev n w sim passes (record { test = eq-eqb (kind ev n) 2 kind-is })
+      (few-own ev n (sim .limits) passes 2 kind-is refl) (small-own ev n (sim .limits) passes 2 kind-is refl)
+
+  next-of-commit : kind ev n ≡ 3 → Sim ev (suc n) (stepK w 3 (fieldsOf (ev n)))
+  unfolding stepK byKind rowOf
+  next-of-commit kind-is =
+      commit-next ev n w sim passes (record { test = eq-eqb (kind ev n) 3 kind-is })
+      (few-own ev n (sim .limits) passes 3 kind-is refl)
+
+  next-of-load : kind ev n ≡ 4 → Sim ev (suc n) (stepK w 4 (fieldsOf (ev n)))
+  unfolding stepK byKind rowOf
+  next-of-load kind-is =
+      load-next ev n w sim passes (record { test = eq-eqb (kind ev n) 4 kind-is })
+      (few-own ev n (sim .limits) passes 4 kind-is refl)
+
+  next-of-crash : kind ev n ≡ 9 → Sim ev (suc n) (stepK w 9 (fieldsOf (ev n)))
+  unfolding stepK byKind
+  next-of-crash kind-is = crash-next ev n w sim passes (eq-eqb (kind ev n) 9 kind-is)
+
+  next-of-on : kind ev n ≡ 10 → Sim ev (suc n) (stepK w 10 (fieldsOf (ev n)))
+  unfolding stepK byKind rowOf
+  next-of-on kind-is =
+      skip-next ev n w sim passes true (omega arith) (few-own ev n (sim .limits) passes 10 kind-is refl)
+      (skipping-on ev n (eq-eqb (kind ev n) 10 kind-is))
+
+  next-of-off : kind ev n ≡ 11 → Sim ev (suc n) (stepK w 11 (fieldsOf (ev n)))
+  unfolding stepK byKind rowOf
+  next-of-off kind-is =
+      skip-next ev n w sim passes false (omega arith) (few-own ev n (sim .limits) passes 11 kind-is refl)
+      (skipping-off ev n (eq-eqb (kind ev n) 11 kind-is))
+
+  next-by-kind : (e : Event) → ev n ≡ e → Sim ev (suc n) (stepK w (kindOf e) (fieldsOf (ev n)))
+  unfolding stepK byKind
+  next-by-kind (Begin v a b) is =
+      absurd (omega (arith, sym (refusal-begin ev n (sim .limits .accepted .some-record) v a b is) ∙ passes))
+  next-by-kind (Issue t x) is = next-of-issue (ap kindOf is)
+  next-by-kind (Commit t) is = next-of-commit (ap kindOf is)
+  next-by-kind (Load t x s) is = next-of-load (ap kindOf is)
+  next-by-kind (Clflush t x) is =
+      let kind-is : kind ev n ≡ 5 = ap kindOf is in
+      pass-next ev n w sim passes (omega arith) (omega arith)
+  next-by-kind (Clwb t x) is =
+      let kind-is : kind ev n ≡ 6 = ap kindOf is in
+      pass-next ev n w sim passes (omega arith) (omega arith)
+  next-by-kind (Sfence t) is =
+      let kind-is : kind ev n ≡ 7 = ap kindOf is in
+      pass-next ev n w sim passes (omega arith) (omega arith)
+  next-by-kind (Mfence t) is =
+      let kind-is : kind ev n ≡ 8 = ap kindOf is in
+      pass-next ev n w sim passes (omega arith) (omega arith)
+  next-by-kind Crash is = next-of-crash (ap kindOf is)
+  next-by-kind (SkipOn t) is = next-of-on (ap kindOf is)
+  next-by-kind (SkipOff t) is = next-of-off (ap kindOf is)
+
+  -- AN EVENT THAT PASSES LEADS TO THE NEXT STATE
+  pub step-next : Sim ev (suc n) (stepW w (ev n))
+  step-next = next-by-kind (ev n) refl
+
+  -- THE MACHINE COUNTS THE LOADS THAT COUNT
+  pub counts-is : countsW w (ev n) ≡ counted ev n
+  unfolding countsW counted rowOf
+  counts-is = by-role (load-or-not ev n)
+    where
+      by-role : trace.Load ev n ⊎ (load? ev n ≡ false) → countsW w (ev n) ≡ counted ev n
+      by-role (inr no-load) = rw no-load refl
+      by-role (inl loads) =
+          let kind-is = eqb-true (kind ev n) 4 (loads .test) in
+          let few = few-own ev n (sim .limits) passes 4 kind-is refl in
+          let small = small-own ev n (sim .limits) passes 4 kind-is refl in
+          rw (waiting-is ev n w sim few small, current-is ev n w sim small, sim .queues (thread ev n) few .skip-is) refl

@@ -1,0 +1,168 @@
+-- The state after an accepted begin, over a cleared work area: a begin changes nothing that the tables hold, and before
+-- it there is nothing.
+use mathlib.Core.Path.{_≡_, refl, sym, _∙_}
+use mathlib.Core.Bool.{Bool, false}
+use mathlib.Core.List.{List, []}
+use mathlib.Core.Logic.{_≢_}
+use Prim.Native.Nat.{ℕ, suc, _-_, _≤_, _<_}
+use native.Mathlib.Omega.{arith}
+use borrow.Author.Tests.{eqb-true, ne-eqb}
+use lib.ListN.{length, length-replicate}
+use Rattle.record.specs.declared.events.Event.{Event}
+use Rattle.model.specs.Search.{last}
+use Rattle.model.specs.Trace.{kind, is, commit?, crash?, Issue, threads, locations, stretch}
+use Rattle.model.specs.Trace.{count, commits}
+use Rattle.model.specs.Machine.{skipping}
+use Rattle.model.specs.Rules.{refusal, Accepted}
+use Rattle.model.specs.Stores.{newestAt, landed}
+use Rattle.model.proofs.Searching.{false-true}
+use Rattle.model.proofs.Counting.{stretch-else}
+use Rattle.model.proofs.Roles.{begin-no-issue}
+use Rattle.model.proofs.ClockSteps.{seen-zero}
+use Rattle.model.proofs.Acceptance.{begins}
+use Rattle.model.proofs.Limits.{few-threads, few-locations}
+use Rattle.model.proofs.StorePlaces.{store-at-none}
+use Rattle.model.proofs.Unchanged.{count-away, live-away, skipping-away, newest-away, seen-away, landed-away}
+use Rattle.area.specs.Cells.{getRow}
+use Rattle.area.specs.Tables.{newestRow, lastSlot, commitsSlot, seenSlot}
+use Rattle.area.specs.Rows.{Rows}
+use Rattle.machine.specs.Threads.{fresh}
+use Rattle.machine.specs.Twin.{world, threadAt, started}
+use Rattle.machine.specs.Sim.{issued, done, Queue, Links, Tables, Sim}
+use Rattle.machine.proofs.CellLaws.{replicate-at}
+
+module _ (ev : ℕ → Event) (passes : refusal ev 0 ≡ 0) where
+  accepted : Accepted ev 1
+  accepted = record { some-record = omega arith; passes = only-first }
+    where
+      only-first : (e : ℕ) → e < 1 → refusal ev e ≡ 0
+      only-first e inside = let is-0 : e ≡ 0 = omega arith in rw is-0 passes
+
+  kind-is : kind ev 0 ≡ 1
+  kind-is = eqb-true (kind ev 0) 1 (begins ev 1 accepted)
+
+  -- a begin is of no other kind
+  no-other : (k : ℕ) → k ≢ 1 → is ev k 0 ≡ false
+  no-other k not-1 = let is-1 = kind-is in ne-eqb (kind ev 0) k (λ is-k. not-1 (omega arith))
+
+  no-crash : crash? ev 0 ≡ false
+  no-crash = no-other 9 (λ is-1. omega arith)
+
+  -- ---- nothing yet
+
+  -- the clauses of the definitions before the first event
+  stretch-0 : stretch ev 0 ≡ 1
+  unfolding stretch
+  stretch-0 = refl
+
+  count-0 : (f : ℕ → Bool) (j t : ℕ) → count ev f 0 j t ≡ 0
+  unfolding count
+  count-0 f j t = refl
+
+  skipping-0 : (t : ℕ) → skipping ev 0 t ≡ false
+  unfolding skipping
+  skipping-0 t = refl
+
+  newest-0 : (x t : ℕ) → newestAt ev 0 x t ≡ 0
+  unfolding newestAt last
+  newest-0 x t = refl
+
+  landed-0 : (x : ℕ) → landed ev 0 x ≡ []
+  unfolding landed
+  landed-0 x = refl
+
+  stretch-1 : stretch ev 1 ≡ 1
+  stretch-1 = stretch-else ev 0 no-crash ∙ stretch-0
+
+  -- and after it
+  live-1 : (k t : ℕ) → k ≢ 1 → count ev (is ev k) 1 (stretch ev 1) t ≡ 0
+  live-1 k t not-1 =
+      live-away ev (is ev k) 0 t no-crash (λ is-k _. false-true (sym (no-other k not-1) ∙ is-k))
+      ∙ count-0 (is ev k) (stretch ev 0) t
+
+  skipping-1 : (t : ℕ) → skipping ev 1 t ≡ false
+  skipping-1 t =
+      skipping-away ev 0 t no-crash
+      (λ on _. false-true (sym (no-other 10 (λ is-1. omega arith)) ∙ on))
+      (λ off _. false-true (sym (no-other 11 (λ is-1. omega arith)) ∙ off))
+      ∙ skipping-0 t
+
+  fresh-queue : (t : ℕ) → Queue ev 1 t fresh
+  fresh-queue t =
+      let none = live-1 2 t (λ is-1. omega arith) in
+      record {
+        issued-is = sym none;
+        committed-is = sym (live-1 3 t (λ is-1. omega arith));
+        skip-is = sym (skipping-1 t);
+        oldest-is = sym (store-at-none ev 1 (stretch ev 1) t (done ev 1 t) (omega arith));
+        newest-is = sym (store-at-none ev 1 (stretch ev 1) t (issued ev 1 t - 1) (omega arith));
+      }
+
+  -- ---- over a cleared work area
+
+  module _ (l : List ℕ) (room : 32768 ≤ length l) (clear : (e k : ℕ) → getRow l e k ≡ 0) where
+    no-store : (p : ℕ) → p < 1 → Issue ev p → ⊥
+    no-store p early store =
+        let is-0 : p ≡ 0 = omega arith in
+        begin-no-issue ev (begins ev 1 accepted) (rw is-0 at store)
+
+    rows-start : Rows ev 1 l
+    rows-start = record {
+      room = room;
+      stores = λ p early store. absurd (no-store p early store);
+      others = λ p _. clear p 10;
+      chains = λ x _.
+          rw (
+            landed-away ev 0 x (λ commits _. false-true (sym (no-other 3 (λ is-1. omega arith)) ∙ commits .test)),
+            landed-0 x,
+          )
+          (clear (suc (lastSlot x)) 13);
+      commits-are = λ j t _ _ _.
+          clear (suc (commitsSlot j t)) 13
+          ∙ sym
+          (count-away ev (commit? ev) 0 j t
+          (λ commits _ _. false-true (sym (no-other 3 (λ is-1. omega arith)) ∙ commits))
+          ∙ count-0 (commit? ev) j t);
+    }
+
+    links-start : Links ev 1 l
+    links-start = record {
+      next-is = λ p early store. absurd (no-store p early store);
+      free = λ p _. clear p 11;
+    }
+
+    tables-start : Tables ev 1 l
+    tables-start = record {
+      newest-are = λ x t _ _.
+          clear (newestRow x t) 15
+          ∙ sym (newest-away ev 0 x t (λ store _ _. no-store 0 (omega arith) store) ∙ newest-0 x t);
+      seen-are = λ t u _ _.
+          clear (suc (seenSlot t u)) 13
+          ∙ sym
+          (seen-away ev 0 t u no-crash (λ loads _. false-true (sym (no-other 4 (λ is-1. omega arith)) ∙ loads .test))
+          ∙ seen-zero ev t u);
+    }
+
+    -- THE STATE AFTER AN ACCEPTED BEGIN
+    pub sim-start : Sim ev 1 (world (started (threads ev) (locations ev)) l)
+    unfolding started threadAt
+    sim-start = record {
+      numbers = record {
+        event-is = refl;
+        stretch-is = sym stretch-1;
+        threads-is = refl;
+        locations-is = refl;
+        eight = length-replicate 8 fresh;
+      };
+      limits = record {
+        accepted = accepted;
+        few-threads = few-threads ev 1 accepted;
+        few-locations = few-locations ev 1 accepted;
+        few-events = omega arith;
+        few-crashes = omega (arith, stretch-1);
+      };
+      queues = λ t _. rw (replicate-at 8 fresh t) (fresh-queue t);
+      rows = rows-start;
+      links = links-start;
+      tables = tables-start;
+    }

@@ -1,0 +1,13 @@
+-- The definition's test. Assumes nothing.
+use borrow.Author.Tests.{lt-ltb, le-ltb}
+use Rattle.machine.proofs.rules.in_time.Statement.{statement}
+use Rattle.machine.proofs.rules.in_time.Tie as tie
+
+returns : tie.Need-returns
+returns c = simp (lt-ltb _ _ (c .if1 .taken))
+
+returns-2 : tie.Need-returns-2
+returns-2 c = simp (le-ltb _ _ (c .if1 .left))
+
+pub in-time-spec : {M : Type 1} → statement M
+in-time-spec = tie.close (tie.spec returns returns-2)

@@ -1,0 +1,19 @@
+-- The code's match on the kind of an event, with ranges for flushes, fences and skips: what each kind chooses.
+use Prim.Native.Nat.{ℕ}
+use mathlib.Core.Bool.{Bool, _&&_}
+use lib.Dec.{eqb, leb}
+use Rattle.record.specs.Tests.{_gives_else_}
+
+abbrev pub within : ℕ → ℕ → ℕ → Bool
+within low high k = leb low k && leb k high
+
+unfoldable pub byKind : {A : Type 0} → ℕ → A → A → A → A → A → A → A → A → A
+byKind k issue commit load flush fence crash skip other =
+    eqb k 2 gives issue else
+    eqb k 3 gives commit else
+    eqb k 4 gives load else
+    within 5 6 k gives flush else
+    within 7 8 k gives fence else
+    eqb k 9 gives crash else
+    within 10 11 k gives skip else
+    other

@@ -1,0 +1,9 @@
+-- The code's steps as total functions, which its contracts cite (Threads, Twin, Arms, Turning, Effects, Orders), and
+-- what ties them to the definitions (Sim).
+pub mod Threads
+pub mod Twin
+pub mod Arms
+pub mod Turning
+pub mod Effects
+pub mod Orders
+pub mod Sim

@@ -1,0 +1,32 @@
+// How two stores stand, from their rows.
+ghost use mathlib.Core.Path.{_≡_};
+ghost use Rattle.machine.specs.Orders.{storeW, orderW};
+use model::Order;
+
+// Event p is a store.
+pub fn is_store(work: &[u16], p: u16) -> bool
+    ensures { λ r. ⌜ r ≡ storeW (now (work .entry)) p ⌝ }
+{
+    area::row_get(work, p, 10) != 0
+}
+
+// How store p stands to store q: by the clocks of the two, if they are of the same stretch.
+pub fn order_of(work: &[u16], p: u16, q: u16) -> Order
+    ensures { λ r. ⌜ r ≡ orderW (now (work .entry)) p q ⌝ }
+{
+    if p == q {
+        return Order::Same;
+    }
+    if area::row_get(work, p, 10) != area::row_get(work, q, 10) {
+        return Order::Neither;
+    }
+    let t = area::row_get(work, p, 8);
+    if area::row_get(work, p, t) <= area::row_get(work, q, t) {
+        return Order::Before;
+    }
+    let u = area::row_get(work, q, 8);
+    if area::row_get(work, q, u) <= area::row_get(work, p, u) {
+        return Order::After;
+    }
+    Order::Neither
+}

@@ -1,0 +1,33 @@
+-- Searches over a trace that a program's tables hold: a thread's store by its place, the newest store of a thread at a
+-- location, and the committed stores of a location. No contract cites them.
+use Prim.Native.Nat.{ℕ, zero, suc}
+use mathlib.Core.Bool.{Bool, cond, _&&_}
+use mathlib.Core.List.{List, [], _∷_}
+use lib.Dec.{eqb}
+use Rattle.record.specs.declared.events.Event.{Event}
+use Rattle.model.specs.Search.{last}
+use Rattle.model.specs.Trace.{thread, location, issue?, commit?, stretch, place}
+use Rattle.model.specs.Machine.{committed}
+
+module _ (ev : ℕ → Event) where
+  -- the store of thread t in stretch j with i stores before it, among the first n events; 0 if there is none
+  abbrev pub atPlace : ℕ → ℕ → ℕ → ℕ → Bool
+  atPlace j t i p = issue? ev p && eqb (stretch ev p) j && eqb (thread ev p) t && eqb (place ev p) i
+
+  unfoldable pub storeAt : ℕ → ℕ → ℕ → ℕ → ℕ
+  storeAt n j t i = last n (atPlace j t i)
+
+  -- the newest store of thread t at location x, in whichever stretch, among the first n events; 0 if there is none
+  abbrev pub madeAt : ℕ → ℕ → ℕ → Bool
+  madeAt x t p = issue? ev p && eqb (location ev p) x && eqb (thread ev p) t
+
+  unfoldable pub newestAt : ℕ → ℕ → ℕ → ℕ
+  newestAt n x t = last n (madeAt x t)
+
+  -- the stores committed at location x by the first n events, in whichever stretch, newest first
+  abbrev pub landsAt : ℕ → ℕ → Bool
+  landsAt x n = commit? ev n && eqb (location ev (committed ev n)) x
+
+  unfoldable pub landed : ℕ → ℕ → List ℕ
+  landed zero x = []
+  landed (suc n) x = cond (landsAt x n) (committed ev n ∷ landed n x) (landed n x)

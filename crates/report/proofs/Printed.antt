@@ -1,0 +1,22 @@
+-- Document 01, "The program `verdict`": what cases 1 and 2 print in whole, and the line of a refusal, computed by the
+-- definitions from the answers of cases 1, 2 and 8. Assumes nothing.
+use mathlib.Core.Path.{_≡_, refl}
+use mathlib.Core.List.{[], _∷_}
+use Rattle.model.specs.Answers.{refused, robust, broken, flush, tabulate}
+use Rattle.report.specs.Decimal.{digitsWithin, digits}
+use Rattle.report.specs.Lines.{ascii, spaced, line, countAt, cutLine, cutLines}
+use Rattle.report.specs.Lines.{refusedLine, robustLines, brokenLines, linesOf}
+
+pub case-1-prints :
+    linesOf (broken 11 11 5 7 flush) 1 1 []
+    ≡ ascii "events 11\nverdict broken\nload 11\nmissing 5\nobserved 7\nkind flush\n"
+unfolding brokenLines line spaced digits digitsWithin
+case-1-prints = refl
+
+pub case-2-prints : linesOf (robust 7 50) 2 1 (0 ∷ 1 ∷ []) ≡ ascii "events 7\nverdict robust\ncut 1 0 1\nshare 50\n"
+unfolding robustLines cutLines cutLine countAt tabulate line spaced digits digitsWithin
+case-2-prints = refl
+
+pub case-8-prints : linesOf (refused 9 3) 1 1 [] ≡ ascii "refused 9 3\n"
+unfolding refusedLine line spaced digits digitsWithin
+case-8-prints = refl
