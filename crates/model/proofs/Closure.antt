@@ -101,19 +101,19 @@ module _ (ev : ℕ → Event) where
     -- ---- which stores are in the closure
 
     -- p is an observed store or happens before one
-    record Reached (p : ℕ) : Type 0 where
-      q : ℕ
-      observed : Observed ev N q
-      order : AtOrBefore ev p q
+    pub record Reached (p : ℕ) : Type 0 where
+      pub q : ℕ
+      pub observed : Observed ev N q
+      pub order : AtOrBefore ev p q
 
     -- place i of thread t is in the clock of an observed store q of stretch j
-    record InClock (j t i : ℕ) : Type 0 where
-      q : ℕ
-      observed : Observed ev N q
-      in-j : stretch ev q ≡ j
-      in-clock : i < vc ev q t
+    pub record InClock (j t i : ℕ) : Type 0 where
+      pub q : ℕ
+      pub observed : Observed ev N q
+      pub in-j : stretch ev q ≡ j
+      pub in-clock : i < vc ev q t
 
-    in-some-clock : (j t i : ℕ) → i < closure ev N j t → InClock j t i
+    pub in-some-clock : (j t i : ℕ) → i < closure ev N j t → InClock j t i
     unfolding closure
     in-some-clock j t i below =
         let (q, inside, asked) = most→ N (asks ev N j t) i below in
@@ -133,13 +133,13 @@ module _ (ev : ℕ → Event) where
             }
         by-test q asked (inr fails) = let none : i < 0 = rw fails at asked in absurd (omega arith)
 
-    clock-in-closure : (q t i : ℕ) → Observed ev N q → i < vc ev q t → i < closure ev N (stretch ev q) t
+    pub clock-in-closure : (q t i : ℕ) → Observed ev N q → i < vc ev q t → i < closure ev N (stretch ev q) t
     unfolding closure
     clock-in-closure q t i observed in-clock =
         →most N (asks ev N (stretch ev q) t) i q (observed-is-kept N accepted q observed .early)
         (rw (both _ _ (→observed N q observed) (eqb-same (stretch ev q))) in-clock)
 
-    reached-is-in : (p : ℕ) → Issue ev p → Reached p → In ev (closure ev N) p
+    pub reached-is-in : (p : ℕ) → Issue ev p → Reached p → In ev (closure ev N) p
     reached-is-in p store reached =
         let q = reached .q in
         let kept = observed-is-kept N accepted q (reached .observed) in
@@ -149,7 +149,7 @@ module _ (ev : ℕ → Event) where
         in
         rw in-stretch (clock-in-closure q (thread ev p) _ (reached .observed) (rw (← in-stretch) in-clock))
 
-    in-is-reached : (p : ℕ) → Issue ev p → In ev (closure ev N) p → Reached p
+    pub in-is-reached : (p : ℕ) → Issue ev p → In ev (closure ev N) p → Reached p
     in-is-reached p store inside =
         let it = in-some-clock (stretch ev p) (thread ev p) (place ev p) inside in
         let kept = observed-is-kept N accepted (it .q) (it .observed) in
@@ -203,7 +203,7 @@ module _ (ev : ℕ → Event) where
         p-committed (inl same) = rw same (kept .committed)
         p-committed (inr before) = before-committed ev N accepted p q before (kept .committed) .committed
 
-    closure-fits : (j t : ℕ) → closure ev N j t ≤ finished ev N j t
+    pub closure-fits : (j t : ℕ) → closure ev N j t ≤ finished ev N j t
     closure-fits = closure-below (finished ev N) reached-is-finished
       where
         reached-is-finished : (p : ℕ) → Issue ev p → Reached p → In ev (finished ev N) p

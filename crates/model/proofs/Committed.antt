@@ -16,7 +16,7 @@ use Rattle.model.specs.Trace.{stretch, count, issues, commits, place}
 use Rattle.model.specs.Machine.{committedBy, commitsIt, commitOf}
 use Rattle.model.specs.HappensBefore.{Precedes, own, read, chain, Before}
 use Rattle.model.specs.Rules.{Accepted}
-use Rattle.model.proofs.Searching.{test, less?, both, parts, last-of}
+use Rattle.model.proofs.Searching.{test, less?, both, parts, last-is, last-of}
 use Rattle.model.proofs.Counting.{count-mono, count-lt, AtPlace, at-place, place-unique}
 use Rattle.model.proofs.Acceptance.{store-not-0, commit-queued, source-from}
 use Rattle.model.proofs.Acceptance.{From, FromCommit, from-own, from-commit, from-past}
@@ -50,6 +50,11 @@ module _ (ev : ℕ → Event) where
           by-thread = eqb-true _ _ (middle .1);
           at-place = eqb-true _ _ (outer .1);
         }
+
+    -- what the search for p's commit finds
+    pub commit-found : (p : ℕ) → commitOf ev N p ≢ 0 → CommitOf p (commitOf ev N p)
+    unfolding commitOf
+    commit-found p some = let found = last-is N (commitsIt ev p) some in commit-of→ p _ (found .0) (found .1)
 
     →commit-of : (p e : ℕ) → CommitOf p e → commitsIt ev p e ≡ true
     →commit-of p e it = both _ _ (both _ _ in-stretch (eq-eqb _ _ (it .by-thread))) (eq-eqb _ _ (it .at-place))
@@ -86,7 +91,7 @@ module _ (ev : ℕ → Event) where
           at-place = rw (found .in-j, found .by-t) (found .at-i);
         }
 
-    has-commit : (p e : ℕ) → CommitOf p e → Committed p
+    pub has-commit : (p e : ℕ) → CommitOf p e → Committed p
     has-commit p e it =
         let passed : committedBy ev e < commits ev N (stretch ev p) (thread ev p) =
         rw (← it .in-stretch, ← it .by-thread) (count-lt ev (commit? ev) e N (it .commits-it .test) (it .inside))

@@ -16,9 +16,14 @@ pub mod StorePlaces
 pub mod Unchanged
 pub mod LoadRule
 pub mod Committed
+pub mod Effects
+pub mod Ranges
+pub mod ChainOrder
 pub mod Closure
 pub mod Pairs
 pub mod Exactness
+pub mod RulingSteps
+pub mod RepeatedLoads
 pub mod Lattice
 pub mod Replay
 pub mod Renumbering

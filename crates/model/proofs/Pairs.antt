@@ -52,7 +52,7 @@ module _ (ev : ℕ → Event) where
       (or-right (ltb (stretch ev (source ev l)) (stretch ev p)) _
       (both _ _ (eq-eqb _ _ (in-same .0)) (lt-ltb _ _ (in-same .1))))
 
-  forbids→ : (l p : ℕ) → forbids? ev l p ≡ true → Forbids ev l p
+  pub forbids→ : (l p : ℕ) → forbids? ev l p ≡ true → Forbids ev l p
   unfolding forbids?
   forbids→ l p passes =
       let to-it = counted ev l && issue? ev p && eqb (location ev p) (location ev l) in
@@ -68,7 +68,7 @@ module _ (ev : ℕ → Event) where
         newer = newer→ l p (with-newer .1);
       }
 
-  →forbids : (l p : ℕ) → Forbids ev l p → forbids? ev l p ≡ true
+  pub →forbids : (l p : ℕ) → Forbids ev l p → forbids? ev l p ≡ true
   unfolding forbids?
   →forbids l p it = both _ _ (both _ _ (both _ _ counted-store to-it) earlier) (→newer l p (it .newer))
     where
@@ -81,13 +81,13 @@ module _ (ev : ℕ → Event) where
       earlier : ltb (stretch ev p) (stretch ev l) ≡ true
       earlier = lt-ltb _ _ (it .earlier)
 
-  forbidden→ : (N p : ℕ) → forbidden? ev N p ≡ true → Forbidden ev N p
+  pub forbidden→ : (N p : ℕ) → forbidden? ev N p ≡ true → Forbidden ev N p
   unfolding forbidden?
   forbidden→ N p passes =
       let found = some→ N (λ l. forbids? ev l p) passes in
       (found .0, found .1, forbids→ (found .0) p (found .2))
 
-  →forbidden : (N p : ℕ) → Forbidden ev N p → forbidden? ev N p ≡ true
+  pub →forbidden : (N p : ℕ) → Forbidden ev N p → forbidden? ev N p ≡ true
   unfolding forbidden?
   →forbidden N p (l, inside, it) = →some N (λ l. forbids? ev l p) l inside (→forbids l p it)
 

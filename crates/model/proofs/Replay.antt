@@ -4,73 +4,24 @@
 use Prim.Native.Nat.{ℕ, zero, suc, _≤_, _<_}
 use native.Mathlib.Omega.{arith}
 use mathlib.Core.Path.{_≡_, refl, sym, ap, _∙_}
-use mathlib.Core.Bool.{Bool, true, false, cond, _&&_}
+use mathlib.Core.Bool.{true, false, _&&_}
 use mathlib.Core.Logic.{_⊎_, inl, inr, _≢_, _↔_}
 use lib.Dec.{eqb, ltb}
 use borrow.Author.Tests.{eqb-true, eq-eqb, ltb-true, lt-ltb}
 use Rattle.record.specs.declared.events.Event.{Event}
-use Rattle.model.specs.Search.{last}
-use Rattle.model.specs.Trace.{thread, location, source, issue?, commit?, Issue, Commit}
-use Rattle.model.specs.Trace.{stretch, issues, commits, place}
-use Rattle.model.specs.Machine.{beside, committedBy, oldest, committed, commitOf, counted}
+use Rattle.model.specs.Trace.{thread, location, source, commit?, Issue, Commit}
+use Rattle.model.specs.Trace.{stretch, commits, place}
+use Rattle.model.specs.Machine.{committed, commitOf, counted}
 use Rattle.model.specs.Rules.{Accepted}
 use Rattle.model.specs.Choice.{Choice, In, finished, Closed, Observes, Forbids, Newer, ExplainsLoad, Explains}
 use Rattle.model.specs.Memory.{puts?, memory}
-use Rattle.model.proofs.Searching.{false-true, test, same?, less?, both, parts, last-is, last-of}
-use Rattle.model.proofs.Counting.{stretch-mono, earlier-stretch, count-mono, AtPlace, at-place, place-unique}
-use Rattle.model.proofs.Acceptance.{FromPast, counted-source, store-not-0, beside-is, Beside}
+use Rattle.model.proofs.Searching.{false-true, test, same?, less?, both, parts}
+use Rattle.model.proofs.Counting.{stretch-mono, earlier-stretch}
+use Rattle.model.proofs.Acceptance.{counted-source, store-not-0}
 use Rattle.model.proofs.Committed.{Committed, CommitOf, commit-of, is-commit-of}
-use Rattle.model.proofs.Committed.{store-waits, commits-below-issues}
+use Rattle.model.proofs.Effects.{effect, effect-is, effect-commit, commit-effect}
 
 module _ (ev : ℕ → Event) where
-  -- ---- the store that a commit makes take effect
-
-  -- commit d makes store p take effect
-  record Effect (d p : ℕ) : Type 0 where
-    own : Beside ev d p
-    early : p < d
-    at-place : place ev p ≡ committedBy ev d
-
-  effect-is : (d p : ℕ) → Effect d p → committed ev d ≡ p
-  unfolding committed
-  effect-is d p it = last-of d (oldest ev d) p (it .early) passes (λ q early also. only q early also)
-    where
-      passes : oldest ev d p ≡ true
-      passes = both _ _ (both _ _ in-stretch (eq-eqb _ _ (it .own .by-thread))) (eq-eqb _ _ (it .at-place))
-        where
-          in-stretch : (issue? ev p && eqb (stretch ev p) (stretch ev d)) ≡ true
-          in-stretch = both _ _ (it .own .store .test) (eq-eqb _ _ (it .own .in-stretch))
-
-      only : (q : ℕ) → q < d → oldest ev d q ≡ true → q ≤ p
-      only q early also =
-          let fits = parts (beside ev q d) _ also in
-          let own = beside-is ev d q (fits .0) in
-          let same : q ≡ p =
-          place-unique ev (issue? ev) q p (own .store .test) (it .own .store .test)
-          (own .in-stretch ∙ sym (it .own .in-stretch)) (own .by-thread ∙ sym (it .own .by-thread))
-          (eqb-true _ _ (fits .1) ∙ sym (it .at-place))
-          in
-          omega arith
-
-  -- in an accepted trace each commit has one
-  effect : (N d : ℕ) → Accepted ev N → d < N → Commit ev d → Effect d (committed ev d)
-  effect N d accepted inside commits = rw (effect-is d (found .p) it) it
-    where
-      some-waits : committedBy ev d < issues ev d (stretch ev d) (thread ev d)
-      some-waits =
-          let differs = store-waits ev N accepted d inside commits in
-          omega (arith, commits-below-issues ev N accepted d (stretch ev d) (thread ev d) (omega arith))
-
-      found : AtPlace ev (issue? ev) d (stretch ev d) (thread ev d) (committedBy ev d)
-      found = at-place ev (issue? ev) d (stretch ev d) (thread ev d) (committedBy ev d) some-waits
-
-      it : Effect d (found .p)
-      it = record {
-        own = record { store = record { test = found .passes }; in-stretch = found .in-j; by-thread = found .by-t };
-        early = found .early;
-        at-place = rw (found .in-j, found .by-t) (found .at-i);
-      }
-
   -- ---- what the memory holds
 
   module _ (c : Choice) (j x : ℕ) where
@@ -145,16 +96,10 @@ module _ (ev : ℕ → Event) where
         let three = parts in-time _ (four .0) in
         let two = parts (commit? ev d) _ (three .0) in
         let commits : Commit ev d = record { test = two .0 } in
-        let it = effect N d accepted (omega arith) commits in
+        let it = effect ev N d accepted (omega arith) commits in
         record {
           is-it = refl;
-          commit = record {
-            inside = before;
-            commits-it = commits;
-            in-stretch = sym (it .own .in-stretch);
-            by-thread = sym (it .own .by-thread);
-            at-place = sym (it .at-place);
-          };
+          commit = effect-commit ev l d p before commits it;
           store = it .own .store;
           to-it = eqb-true _ _ (three .1);
           earlier = rw (it .own .in-stretch) (ltb-true _ _ (two .1));
@@ -212,13 +157,8 @@ module _ (ev : ℕ → Event) where
         before : d < l
         before = earlier-stretch ev d l d-earlier
 
-        -- the commit has one store
         is-it : committed ev d ≡ p
-        is-it =
-            let it = effect N d accepted (commit .inside) (commit .commits-it) in
-            place-unique ev (issue? ev) (committed ev d) p (it .own .store .test) (store .test)
-            (it .own .in-stretch ∙ commit .in-stretch) (it .own .by-thread ∙ commit .by-thread)
-            (it .at-place ∙ commit .at-place)
+        is-it = effect-is ev d p (commit-effect ev N N d p accepted (omega arith) store commit)
 
         at-x : eqb (location ev (committed ev d)) (location ev l) ≡ true
         at-x = rw is-it (eq-eqb _ _ to-it)

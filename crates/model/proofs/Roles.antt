@@ -8,7 +8,7 @@ use mathlib.Core.Bool.{true, false}
 use mathlib.Core.Logic.{_⊎_, inl, inr, _≢_}
 use borrow.Author.Tests.{eqb-true, ne-eqb}
 use Rattle.record.specs.declared.events.Event.{Event}
-use Rattle.model.specs.Trace.{kind, is, issue?, load?, crash?, Issue, Commit, Load}
+use Rattle.model.specs.Trace.{kind, is, issue?, commit?, load?, crash?, Issue, Commit, Load}
 use Rattle.model.proofs.Searching.{false-true, test}
 
 module _ (ev : ℕ → Event) where
@@ -29,6 +29,9 @@ module _ (ev : ℕ → Event) where
 
   pub load-no-issue : {e : ℕ} → Load ev e → issue? ev e ≡ false
   load-no-issue {e} loads = one-kind e 4 2 (omega arith) (loads .test)
+
+  pub load-no-commit : {e : ℕ} → Load ev e → commit? ev e ≡ false
+  load-no-commit {e} loads = one-kind e 4 3 (omega arith) (loads .test)
 
   pub begin-no-issue : {e : ℕ} → is ev 1 e ≡ true → Issue ev e → ⊥
   begin-no-issue {e} begins store = false-true (sym (one-kind e 1 2 (omega arith) begins) ∙ store .test)

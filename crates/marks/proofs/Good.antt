@@ -1,0 +1,253 @@
+-- For the fold over a trace: the invariant of judging, its start, its steps and its two ends. While no pair is found,
+-- the rows of the machine and the marks say what the definitions say of the first n events. A counted load that breaks
+-- gives the ruling of every accepted trace that begins with these events, so later records need nothing of the marks.
+-- In order: `Good`; `good-start`; `good-quiet`; the counted load, `good-load` and `good-breaks`; `good-robust`.
+use Prim.Native.Nat.{ℕ, suc, _≤_, _<_}
+use native.Mathlib.Omega.{arith}
+use mathlib.Core.Path.{_≡_, refl, sym, _∙_, ap₂}
+use mathlib.Core.Bool.{Bool, true, false, cond, _&&_, not}
+use mathlib.Core.Logic.{_⊎_, inl, inr, _≢_}
+use mathlib.Core.List.{List}
+use lib.ListN.{length}
+use Rattle.record.specs.declared.events.Event.{Event}
+use Rattle.model.specs.Search.{some, most}
+use Rattle.model.specs.Trace.{location, source, commit?, Issue, stretch, count}
+use Rattle.model.specs.Machine.{counted}
+use Rattle.model.specs.Stores.{landed}
+use Rattle.model.specs.Rules.{Accepted}
+use Rattle.model.specs.Choice.{robust, broken, finished}
+use Rattle.model.specs.Verdict.{forbidden?, observed?, bad?, closure}
+use Rattle.model.specs.Verdict.{missingOf, observedOf, rulingOf}
+use Rattle.model.specs.Answers.{cutOf, shareOf}
+use Rattle.model.proofs.Searching.{false-true, test, same?}
+use Rattle.model.proofs.Counting.{count-skip}
+use Rattle.model.proofs.Roles.{load-no-issue, load-no-commit}
+use Rattle.model.proofs.Acceptance.{prefix, event-bound, counted-crosses}
+use Rattle.model.proofs.Ranges.{load-has-location, location-bound}
+use Rattle.model.proofs.RulingSteps.{marked?, uncounted-no-worse, robust-ruling, broken-ruling}
+use Rattle.model.proofs.ChainOrder.{landed-else}
+use Rattle.model.proofs.RepeatedLoads.{Repeats}
+use Rattle.area.specs.Cells.{getRow, cell}
+use Rattle.area.specs.Tables.{cutSlot, lowSlot, lastSlot, commitsSlot, loadStretchSlot}
+use Rattle.area.specs.Rows.{Rows, JudgingSlot, ButMachine}
+use Rattle.marks.specs.Marking.{loaded}
+use Rattle.marks.specs.Testing.{hits, missingBy, observedBy}
+use Rattle.marks.specs.Judged.{repeated, noted, judged, breaks}
+use Rattle.marks.specs.Ending.{copied, shareBy}
+use Rattle.marks.proofs.Frames.{ButMarks, loaded-leaves, judging-leaves, rows-leave}
+use Rattle.marks.proofs.Says.{says-there}
+use Rattle.marks.proofs.Stepping.{Judging, quiet-step, again-step, load-step}
+use Rattle.marks.proofs.Breaking.{hits-is-bad}
+use Rattle.marks.proofs.Finding.{missing-is, observed-is}
+use Rattle.marks.proofs.Closing.{cut-is, share-is}
+use Rattle.marks.proofs.Noting.{Loads, loads-later, repeats-noted, noted-says, noted-loads}
+
+module _ (ev : ℕ → Event) where
+  -- ---- the invariant
+
+  pub record Good (n : ℕ) (w : List ℕ) : Type 0 where
+    pub rows : Rows ev n w
+    pub judging : Judging ev n w
+    pub no-pair : bad? ev n ≡ false
+    pub loads : Loads ev n w
+
+  -- ---- the start: a cleared work area
+
+  pub good-start : (w : List ℕ) → 32768 ≤ length w → ((e k : ℕ) → getRow w e k ≡ 0) → Good 0 w
+  unfolding marked? forbidden? observed? closure bad? some most landed count
+  good-start w room empty = record {
+    rows = record {
+      room = room;
+      stores = λ p early store. absurd (omega arith);
+      others = λ p none. empty p 10;
+      chains = λ x there. empty (suc (lastSlot x)) 13;
+      commits-are = λ j t from-1 to-8 there. empty (suc (commitsSlot j t)) 13;
+    };
+    judging = record {
+      flags = λ e from-1 to-2048. empty e 12;
+      cuts = λ j t from-1 to-7 there. empty (suc (cutSlot j t)) 13;
+      lows = λ j t from-1 to-7 there some. absurd (some (empty (suc (lowSlot j t)) 13));
+      lowest = λ j t from-1 to-7 there p in-f. false-true in-f;
+    };
+    no-pair = refl;
+    loads = λ x there some. absurd (some (empty (suc (loadStretchSlot x)) 13));
+  }
+
+  -- ---- an event that is no counted load: v is the work area after the machine's step
+
+  pub good-quiet :
+      (n : ℕ) (w v : List ℕ) → Accepted ev (suc n) → counted ev n ≡ false → ButMachine w v → Rows ev (suc n) v
+      → Good n w → Good (suc n) v
+  good-quiet n w v accepted uncounted leaves rows good = record {
+    rows = rows;
+    judging =
+        quiet-step ev n accepted v uncounted (says-there ev (leaves .flags) same-marks (good .judging));
+    no-pair = uncounted-no-worse ev n accepted uncounted (good .no-pair);
+    loads =
+        loads-later ev n (suc n) w v (omega arith) (λ i from-496 below. leaves .slots i (load-slot i from-496 below))
+        (good .loads);
+  }
+    where
+      same-marks : (i : ℕ) → 256 ≤ i → i < 368 → cell v i ≡ cell w i
+      same-marks i from-256 below = leaves .slots i (record { in-range = inl (from-256, below) })
+
+      load-slot : (i : ℕ) → 496 ≤ i → i < 1008 → JudgingSlot i
+      load-slot i from-496 below = record { in-range = inr (from-496, below) }
+
+  -- ---- a counted load
+
+  -- event n's load judged: the work area after it, whether it breaks, and the missing store that is then found
+  abbrev pub afterLoad : ℕ → List ℕ → List ℕ
+  afterLoad n w = judged w (stretch ev n) (location ev n) (source ev n)
+
+  abbrev pub breaksThere : ℕ → List ℕ → Bool
+  breaksThere n w = breaks w (stretch ev n) (location ev n) (source ev n)
+
+  abbrev pub missingThere : ℕ → List ℕ → ℕ
+  missingThere n w = missingBy (afterLoad n w) (suc n)
+
+  module _
+      (n : ℕ) (accepted : Accepted ev (suc n)) (counts : counted ev n ≡ true) (w : List ℕ) (good : Good n w) where
+    abbrev j : ℕ
+    j = stretch ev n
+
+    abbrev x : ℕ
+    x = location ev n
+
+    abbrev s : ℕ
+    s = source ev n
+
+    x-there : location ev n < 256
+    x-there =
+        location-bound ev (suc n) accepted n (omega arith) (load-has-location ev (counted-crosses ev n counts .loads))
+
+    -- a load is neither issue nor commit, so the rows stay those of the first events
+    rows-next : (v : List ℕ) → Rows ev n v → Rows ev (suc n) v
+    rows-next v rows = record {
+      room = rows .room;
+      stores = λ p early store. rows .stores p (earlier p early store (same? p n)) store;
+      others = λ p none. rows .others p (λ early store. none (omega arith) store);
+      chains = λ y there. rw (landed-else ev n y no-commit) (rows .chains y there);
+      commits-are = λ i t from-1 to-8 there.
+          rows .commits-are i t from-1 to-8 there ∙ sym (count-skip ev _ n i t no-commit);
+    }
+      where
+        no-commit : commit? ev n ≡ false
+        no-commit = load-no-commit ev (counted-crosses ev n counts .loads)
+
+        earlier : (p : ℕ) → p < suc n → Issue ev p → (p ≡ n) ⊎ (p ≢ n) → p < n
+        earlier p early store (inr differs) = omega arith
+        earlier p early store (inl is-n) =
+            let no-issue = load-no-issue ev (counted-crosses ev n counts .loads) in
+            false-true (sym no-issue ∙ (rw is-n at store) .test)
+
+    -- the load that it repeats, if it repeats one
+    repeats-one : repeated w j x s ≡ true → (l : ℕ) × Repeats ev l n
+    repeats-one = repeats-noted ev n w (good .loads) counts x-there
+
+    -- the marks after it
+    judged-judging : Judging ev (suc n) (judged w j x s)
+    unfolding judged
+    judged-judging = by-test (test (repeated w j x s))
+      where
+        by-test :
+            (repeated w j x s ≡ true) ⊎ (repeated w j x s ≡ false)
+            → Judging ev (suc n) (cond (repeated w j x s) w (noted (loaded w x s) j x s))
+        by-test (inl again) =
+            let (l, repeats) = repeats-one again in
+            rw again (again-step ev n accepted l w repeats (good .judging))
+        by-test (inr new) =
+            rw new
+            (noted-says ev (suc n) (loaded w x s) j x s (load-step ev n accepted counts w (good .rows) (good .judging)))
+
+    judged-rows : Rows ev (suc n) (judged w j x s)
+    judged-rows = rows-next (judged w j x s) (rows-leave (judging-leaves w j x s) (good .rows))
+
+    -- the loads noted after it
+    judged-loads : Loads ev (suc n) (judged w j x s)
+    unfolding judged
+    judged-loads = by-test (test (repeated w j x s))
+      where
+        load : ButMarks w (loaded w x s)
+        load = loaded-leaves w x s
+
+        kept : Loads ev n (loaded w x s)
+        kept =
+            loads-later ev n n w (loaded w x s) (omega arith)
+            (λ i from-496 below. load .slots i (inr (omega arith))) (good .loads)
+
+        by-test :
+            (repeated w j x s ≡ true) ⊎ (repeated w j x s ≡ false)
+            → Loads ev (suc n) (cond (repeated w j x s) w (noted (loaded w x s) j x s))
+        by-test (inl again) =
+            rw again (loads-later ev n (suc n) w w (omega arith) (λ i from-496 below. refl) (good .loads))
+        by-test (inr new) =
+            let room : 32768 ≤ length (loaded w x s) = omega (arith, load .size, good .rows .room) in
+            rw new (noted-loads ev n (loaded w x s) room counts x-there kept)
+
+    -- the test on the marks after it
+    hits-after : hits (judged w j x s) ≡ bad? ev (suc n)
+    hits-after = hits-is-bad ev (suc n) accepted (judged w j x s) judged-judging
+
+    -- after a repeated load the marks are as before, and there was no pair
+    no-pair-again : repeated w j x s ≡ true → false ≡ bad? ev (suc n)
+    unfolding judged
+    no-pair-again again =
+        let (l, repeats) = repeats-one again in
+        let part = prefix ev (suc n) n accepted (omega (arith, repeats .before)) (omega arith) in
+        let before : hits w ≡ bad? ev n = hits-is-bad ev n part w (good .judging) in
+        sym (good .no-pair) ∙ (sym before ∙ (rw again at hits-after))
+
+    -- the answer: with it there is a pair
+    breaks-is-bad : breaks w j x s ≡ bad? ev (suc n)
+    unfolding breaks
+    breaks-is-bad = by-test (test (repeated w j x s))
+      where
+        by-test :
+            (repeated w j x s ≡ true) ⊎ (repeated w j x s ≡ false)
+            → (not (repeated w j x s) && hits (judged w j x s)) ≡ bad? ev (suc n)
+        by-test (inl again) = rw again (no-pair-again again)
+        by-test (inr new) = rw new hits-after
+
+    -- A COUNTED LOAD that does not break keeps the invariant
+    pub good-load : breaksThere n w ≡ false → Good (suc n) (afterLoad n w)
+    good-load holds = record {
+      rows = judged-rows;
+      judging = judged-judging;
+      no-pair = sym breaks-is-bad ∙ holds;
+      loads = judged-loads;
+    }
+
+    -- A COUNTED LOAD that breaks: the ruling of every accepted trace that begins with these events
+    pub good-breaks :
+        (N : ℕ) → Accepted ev N → n < N → breaksThere n w ≡ true
+        → rulingOf ev N ≡ broken n (missingThere n w) (observedBy (afterLoad n w) (suc n) (missingThere n w))
+    good-breaks N whole inside breaks-it =
+        broken-ruling ev N n whole inside (good .no-pair) bad ∙ sym (ap₂ (broken n) missing observed)
+      where
+        bad : bad? ev (suc n) ≡ true
+        bad = sym breaks-is-bad ∙ breaks-it
+
+        few : suc n ≤ 2049
+        few = omega (arith, event-bound ev (suc n) accepted n (omega arith))
+
+        missing : missingBy (judged w j x s) (suc n) ≡ missingOf ev (suc n)
+        missing = missing-is ev (suc n) accepted few (judged w j x s) judged-rows judged-judging
+
+        observed :
+            observedBy (judged w j x s) (suc n) (missingBy (judged w j x s) (suc n)) ≡ observedOf ev (suc n)
+        observed = rw missing (observed-is ev (suc n) accepted few (judged w j x s) judged-rows judged-judging bad)
+
+  -- ---- the end of a robust trace
+
+  pub record RobustEnd (N : ℕ) (w out : List ℕ) : Type 0 where
+    pub ruling : rulingOf ev N ≡ robust (closure ev N)
+    pub cut : copied 56 w out ≡ cutOf (closure ev N)
+    pub share : shareBy w (stretch ev N) ≡ shareOf (closure ev N) (finished ev N)
+
+  pub good-robust : (N : ℕ) (w out : List ℕ) → Accepted ev N → length out ≡ 56 → Good N w → RobustEnd N w out
+  good-robust N w out accepted size good = record {
+    ruling = robust-ruling ev N (good .no-pair);
+    cut = cut-is ev N accepted w (good .judging) out size;
+    share = share-is ev N accepted w (good .judging) (good .rows);
+  }

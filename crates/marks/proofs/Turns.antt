@@ -1,0 +1,190 @@
+-- One turn of each of the code's loops, and the functions that make several calls: laws over plain variables, which the
+-- functions' proofs hand what their calls ensure.
+-- In order: marking and the walk; observing; a counted load; the searches; the judged load; the end.
+use Prim.Native.Nat.{ℕ, zero, suc, _+_, _-_, _*_, _/_, _≤_, _<_, max}
+use native.Mathlib.Nat.{not-suc-le-zero}
+use native.Mathlib.Numerals.{sub-one, add-one}
+use native.Mathlib.Omega.{arith}
+use mathlib.Core.Path.{_≡_, refl, sym, _∙_, ap}
+use mathlib.Core.List.{List, [], _∷_, _++_}
+use mathlib.Core.Bool.{Bool, true, false}
+use lib.ListN.{set}
+use borrow.Author.Tests.{eq-eqb, ne-eqb, lt-ltb, le-ltb}
+use Rattle.model.specs.Search.{some, firstFrom}
+use Rattle.model.specs.Answers.{tabulate, sum, percent}
+use Rattle.model.proofs.Searching.{or-left}
+use Rattle.area.specs.Cells.{getRow, putRow, cell, putCell}
+use Rattle.area.specs.Tables.{cutSlot, lowSlot, lastSlot, loadStretchSlot, loadSourceSlot}
+use Rattle.marks.specs.Marking.{forbid, observe, lower, putMark, marked, walked}
+use Rattle.marks.specs.Marking.{raisedAt, raised, seenFrom, loaded}
+use Rattle.marks.specs.Testing.{hits}
+use Rattle.marks.specs.Judged.{repeated, noted, judged, breaks}
+use Rattle.marks.specs.Ending.{cutAt, copied, doneAt}
+
+-- ---- marking and the walk
+
+pub mark-steps :
+    (w w₁ w₂ : List ℕ) (p j t own f i old low f′ : ℕ)
+    → j ≡ getRow w p 10 → t ≡ getRow w p 8 → own ≡ getRow w p t → f ≡ getRow w p 12
+    → i ≡ lowSlot j t → old ≡ cell w i → low ≡ lower old own → w₁ ≡ putMark w i low
+    → f′ ≡ forbid f → w₂ ≡ putRow w₁ p 12 f′ → w₂ ≡ marked w p
+unfolding marked
+mark-steps w w₁ w₂ p j t own f i old low f′ j-is t-is own-is f-is i-is old-is low-is put-low f′-is put-flag =
+    put-flag ∙ rw (put-low, f′-is, low-is, old-is, own-is, f-is, i-is, t-is, j-is)
+
+pub walk-end : (n : ℕ) (w : List ℕ) (p stop : ℕ) → p ≡ 0 → w ≡ walked n w p stop
+unfolding walked
+walk-end zero w p stop end = refl
+walk-end (suc n) w p stop end = rw (eq-eqb p 0 end)
+
+pub walk-stop : (n : ℕ) (w : List ℕ) (p stop : ℕ) → (p ≡ 0 → ⊥) → p ≡ stop → w ≡ walked n w p stop
+unfolding walked
+walk-stop zero w p stop store at-stop = refl
+walk-stop (suc n) w p stop store at-stop = rw (ne-eqb p 0 store, eq-eqb p stop at-stop)
+
+pub walk-more :
+    (n : ℕ) (w : List ℕ) (p stop : ℕ) → 0 < n → (p ≡ 0 → ⊥) → (p ≡ stop → ⊥)
+    → walked (n - 1) (marked w p) (getRow w p 14) stop ≡ walked n w p stop
+unfolding walked
+walk-more zero w p stop some store not-stop = absurd (not-suc-le-zero some)
+walk-more (suc n) w p stop some store not-stop = rw (ne-eqb p 0 store, ne-eqb p stop not-stop, sub-one)
+
+pub walk-none : (n : ℕ) (w : List ℕ) (p stop : ℕ) → n ≡ 0 → w ≡ walked n w p stop
+unfolding walked
+walk-none n w p stop none = rw none
+
+-- ---- observing
+
+pub raise-steps :
+    (w w₁ : List ℕ) (s j u i old new v : ℕ)
+    → i ≡ cutSlot j u → old ≡ cell w i → new ≡ getRow w s u → v ≡ max old new → w₁ ≡ putMark w i v
+    → w₁ ≡ raisedAt w s j u
+raise-steps w w₁ s j u i old new v i-is old-is new-is v-is put-it = put-it ∙ rw (v-is, old-is, new-is, i-is)
+
+pub raise-more : (u : ℕ) (w : List ℕ) (s j : ℕ) → raisedAt (raised u w s j) s j u ≡ raised (u + 1) w s j
+unfolding raised
+raise-more u w s j = rw add-one
+
+pub see-steps :
+    (w w₁ w₂ : List ℕ) (s j f f′ : ℕ)
+    → j ≡ getRow w s 10 → f ≡ getRow w s 12 → f′ ≡ observe f → w₁ ≡ putRow w s 12 f′ → w₂ ≡ raised 8 w₁ s j
+    → w₂ ≡ seenFrom w s
+unfolding seenFrom
+see-steps w w₁ w₂ s j f f′ j-is f-is f′-is put-flag all-raised = all-raised ∙ rw (put-flag, f′-is, f-is, j-is)
+
+-- ---- a counted load
+
+pub loaded-none :
+    (w w₁ : List ℕ) (x s i h : ℕ)
+    → s ≡ 0 → i ≡ lastSlot x → h ≡ cell w i → w₁ ≡ walked 2048 w h s → w₁ ≡ loaded w x s
+unfolding loaded
+loaded-none w w₁ x s i h none i-is h-is walk-is = rw (eq-eqb s 0 none) (walk-is ∙ rw (h-is, i-is))
+
+pub loaded-from :
+    (w w₁ w₂ : List ℕ) (x s i h : ℕ)
+    → (s ≡ 0 → ⊥) → i ≡ lastSlot x → h ≡ cell w i → w₁ ≡ walked 2048 w h s → w₂ ≡ seenFrom w₁ s → w₂ ≡ loaded w x s
+unfolding loaded
+loaded-from w w₁ w₂ x s i h store i-is h-is walk-is seen = rw (ne-eqb s 0 store) (seen ∙ rw (walk-is, h-is, i-is))
+
+-- ---- the searches
+
+-- downwards
+pub some-here :
+    (i n : ℕ) (f : ℕ → Bool) (b : Bool) → 0 < i → b ≡ f (i - 1) → b ≡ true → some i f ≡ some n f → true ≡ some n f
+unfolding some
+some-here zero n f b left is-f passes same = absurd (not-suc-le-zero left)
+some-here (suc i) n f b left is-f passes same =
+    let at-i : suc i - 1 ≡ i = omega arith in
+    sym (or-left (f i) (some i f) (sym (is-f ∙ ap f at-i) ∙ passes)) ∙ same
+
+pub some-on :
+    (i : ℕ) (f : ℕ → Bool) (b : Bool) → 0 < i → b ≡ f (i - 1) → b ≡ false → some (i - 1) f ≡ some i f
+unfolding some
+some-on zero f b left is-f fails = absurd (not-suc-le-zero left)
+some-on (suc i) f b left is-f fails =
+    let at-i : suc i - 1 ≡ i = omega arith in
+    rw (at-i, sym (is-f ∙ ap f at-i) ∙ fails)
+
+pub some-done : (i n : ℕ) (f : ℕ → Bool) → i ≡ 0 → some i f ≡ some n f → false ≡ some n f
+unfolding some
+some-done zero n f none same = same
+some-done (suc i) n f none same = absurd (omega arith)
+
+-- upwards
+module _ (p n : ℕ) (f : ℕ → Bool) where
+  pub first-here : (b : Bool) → p < n → b ≡ f p → b ≡ true → p ≡ firstFrom p (n - p) f
+  unfolding firstFrom
+  first-here b left is-f passes = by-left (n - p) refl
+    where
+      by-left : (k : ℕ) → n - p ≡ k → p ≡ firstFrom p k f
+      by-left zero none = absurd (omega arith)
+      by-left (suc k) more = rw (← is-f, passes)
+
+  pub first-on :
+      (b : Bool) → p < n → b ≡ f p → b ≡ false → firstFrom (p + 1) (n - (p + 1)) f ≡ firstFrom p (n - p) f
+  unfolding firstFrom
+  first-on b left is-f fails = by-left (n - p) refl
+    where
+      by-left : (k : ℕ) → n - p ≡ k → firstFrom (p + 1) (n - (p + 1)) f ≡ firstFrom p k f
+      by-left zero none = absurd (omega arith)
+      by-left (suc k) more = let left-is : n - (p + 1) ≡ k = omega arith in rw (← is-f, fails, left-is, add-one)
+
+  pub first-done : n ≤ p → p ≡ firstFrom p (n - p) f
+  unfolding firstFrom
+  first-done none = let left-is : n - p ≡ 0 = omega arith in rw left-is
+
+-- ---- the judged load
+
+pub noted-steps :
+    (w w₁ w₂ : List ℕ) (j x s i k : ℕ)
+    → x < 256 → i ≡ loadStretchSlot x → w₁ ≡ putCell w i j → k ≡ loadSourceSlot x → w₂ ≡ putCell w₁ k s
+    → w₂ ≡ noted w j x s
+unfolding noted
+noted-steps w w₁ w₂ j x s i k there i-is put-stretch k-is put-source =
+    rw (lt-ltb x 256 there) (put-source ∙ rw (put-stretch, i-is, k-is))
+
+pub not-noted : (w : List ℕ) (j x s : ℕ) → 256 ≤ x → w ≡ noted w j x s
+unfolding noted
+not-noted w j x s none = rw (le-ltb x 256 none)
+
+module _ (w : List ℕ) (j x s : ℕ) (again : Bool) (again-is : again ≡ repeated w j x s) where
+  pub judged-again : again ≡ true → (false ≡ breaks w j x s) × (w ≡ judged w j x s)
+  unfolding judged breaks
+  judged-again repeats = rw (← again-is, repeats) (refl, refl)
+
+  pub judged-steps :
+      (w₁ w₂ : List ℕ) (bad : Bool)
+      → again ≡ false → w₁ ≡ loaded w x s → w₂ ≡ noted w₁ j x s → bad ≡ hits w₂
+      → (bad ≡ breaks w j x s) × (w₂ ≡ judged w j x s)
+  unfolding judged breaks
+  judged-steps w₁ w₂ bad new load-is note-is bad-is =
+      rw (← again-is, new, bad-is, note-is, load-is) (refl, refl)
+
+-- ---- the end
+
+pub copied-more : (i : ℕ) (w out : List ℕ) → set (copied i w out) i (cutAt w i) ≡ copied (i + 1) w out
+unfolding copied
+copied-more i w out = rw add-one
+
+pub sum-append : (xs : List ℕ) (y : ℕ) → sum (xs ++ (y ∷ [])) ≡ sum xs + y
+unfolding sum
+sum-append [] y = omega arith
+sum-append (x ∷ xs) y = omega (arith, sum-append xs y)
+
+pub sum-more : (i : ℕ) (f : ℕ → ℕ) → sum (tabulate i f) + f i ≡ sum (tabulate (i + 1) f)
+unfolding tabulate
+sum-more i f = rw (add-one, sum-append (tabulate i f) (f i))
+
+pub done-below : (w : List ℕ) (top i : ℕ) → i / 8 + 1 < top → cell w (368 + i) ≡ doneAt w top i
+done-below w top i below = rw (lt-ltb (i / 8 + 1) top below)
+
+pub done-above : (w : List ℕ) (top i : ℕ) → top ≤ i / 8 + 1 → 0 ≡ doneAt w top i
+done-above w top i above = rw (le-ltb (i / 8 + 1) top above)
+
+pub percent-none : (k n : ℕ) → n ≡ 0 → 100 ≡ percent k n
+percent-none k zero none = refl
+percent-none k (suc n) none = absurd (omega arith)
+
+pub percent-some : (k n : ℕ) → (n ≡ 0 → ⊥) → 100 * k / n ≡ percent k n
+percent-some k zero some = absurd (some refl)
+percent-some k (suc n) some = refl

@@ -1,0 +1,74 @@
+-- The calls in their order are the definition's steps. Assumes nothing.
+use Rattle.marks.proofs.Turns.{mark-steps}
+use borrow.Author.Needs.{needs}
+use Rattle.marks.proofs.walk.mark.Statement.{statement}
+use Rattle.marks.proofs.walk.mark.Tie as tie
+
+row-get-requires : tie.Need-row-get-requires
+row-get-requires c κs = search needs
+
+row-get-requires-2 : tie.Need-row-get-requires-2
+row-get-requires-2 c κs = search needs
+
+row-get-requires-3 : tie.Need-row-get-requires-3
+row-get-requires-3 c κs = search needs
+
+row-get-requires-4 : tie.Need-row-get-requires-4
+row-get-requires-4 c κs = search needs
+
+low-requires : tie.Need-low-requires
+low-requires c κs = search needs
+
+slot-get-requires : tie.Need-slot-get-requires
+slot-get-requires c κs = search needs
+
+lower-requires : tie.Need-lower-requires
+lower-requires c κs = search needs
+
+put-mark-requires : tie.Need-put-mark-requires
+put-mark-requires c κs = search needs
+
+forbid-requires : tie.Need-forbid-requires
+forbid-requires c κs = search needs
+
+row-put-requires : tie.Need-row-put-requires
+row-put-requires c κs = search needs
+
+same-length : tie.Need-same-length
+same-length c = search needs
+
+returns : tie.Need-returns
+returns c =
+    let at-row-put = c .before .before in
+    let at-forbid = at-row-put .before in
+    let at-work = at-forbid .before .before .before in
+    let at-put-mark = at-work .before in
+    let at-lower = at-put-mark .before in
+    let at-slot-get = at-lower .before .before in
+    let at-low = at-slot-get .before .before in
+    let at-row-get4 = at-low .before in
+    let at-row-get3 = at-row-get4 .before .before in
+    let at-row-get2 = at-row-get3 .before .before in
+    let at-row-get = at-row-get2 .before .before in
+    mark-steps _ _ _ _ _ _ _ _ _ _ _ _
+    (at-row-get .row-get .ensures) (at-row-get2 .row-get2 .ensures) (at-row-get3 .row-get3 .ensures)
+    (at-row-get4 .row-get4 .ensures) (at-low .low .ensures)
+    (at-slot-get .slot-get .ensures) (at-lower .lower .ensures) (at-put-mark .put-mark .ensures)
+    (at-forbid .forbid .ensures) (at-row-put .row-put .ensures)
+
+pub mark-spec : {M : Type 1} → statement M
+mark-spec =
+    tie.close
+    (tie.spec
+    row-get-requires
+    row-get-requires-2
+    row-get-requires-3
+    row-get-requires-4
+    low-requires
+    slot-get-requires
+    lower-requires
+    put-mark-requires
+    forbid-requires
+    row-put-requires
+    same-length
+    returns)

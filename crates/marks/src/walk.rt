@@ -1,0 +1,38 @@
+// The stores on a location's chain become forbidden, from the newest back to a load's source.
+ghost use mathlib.Core.Path.{_≡_};
+ghost use Rattle.marks.specs.Marking.{marked, walked};
+use crate::flags;
+
+// Store p becomes forbidden: its flag, and the lowest place of its stretch and thread.
+fn mark(work: &mut [u16], p: u16)
+    ensures { λ _. ⌜ now (work .exit) ≡ marked (now (work .entry)) p ⌝ }
+{
+    let j = area::row_get(work, p, 10);
+    let t = area::row_get(work, p, 8);
+    let own = area::row_get(work, p, t);
+    let f = area::row_get(work, p, 12);
+    let i = area::slots::low(j, t);
+    let old = area::slot_get(work, i);
+    flags::put_mark(work, i, flags::lower(old, own));
+    area::row_put(work, p, 12, flags::forbid(f));
+}
+
+// Each store of the chain from `first` on, up to `stop`; a chain has at most 2,048 stores.
+pub fn walk(work: &mut [u16], first: u16, stop: u16)
+    ensures { λ _. ⌜ now (work .exit) ≡ walked 2048 (now (work .entry)) first stop ⌝ }
+{
+    let mut p = first;
+    let mut n: u16 = 2048;
+    while 0 < n {
+        if p == 0 {
+            return;
+        }
+        if p == stop {
+            return;
+        }
+        let next = area::row_get(work, p, 14);
+        mark(work, p);
+        p = next;
+        n -= 1;
+    }
+}
