@@ -62,10 +62,6 @@ pub row-zero : (l : List ℕ) (k : ℕ) → getRow l 0 k ≡ 0
 unfolding getRow
 row-zero l k = refl
 
-pub put-zero : (l : List ℕ) (k v : ℕ) → putRow l 0 k v ≡ l
-unfolding putRow
-put-zero l k v = refl
-
 -- there is no slot from 2,048 on
 pub no-slot : (l : List ℕ) (i : ℕ) → 2048 ≤ i → cell l i ≡ 0
 unfolding getRow

@@ -1,15 +1,15 @@
 -- Stretches and counts: how they change from event to event, and that a place has one event. Assumes nothing.
 use Prim.Native.Nat.{ℕ, zero, suc, _+_, _≤_, _<_}
 use native.Mathlib.Omega.{arith}
-use mathlib.Core.Path.{_≡_, refl, sym, _∙_, ap}
+use mathlib.Core.Path.{_≡_, refl, _∙_}
 use mathlib.Core.Bool.{Bool, true, false, _&&_}
 use mathlib.Core.Logic.{_⊎_, inl, inr, _≢_}
 use lib.Dec.{eqb}
-use borrow.Author.Tests.{eqb-true, eqb-false, eq-eqb, ne-eqb}
+use borrow.Author.Tests.{eqb-true, eq-eqb}
 use Rattle.record.specs.declared.events.Event.{Event}
 use Rattle.model.specs.Search.{bit}
 use Rattle.model.specs.Trace.{thread, crash?, stretch, count}
-use Rattle.model.proofs.Searching.{same?, less?, test, both, parts, false-true, eqb-same}
+use Rattle.model.proofs.Searching.{same?, less?, test, both, parts}
 
 module _ (ev : ℕ → Event) where
   -- ---- stretches
@@ -57,20 +57,6 @@ module _ (ev : ℕ → Event) where
   pub count-skip : (f : ℕ → Bool) (n j t : ℕ) → f n ≡ false → count ev f (suc n) j t ≡ count ev f n j t
   unfolding count
   count-skip f n j t h = rw h (omega arith)
-
-  -- the count just past an event, of its own thread and stretch
-  pub count-self :
-      (f : ℕ → Bool) (n : ℕ)
-      → count ev f (suc n) (stretch ev n) (thread ev n) ≡ count ev f n (stretch ev n) (thread ev n) + bit (f n)
-  unfolding count
-  count-self f n = rw (eqb-same (stretch ev n), eqb-same (thread ev n)) (by-test (f n))
-    where
-      by-test :
-          (b : Bool)
-          → count ev f n (stretch ev n) (thread ev n) + bit (b && true && true)
-          ≡ count ev f n (stretch ev n) (thread ev n) + bit b
-      by-test true = refl
-      by-test false = refl
 
   pub count-mono : (f : ℕ → Bool) (n m j t : ℕ) → n ≤ m → count ev f n j t ≤ count ev f m j t
   unfolding count
