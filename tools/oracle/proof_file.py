@@ -85,15 +85,20 @@ def imported(names: list[str]) -> list[str]:
 
 
 def wrapped(items: Iterable[str], indent: str) -> str:
-    """An antt list in lines of at most 120 columns."""
+    """An antt list in lines of at most 150 bytes; no item is parted."""
     lines, line = [], indent
     for item in list(items) + ["[]"]:
         piece = item if line == indent else " ∷ " + item
-        if len(line + piece) > 116:
+        if len((line + piece).encode()) > 146:
             lines.append(line)
             line, piece = indent, "∷ " + item
         line += piece
     return "\n".join(lines + [line])
+
+
+def shown_record(event: Event) -> str:
+    """The bytes of an event's record, as the items of an antt list."""
+    return " ∷ ".join(str(byte) for byte in oracle.encode(event))
 
 
 def shown_event(event: Event) -> str:
@@ -133,7 +138,7 @@ def proof_file(which: str, listed: list[tuple[str, bytes, list[str]]]) -> str:
     kinds = {event.kind for _, data, _ in listed for event in events_of(data)}
     used = "\n".join(imported([CONSTRUCTORS[kind] for kind in sorted(kinds)]))
     name = {"cases": "cases-1-to-11", "random": "random-sessions"}[which]
-    bytes_ = [(title, wrapped((str(byte) for byte in data), "    ")) for title, data, _ in listed]
+    bytes_ = [(title, wrapped(map(shown_record, events_of(data)), "    ")) for title, data, _ in listed]
     events = [(title, wrapped(map(shown_event, events_of(data)), "    ")) for title, data, _ in listed]
     answers = [(title, shown_answer(lines)) for title, _, lines in listed]
     return "\n\n".join([
