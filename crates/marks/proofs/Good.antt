@@ -25,7 +25,7 @@ use Rattle.model.proofs.Roles.{load-no-issue, load-no-commit}
 use Rattle.model.proofs.Acceptance.{prefix, event-bound, counted-crosses}
 use Rattle.model.proofs.Ranges.{load-has-location, location-bound}
 use Rattle.model.proofs.RulingSteps.{marked?, uncounted-no-worse, robust-ruling, broken-ruling}
-use Rattle.model.proofs.ChainOrder.{landed-else}
+use Rattle.model.proofs.Unchanged.{landed-away}
 use Rattle.model.proofs.RepeatedLoads.{Repeats}
 use Rattle.area.specs.Cells.{getRow, cell}
 use Rattle.area.specs.Tables.{cutSlot, lowSlot, lastSlot, commitsSlot, loadStretchSlot}
@@ -127,7 +127,8 @@ module _ (ev : ℕ → Event) where
       room = rows .room;
       stores = λ p early store. rows .stores p (earlier p early store (same? p n)) store;
       others = λ p none. rows .others p (λ early store. none (omega arith) store);
-      chains = λ y there. rw (landed-else ev n y no-commit) (rows .chains y there);
+      chains = λ y there.
+          rw (landed-away ev n y (λ commits _. false-true (sym no-commit ∙ commits .test))) (rows .chains y there);
       commits-are = λ i t from-1 to-8 there.
           rows .commits-are i t from-1 to-8 there ∙ sym (count-skip ev _ n i t no-commit);
     }

@@ -51,10 +51,6 @@ module _ (ev : ℕ → Event) where
       by-test true earlier = omega arith
       by-test false earlier = omega arith
 
-  pub landed-else : (n x : ℕ) → commit? ev n ≡ false → landed ev (suc n) x ≡ landed ev n x
-  unfolding landed
-  landed-else n x no-commit = rw no-commit
-
   -- ---- standing before a store in a chain
 
   -- commit c of store p is at location x, and from then on no commit is of s
