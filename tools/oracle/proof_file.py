@@ -85,11 +85,11 @@ def imported(names: list[str]) -> list[str]:
 
 
 def wrapped(items: Iterable[str], indent: str) -> str:
-    """An antt list in lines of at most 150 bytes; no item is parted."""
+    """An antt list in lines of at most 120 columns and 150 bytes; no item is parted."""
     lines, line = [], indent
     for item in list(items) + ["[]"]:
         piece = item if line == indent else " ∷ " + item
-        if len((line + piece).encode()) > 146:
+        if len(line + piece) > 110 or len((line + piece).encode()) > 146:
             lines.append(line)
             line, piece = indent, "∷ " + item
         line += piece

@@ -84,20 +84,22 @@ sessions =
 traces : List (List Event)
 traces =
     -- case 1
-    (Begin 1 1 2 ∷ Issue 0 0 ∷ Commit 0 ∷ Issue 0 1 ∷ Commit 0 ∷ Issue 0 0 ∷ Commit 0 ∷ Issue 0 1 ∷ Commit 0 ∷ Crash
-    ∷ Load 0 0 1 ∷ Load 0 1 7 ∷ []) ∷
+    (Begin 1 1 2 ∷ Issue 0 0 ∷ Commit 0 ∷ Issue 0 1 ∷ Commit 0 ∷ Issue 0 0 ∷ Commit 0 ∷ Issue 0 1 ∷ Commit 0
+    ∷ Crash ∷ Load 0 0 1 ∷ Load 0 1 7 ∷ []) ∷
     -- case 2
     (Begin 1 2 2 ∷ Issue 0 0 ∷ Commit 0 ∷ Issue 1 1 ∷ Commit 1 ∷ Crash ∷ Load 0 0 0 ∷ Load 0 1 3 ∷ []) ∷
     -- case 3
-    (Begin 1 1 2 ∷ Issue 0 0 ∷ Commit 0 ∷ Issue 0 1 ∷ Commit 0 ∷ Issue 0 0 ∷ Commit 0 ∷ Issue 0 1 ∷ Commit 0 ∷ Crash
-    ∷ Load 0 0 5 ∷ Load 0 1 7 ∷ []) ∷
+    (Begin 1 1 2 ∷ Issue 0 0 ∷ Commit 0 ∷ Issue 0 1 ∷ Commit 0 ∷ Issue 0 0 ∷ Commit 0 ∷ Issue 0 1 ∷ Commit 0
+    ∷ Crash ∷ Load 0 0 5 ∷ Load 0 1 7 ∷ []) ∷
     -- case 4
-    (Begin 1 1 2 ∷ Issue 0 0 ∷ Commit 0 ∷ Issue 0 1 ∷ Commit 0 ∷ Crash ∷ Load 0 0 0 ∷ Issue 0 1 ∷ Commit 0 ∷ Crash ∷ Load 0 1 3
-    ∷ []) ∷
+    (Begin 1 1 2 ∷ Issue 0 0 ∷ Commit 0 ∷ Issue 0 1 ∷ Commit 0 ∷ Crash ∷ Load 0 0 0 ∷ Issue 0 1 ∷ Commit 0
+    ∷ Crash ∷ Load 0 1 3 ∷ []) ∷
     -- case 5
-    (Begin 1 2 2 ∷ Issue 0 0 ∷ Commit 0 ∷ Load 1 0 1 ∷ Issue 1 1 ∷ Commit 1 ∷ Crash ∷ Load 0 0 0 ∷ Load 0 1 4 ∷ []) ∷
+    (Begin 1 2 2 ∷ Issue 0 0 ∷ Commit 0 ∷ Load 1 0 1 ∷ Issue 1 1 ∷ Commit 1 ∷ Crash ∷ Load 0 0 0 ∷ Load 0 1 4
+    ∷ []) ∷
     -- case 6
-    (Begin 1 2 2 ∷ Issue 0 0 ∷ Commit 0 ∷ Issue 1 1 ∷ Load 1 0 1 ∷ Commit 1 ∷ Crash ∷ Load 0 0 0 ∷ Load 0 1 3 ∷ []) ∷
+    (Begin 1 2 2 ∷ Issue 0 0 ∷ Commit 0 ∷ Issue 1 1 ∷ Load 1 0 1 ∷ Commit 1 ∷ Crash ∷ Load 0 0 0 ∷ Load 0 1 3
+    ∷ []) ∷
     -- case 7
     (Begin 1 1 2 ∷ Issue 0 0 ∷ Commit 0 ∷ Crash ∷ Load 0 0 1 ∷ Load 0 0 0 ∷ []) ∷
     -- case 8
@@ -105,8 +107,8 @@ traces =
     -- case 9
     (Begin 1 1 2 ∷ []) ∷
     -- case 10
-    (Begin 1 1 2 ∷ Issue 0 0 ∷ Commit 0 ∷ Issue 0 1 ∷ Commit 0 ∷ Issue 0 0 ∷ Commit 0 ∷ Issue 0 1 ∷ Commit 0 ∷ Crash
-    ∷ Load 0 0 1 ∷ SkipOn 0 ∷ Load 0 1 7 ∷ []) ∷
+    (Begin 1 1 2 ∷ Issue 0 0 ∷ Commit 0 ∷ Issue 0 1 ∷ Commit 0 ∷ Issue 0 0 ∷ Commit 0 ∷ Issue 0 1 ∷ Commit 0
+    ∷ Crash ∷ Load 0 0 1 ∷ SkipOn 0 ∷ Load 0 1 7 ∷ []) ∷
     -- case 11, from 1
     (Begin 1 2 2 ∷ Issue 0 0 ∷ Issue 1 0 ∷ Commit 1 ∷ Commit 0 ∷ Crash ∷ Load 0 0 1 ∷ []) ∷
     -- case 11, from 2

@@ -373,134 +373,147 @@ sessions =
 traces : List (List Event)
 traces =
     -- session 1
-    (Begin 1 3 3 ∷ Issue 1 2 ∷ Commit 1 ∷ Issue 2 0 ∷ Commit 2 ∷ Issue 0 1 ∷ Commit 0 ∷ Issue 0 0 ∷ Commit 0 ∷ Crash
-    ∷ Load 1 1 0 ∷ Load 0 0 7 ∷ Load 1 2 1 ∷ Load 1 1 0 ∷ Load 1 0 7 ∷ Load 0 2 1 ∷ []) ∷
+    (Begin 1 3 3 ∷ Issue 1 2 ∷ Commit 1 ∷ Issue 2 0 ∷ Commit 2 ∷ Issue 0 1 ∷ Commit 0 ∷ Issue 0 0 ∷ Commit 0
+    ∷ Crash ∷ Load 1 1 0 ∷ Load 0 0 7 ∷ Load 1 2 1 ∷ Load 1 1 0 ∷ Load 1 0 7 ∷ Load 0 2 1 ∷ []) ∷
     -- session 2
     (Begin 1 2 1 ∷ SkipOn 0 ∷ Issue 1 0 ∷ Commit 1 ∷ Crash ∷ Clwb 0 0 ∷ Crash ∷ Load 0 0 2 ∷ Load 1 0 2 ∷ []) ∷
     -- session 3
-    (Begin 1 2 3 ∷ Issue 1 2 ∷ Commit 1 ∷ Load 0 2 1 ∷ Issue 0 1 ∷ Commit 0 ∷ Load 0 2 1 ∷ Load 0 2 1 ∷ Issue 0 0 ∷ Crash
-    ∷ Load 1 2 0 ∷ Load 1 0 0 ∷ Load 1 1 4 ∷ Issue 1 1 ∷ Crash ∷ Issue 1 2 ∷ Issue 1 1 ∷ Commit 1 ∷ Crash ∷ SkipOn 0
-    ∷ Load 0 0 0 ∷ Issue 0 2 ∷ []) ∷
+    (Begin 1 2 3 ∷ Issue 1 2 ∷ Commit 1 ∷ Load 0 2 1 ∷ Issue 0 1 ∷ Commit 0 ∷ Load 0 2 1 ∷ Load 0 2 1
+    ∷ Issue 0 0 ∷ Crash ∷ Load 1 2 0 ∷ Load 1 0 0 ∷ Load 1 1 4 ∷ Issue 1 1 ∷ Crash ∷ Issue 1 2 ∷ Issue 1 1
+    ∷ Commit 1 ∷ Crash ∷ SkipOn 0 ∷ Load 0 0 0 ∷ Issue 0 2 ∷ []) ∷
     -- session 4
-    (Begin 1 2 2 ∷ Issue 1 1 ∷ Commit 1 ∷ Load 0 1 1 ∷ Issue 0 0 ∷ Load 0 1 1 ∷ Issue 0 1 ∷ Commit 0 ∷ Commit 0 ∷ Issue 1 1
-    ∷ Crash ∷ Load 0 1 0 ∷ Load 0 0 4 ∷ Issue 1 0 ∷ Crash ∷ Load 0 1 0 ∷ Load 0 0 4 ∷ Load 1 0 4 ∷ Issue 0 1 ∷ Commit 0
-    ∷ Load 1 1 18 ∷ Load 0 0 4 ∷ Load 1 1 18 ∷ Clwb 1 0 ∷ []) ∷
+    (Begin 1 2 2 ∷ Issue 1 1 ∷ Commit 1 ∷ Load 0 1 1 ∷ Issue 0 0 ∷ Load 0 1 1 ∷ Issue 0 1 ∷ Commit 0 ∷ Commit 0
+    ∷ Issue 1 1 ∷ Crash ∷ Load 0 1 0 ∷ Load 0 0 4 ∷ Issue 1 0 ∷ Crash ∷ Load 0 1 0 ∷ Load 0 0 4 ∷ Load 1 0 4
+    ∷ Issue 0 1 ∷ Commit 0 ∷ Load 1 1 18 ∷ Load 0 0 4 ∷ Load 1 1 18 ∷ Clwb 1 0 ∷ []) ∷
     -- session 5
-    (Begin 1 1 3 ∷ Issue 0 1 ∷ Commit 0 ∷ Crash ∷ Issue 0 1 ∷ Crash ∷ Load 0 0 0 ∷ Load 0 2 0 ∷ Load 0 1 1 ∷ Issue 0 1 ∷ Crash
-    ∷ Load 0 2 0 ∷ Load 0 1 0 ∷ Load 0 0 0 ∷ Load 0 1 1 ∷ []) ∷
+    (Begin 1 1 3 ∷ Issue 0 1 ∷ Commit 0 ∷ Crash ∷ Issue 0 1 ∷ Crash ∷ Load 0 0 0 ∷ Load 0 2 0 ∷ Load 0 1 1
+    ∷ Issue 0 1 ∷ Crash ∷ Load 0 2 0 ∷ Load 0 1 0 ∷ Load 0 0 0 ∷ Load 0 1 1 ∷ []) ∷
     -- session 6
-    (Begin 1 2 3 ∷ Issue 0 1 ∷ Commit 0 ∷ SkipOn 1 ∷ Load 1 1 1 ∷ SkipOff 1 ∷ Load 1 0 0 ∷ Load 1 1 1 ∷ Issue 1 2 ∷ Commit 1
-    ∷ Issue 0 2 ∷ Crash ∷ Load 0 2 8 ∷ Load 0 0 0 ∷ Load 1 1 0 ∷ Load 1 1 0 ∷ Load 0 0 0 ∷ Load 0 2 8 ∷ []) ∷
+    (Begin 1 2 3 ∷ Issue 0 1 ∷ Commit 0 ∷ SkipOn 1 ∷ Load 1 1 1 ∷ SkipOff 1 ∷ Load 1 0 0 ∷ Load 1 1 1
+    ∷ Issue 1 2 ∷ Commit 1 ∷ Issue 0 2 ∷ Crash ∷ Load 0 2 8 ∷ Load 0 0 0 ∷ Load 1 1 0 ∷ Load 1 1 0
+    ∷ Load 0 0 0 ∷ Load 0 2 8 ∷ []) ∷
     -- session 7
-    (Begin 1 2 2 ∷ Mfence 0 ∷ Issue 1 1 ∷ Issue 0 1 ∷ Commit 0 ∷ Crash ∷ Load 1 1 3 ∷ Load 0 0 0 ∷ Issue 1 1 ∷ Crash
-    ∷ Load 0 1 0 ∷ Load 1 0 0 ∷ []) ∷
+    (Begin 1 2 2 ∷ Mfence 0 ∷ Issue 1 1 ∷ Issue 0 1 ∷ Commit 0 ∷ Crash ∷ Load 1 1 3 ∷ Load 0 0 0 ∷ Issue 1 1
+    ∷ Crash ∷ Load 0 1 0 ∷ Load 1 0 0 ∷ []) ∷
     -- session 8
-    (Begin 1 1 2 ∷ Issue 0 1 ∷ Load 0 0 0 ∷ Commit 0 ∷ Load 0 1 1 ∷ Issue 0 1 ∷ Commit 0 ∷ Clflush 0 0 ∷ Issue 0 0 ∷ Issue 0 0
-    ∷ Issue 0 0 ∷ Crash ∷ Load 0 0 0 ∷ Load 0 1 5 ∷ Issue 0 0 ∷ Commit 0 ∷ Issue 0 1 ∷ Commit 0 ∷ Crash ∷ Load 0 0 14
-    ∷ Load 0 1 1 ∷ SkipOn 0 ∷ Load 0 1 1 ∷ Load 0 0 0 ∷ Load 0 1 0 ∷ []) ∷
+    (Begin 1 1 2 ∷ Issue 0 1 ∷ Load 0 0 0 ∷ Commit 0 ∷ Load 0 1 1 ∷ Issue 0 1 ∷ Commit 0 ∷ Clflush 0 0
+    ∷ Issue 0 0 ∷ Issue 0 0 ∷ Issue 0 0 ∷ Crash ∷ Load 0 0 0 ∷ Load 0 1 5 ∷ Issue 0 0 ∷ Commit 0 ∷ Issue 0 1
+    ∷ Commit 0 ∷ Crash ∷ Load 0 0 14 ∷ Load 0 1 1 ∷ SkipOn 0 ∷ Load 0 1 1 ∷ Load 0 0 0 ∷ Load 0 1 0 ∷ []) ∷
     -- session 9
-    (Begin 1 2 3 ∷ Issue 0 0 ∷ Commit 0 ∷ Sfence 0 ∷ Load 1 2 0 ∷ SkipOn 0 ∷ Crash ∷ Load 0 1 0 ∷ Load 0 2 0 ∷ Load 1 0 1 ∷ []) ∷
+    (Begin 1 2 3 ∷ Issue 0 0 ∷ Commit 0 ∷ Sfence 0 ∷ Load 1 2 0 ∷ SkipOn 0 ∷ Crash ∷ Load 0 1 0 ∷ Load 0 2 0
+    ∷ Load 1 0 1 ∷ []) ∷
     -- session 10
-    (Begin 1 3 3 ∷ Issue 1 2 ∷ Crash ∷ Load 0 1 0 ∷ Crash ∷ Load 2 0 0 ∷ Load 0 2 0 ∷ Load 1 1 0 ∷ Issue 0 2 ∷ Crash
-    ∷ Load 1 1 0 ∷ []) ∷
+    (Begin 1 3 3 ∷ Issue 1 2 ∷ Crash ∷ Load 0 1 0 ∷ Crash ∷ Load 2 0 0 ∷ Load 0 2 0 ∷ Load 1 1 0 ∷ Issue 0 2
+    ∷ Crash ∷ Load 1 1 0 ∷ []) ∷
     -- session 11
-    (Begin 1 3 1 ∷ Issue 1 0 ∷ Commit 1 ∷ Issue 0 0 ∷ Issue 2 0 ∷ Commit 2 ∷ Load 2 0 4 ∷ Load 0 0 3 ∷ Commit 0 ∷ Crash
-    ∷ Issue 1 0 ∷ Commit 1 ∷ Crash ∷ Load 0 0 1 ∷ []) ∷
+    (Begin 1 3 1 ∷ Issue 1 0 ∷ Commit 1 ∷ Issue 0 0 ∷ Issue 2 0 ∷ Commit 2 ∷ Load 2 0 4 ∷ Load 0 0 3 ∷ Commit 0
+    ∷ Crash ∷ Issue 1 0 ∷ Commit 1 ∷ Crash ∷ Load 0 0 1 ∷ []) ∷
     -- session 12
-    (Begin 1 1 3 ∷ Issue 0 1 ∷ Commit 0 ∷ Issue 0 1 ∷ Commit 0 ∷ Issue 0 2 ∷ Commit 0 ∷ Issue 0 2 ∷ Commit 0 ∷ Clflush 0 1
-    ∷ Issue 0 0 ∷ Clwb 0 0 ∷ Commit 0 ∷ Crash ∷ Load 0 0 10 ∷ Load 0 1 0 ∷ Load 0 2 0 ∷ Issue 0 1 ∷ Crash ∷ Load 0 1 0 ∷ []) ∷
+    (Begin 1 1 3 ∷ Issue 0 1 ∷ Commit 0 ∷ Issue 0 1 ∷ Commit 0 ∷ Issue 0 2 ∷ Commit 0 ∷ Issue 0 2 ∷ Commit 0
+    ∷ Clflush 0 1 ∷ Issue 0 0 ∷ Clwb 0 0 ∷ Commit 0 ∷ Crash ∷ Load 0 0 10 ∷ Load 0 1 0 ∷ Load 0 2 0
+    ∷ Issue 0 1 ∷ Crash ∷ Load 0 1 0 ∷ []) ∷
     -- session 13
-    (Begin 1 3 2 ∷ Issue 0 1 ∷ Commit 0 ∷ SkipOn 0 ∷ Load 1 1 1 ∷ Issue 1 0 ∷ Commit 1 ∷ Crash ∷ Issue 1 0 ∷ Crash ∷ Issue 1 0
-    ∷ Crash ∷ Load 2 0 5 ∷ Load 2 1 0 ∷ Load 0 1 0 ∷ Issue 0 1 ∷ SkipOn 0 ∷ []) ∷
+    (Begin 1 3 2 ∷ Issue 0 1 ∷ Commit 0 ∷ SkipOn 0 ∷ Load 1 1 1 ∷ Issue 1 0 ∷ Commit 1 ∷ Crash ∷ Issue 1 0
+    ∷ Crash ∷ Issue 1 0 ∷ Crash ∷ Load 2 0 5 ∷ Load 2 1 0 ∷ Load 0 1 0 ∷ Issue 0 1 ∷ SkipOn 0 ∷ []) ∷
     -- session 14
-    (Begin 1 3 3 ∷ Issue 2 2 ∷ Commit 2 ∷ Issue 2 1 ∷ Load 0 2 1 ∷ Issue 0 1 ∷ Commit 0 ∷ Issue 1 1 ∷ Sfence 1 ∷ Crash
-    ∷ Issue 2 0 ∷ Crash ∷ Load 0 0 0 ∷ Load 0 2 0 ∷ Load 1 1 5 ∷ Load 2 0 0 ∷ Load 0 1 5 ∷ Load 0 2 0 ∷ Load 2 1 5 ∷ []) ∷
+    (Begin 1 3 3 ∷ Issue 2 2 ∷ Commit 2 ∷ Issue 2 1 ∷ Load 0 2 1 ∷ Issue 0 1 ∷ Commit 0 ∷ Issue 1 1 ∷ Sfence 1
+    ∷ Crash ∷ Issue 2 0 ∷ Crash ∷ Load 0 0 0 ∷ Load 0 2 0 ∷ Load 1 1 5 ∷ Load 2 0 0 ∷ Load 0 1 5 ∷ Load 0 2 0
+    ∷ Load 2 1 5 ∷ []) ∷
     -- session 15
-    (Begin 1 3 1 ∷ Load 1 0 0 ∷ Issue 2 0 ∷ Commit 2 ∷ Issue 1 0 ∷ Load 0 0 2 ∷ Commit 2 ∷ Issue 0 0 ∷ Commit 1 ∷ Commit 0
-    ∷ Issue 0 0 ∷ Load 1 0 6 ∷ Load 1 0 6 ∷ Issue 2 0 ∷ Commit 2 ∷ Crash ∷ Load 0 0 2 ∷ Clwb 2 0 ∷ []) ∷
+    (Begin 1 3 1 ∷ Load 1 0 0 ∷ Issue 2 0 ∷ Commit 2 ∷ Issue 1 0 ∷ Load 0 0 2 ∷ Commit 2 ∷ Issue 0 0 ∷ Commit 1
+    ∷ Commit 0 ∷ Issue 0 0 ∷ Load 1 0 6 ∷ Load 1 0 6 ∷ Issue 2 0 ∷ Commit 2 ∷ Crash ∷ Load 0 0 2 ∷ Clwb 2 0
+    ∷ []) ∷
     -- session 16
     (Begin 1 2 3 ∷ Issue 1 2 ∷ Issue 1 1 ∷ Load 1 1 2 ∷ Commit 1 ∷ Crash ∷ Load 0 0 0 ∷ []) ∷
     -- session 17
-    (Begin 1 2 3 ∷ Issue 1 2 ∷ Commit 1 ∷ Issue 1 2 ∷ Commit 1 ∷ Crash ∷ Load 0 2 0 ∷ Load 1 1 0 ∷ Load 1 0 0 ∷ Issue 1 2
-    ∷ Crash ∷ Load 0 1 0 ∷ Load 0 0 0 ∷ Load 0 1 0 ∷ Load 1 2 0 ∷ Load 1 0 0 ∷ []) ∷
+    (Begin 1 2 3 ∷ Issue 1 2 ∷ Commit 1 ∷ Issue 1 2 ∷ Commit 1 ∷ Crash ∷ Load 0 2 0 ∷ Load 1 1 0 ∷ Load 1 0 0
+    ∷ Issue 1 2 ∷ Crash ∷ Load 0 1 0 ∷ Load 0 0 0 ∷ Load 0 1 0 ∷ Load 1 2 0 ∷ Load 1 0 0 ∷ []) ∷
     -- session 18
-    (Begin 1 1 2 ∷ Issue 0 1 ∷ Issue 0 1 ∷ Issue 0 1 ∷ Crash ∷ Load 0 1 0 ∷ Load 0 0 0 ∷ Issue 0 1 ∷ Commit 0 ∷ Issue 0 1
-    ∷ Commit 0 ∷ Crash ∷ Issue 0 1 ∷ Crash ∷ Load 0 1 9 ∷ Load 0 0 0 ∷ Load 0 1 9 ∷ Load 0 1 7 ∷ []) ∷
-    -- session 19
-    (Begin 1 2 3 ∷ Issue 0 0 ∷ Commit 0 ∷ Load 1 0 1 ∷ Issue 1 1 ∷ Commit 1 ∷ Issue 1 1 ∷ Commit 1 ∷ Issue 1 1 ∷ Load 1 0 1
-    ∷ Commit 1 ∷ Crash ∷ Load 0 1 8 ∷ Load 0 2 0 ∷ Load 1 0 0 ∷ Load 1 1 8 ∷ Load 0 2 0 ∷ Load 1 0 0 ∷ []) ∷
-    -- session 20
-    (Begin 1 2 1 ∷ Issue 0 0 ∷ Commit 0 ∷ Issue 1 0 ∷ Crash ∷ Load 1 0 1 ∷ Issue 1 0 ∷ Crash ∷ Load 1 0 1 ∷ Load 0 0 1 ∷ []) ∷
-    -- session 21
-    (Begin 1 3 2 ∷ Issue 2 1 ∷ Commit 2 ∷ Issue 1 0 ∷ Commit 1 ∷ Issue 0 0 ∷ Commit 0 ∷ Issue 0 1 ∷ Commit 0 ∷ Load 1 1 7
-    ∷ Load 1 0 5 ∷ Issue 1 0 ∷ Commit 1 ∷ Mfence 2 ∷ Clwb 1 1 ∷ Issue 0 0 ∷ Load 2 1 7 ∷ Crash ∷ Load 2 0 11 ∷ Load 1 1 1
-    ∷ Load 2 0 11 ∷ Load 1 1 1 ∷ Load 0 1 1 ∷ []) ∷
-    -- session 22
-    (Begin 1 3 2 ∷ Mfence 0 ∷ Issue 2 0 ∷ Clwb 1 1 ∷ Commit 2 ∷ Issue 1 0 ∷ Commit 1 ∷ Issue 1 0 ∷ Commit 1 ∷ Crash
-    ∷ Load 0 1 0 ∷ Load 2 0 7 ∷ Load 0 1 0 ∷ Load 1 0 7 ∷ Issue 0 0 ∷ Commit 0 ∷ Issue 2 1 ∷ Issue 2 1 ∷ Commit 2 ∷ Crash
-    ∷ Load 2 0 2 ∷ Load 1 0 5 ∷ Load 2 1 0 ∷ []) ∷
-    -- session 23
-    (Begin 1 2 3 ∷ Issue 0 0 ∷ Commit 0 ∷ Load 1 0 1 ∷ Issue 1 2 ∷ Commit 1 ∷ Issue 0 2 ∷ Clwb 0 1 ∷ Issue 1 1 ∷ Issue 0 2
-    ∷ Crash ∷ Issue 1 1 ∷ Crash ∷ Load 0 0 0 ∷ Load 1 2 4 ∷ Load 1 1 0 ∷ Issue 0 2 ∷ []) ∷
-    -- session 24
-    (Begin 1 2 2 ∷ Issue 0 0 ∷ Commit 0 ∷ Issue 0 1 ∷ Load 0 1 3 ∷ Issue 0 1 ∷ Load 0 0 1 ∷ Commit 0 ∷ Commit 0 ∷ Issue 0 0
-    ∷ Commit 0 ∷ Crash ∷ Issue 0 0 ∷ Commit 0 ∷ Issue 1 1 ∷ Issue 1 0 ∷ Commit 1 ∷ Crash ∷ Load 1 1 14 ∷ Load 1 0 12
-    ∷ Load 1 0 0 ∷ Load 0 1 14 ∷ Load 0 1 14 ∷ Load 0 0 12 ∷ []) ∷
-    -- session 25
-    (Begin 1 1 3 ∷ Issue 0 2 ∷ Commit 0 ∷ Crash ∷ Load 0 1 0 ∷ Load 0 0 0 ∷ Load 0 2 1 ∷ Issue 0 1 ∷ Crash ∷ Load 0 1 0
-    ∷ Load 0 2 1 ∷ Load 0 0 0 ∷ Issue 0 2 ∷ Commit 0 ∷ Crash ∷ Load 0 2 1 ∷ []) ∷
-    -- session 26
-    (Begin 1 2 3 ∷ Issue 0 1 ∷ Commit 0 ∷ Crash ∷ Issue 1 2 ∷ Commit 1 ∷ Crash ∷ Load 0 1 1 ∷ Load 0 2 4 ∷ Load 0 0 0
-    ∷ Load 1 2 0 ∷ []) ∷
-    -- session 27
-    (Begin 1 2 1 ∷ Issue 0 0 ∷ SkipOn 1 ∷ Load 1 0 0 ∷ Load 1 0 0 ∷ Load 0 0 1 ∷ Issue 0 0 ∷ Load 0 0 6 ∷ Mfence 0 ∷ Commit 0
-    ∷ Commit 0 ∷ Load 1 0 6 ∷ Issue 1 0 ∷ Issue 1 0 ∷ Clwb 1 0 ∷ Issue 1 0 ∷ Load 1 0 14 ∷ SkipOff 1 ∷ Issue 1 0 ∷ Crash
-    ∷ Load 0 0 6 ∷ Load 0 0 6 ∷ Load 0 0 1 ∷ []) ∷
-    -- session 28
-    (Begin 1 3 2 ∷ Issue 2 1 ∷ Commit 2 ∷ Issue 1 1 ∷ Commit 1 ∷ Load 2 1 3 ∷ Issue 2 0 ∷ Load 2 1 3 ∷ Commit 2 ∷ Load 1 0 6
-    ∷ Issue 1 1 ∷ Commit 1 ∷ Crash ∷ Load 2 1 1 ∷ Load 1 0 6 ∷ Load 2 0 6 ∷ Load 2 1 1 ∷ Issue 0 0 ∷ Commit 0 ∷ Load 0 1 1
-    ∷ Issue 1 0 ∷ Commit 1 ∷ Crash ∷ Load 2 0 17 ∷ Load 2 1 1 ∷ SkipOn 2 ∷ []) ∷
-    -- session 29
-    (Begin 1 3 2 ∷ Issue 1 0 ∷ Commit 1 ∷ Issue 2 1 ∷ Issue 2 1 ∷ Issue 1 0 ∷ Commit 1 ∷ Crash ∷ SkipOn 0 ∷ Issue 0 1
-    ∷ Commit 0 ∷ []) ∷
-    -- session 30
-    (Begin 1 3 2 ∷ Issue 2 0 ∷ Issue 2 1 ∷ Clwb 0 1 ∷ Clflush 1 1 ∷ Commit 2 ∷ Clflush 2 1 ∷ Commit 2 ∷ Load 0 0 1 ∷ Issue 0 0
-    ∷ Load 0 1 2 ∷ Commit 0 ∷ Crash ∷ Load 0 0 9 ∷ Issue 2 1 ∷ Commit 2 ∷ Load 1 1 14 ∷ Issue 1 1 ∷ Commit 1 ∷ Crash
-    ∷ Load 1 0 9 ∷ Load 2 1 0 ∷ Load 1 1 0 ∷ Load 1 0 0 ∷ []) ∷
-    -- session 31
-    (Begin 1 2 2 ∷ Issue 1 0 ∷ Commit 1 ∷ Load 0 0 1 ∷ Issue 0 1 ∷ Commit 0 ∷ Issue 1 1 ∷ Commit 1 ∷ Load 1 0 1 ∷ Crash
-    ∷ Issue 1 1 ∷ Crash ∷ Load 1 0 1 ∷ Load 1 1 6 ∷ Issue 1 1 ∷ Commit 1 ∷ Load 1 1 14 ∷ Issue 1 0 ∷ Load 1 0 17 ∷ Load 0 1 14
+    (Begin 1 1 2 ∷ Issue 0 1 ∷ Issue 0 1 ∷ Issue 0 1 ∷ Crash ∷ Load 0 1 0 ∷ Load 0 0 0 ∷ Issue 0 1 ∷ Commit 0
+    ∷ Issue 0 1 ∷ Commit 0 ∷ Crash ∷ Issue 0 1 ∷ Crash ∷ Load 0 1 9 ∷ Load 0 0 0 ∷ Load 0 1 9 ∷ Load 0 1 7
     ∷ []) ∷
+    -- session 19
+    (Begin 1 2 3 ∷ Issue 0 0 ∷ Commit 0 ∷ Load 1 0 1 ∷ Issue 1 1 ∷ Commit 1 ∷ Issue 1 1 ∷ Commit 1 ∷ Issue 1 1
+    ∷ Load 1 0 1 ∷ Commit 1 ∷ Crash ∷ Load 0 1 8 ∷ Load 0 2 0 ∷ Load 1 0 0 ∷ Load 1 1 8 ∷ Load 0 2 0
+    ∷ Load 1 0 0 ∷ []) ∷
+    -- session 20
+    (Begin 1 2 1 ∷ Issue 0 0 ∷ Commit 0 ∷ Issue 1 0 ∷ Crash ∷ Load 1 0 1 ∷ Issue 1 0 ∷ Crash ∷ Load 1 0 1
+    ∷ Load 0 0 1 ∷ []) ∷
+    -- session 21
+    (Begin 1 3 2 ∷ Issue 2 1 ∷ Commit 2 ∷ Issue 1 0 ∷ Commit 1 ∷ Issue 0 0 ∷ Commit 0 ∷ Issue 0 1 ∷ Commit 0
+    ∷ Load 1 1 7 ∷ Load 1 0 5 ∷ Issue 1 0 ∷ Commit 1 ∷ Mfence 2 ∷ Clwb 1 1 ∷ Issue 0 0 ∷ Load 2 1 7 ∷ Crash
+    ∷ Load 2 0 11 ∷ Load 1 1 1 ∷ Load 2 0 11 ∷ Load 1 1 1 ∷ Load 0 1 1 ∷ []) ∷
+    -- session 22
+    (Begin 1 3 2 ∷ Mfence 0 ∷ Issue 2 0 ∷ Clwb 1 1 ∷ Commit 2 ∷ Issue 1 0 ∷ Commit 1 ∷ Issue 1 0 ∷ Commit 1
+    ∷ Crash ∷ Load 0 1 0 ∷ Load 2 0 7 ∷ Load 0 1 0 ∷ Load 1 0 7 ∷ Issue 0 0 ∷ Commit 0 ∷ Issue 2 1 ∷ Issue 2 1
+    ∷ Commit 2 ∷ Crash ∷ Load 2 0 2 ∷ Load 1 0 5 ∷ Load 2 1 0 ∷ []) ∷
+    -- session 23
+    (Begin 1 2 3 ∷ Issue 0 0 ∷ Commit 0 ∷ Load 1 0 1 ∷ Issue 1 2 ∷ Commit 1 ∷ Issue 0 2 ∷ Clwb 0 1 ∷ Issue 1 1
+    ∷ Issue 0 2 ∷ Crash ∷ Issue 1 1 ∷ Crash ∷ Load 0 0 0 ∷ Load 1 2 4 ∷ Load 1 1 0 ∷ Issue 0 2 ∷ []) ∷
+    -- session 24
+    (Begin 1 2 2 ∷ Issue 0 0 ∷ Commit 0 ∷ Issue 0 1 ∷ Load 0 1 3 ∷ Issue 0 1 ∷ Load 0 0 1 ∷ Commit 0 ∷ Commit 0
+    ∷ Issue 0 0 ∷ Commit 0 ∷ Crash ∷ Issue 0 0 ∷ Commit 0 ∷ Issue 1 1 ∷ Issue 1 0 ∷ Commit 1 ∷ Crash
+    ∷ Load 1 1 14 ∷ Load 1 0 12 ∷ Load 1 0 0 ∷ Load 0 1 14 ∷ Load 0 1 14 ∷ Load 0 0 12 ∷ []) ∷
+    -- session 25
+    (Begin 1 1 3 ∷ Issue 0 2 ∷ Commit 0 ∷ Crash ∷ Load 0 1 0 ∷ Load 0 0 0 ∷ Load 0 2 1 ∷ Issue 0 1 ∷ Crash
+    ∷ Load 0 1 0 ∷ Load 0 2 1 ∷ Load 0 0 0 ∷ Issue 0 2 ∷ Commit 0 ∷ Crash ∷ Load 0 2 1 ∷ []) ∷
+    -- session 26
+    (Begin 1 2 3 ∷ Issue 0 1 ∷ Commit 0 ∷ Crash ∷ Issue 1 2 ∷ Commit 1 ∷ Crash ∷ Load 0 1 1 ∷ Load 0 2 4
+    ∷ Load 0 0 0 ∷ Load 1 2 0 ∷ []) ∷
+    -- session 27
+    (Begin 1 2 1 ∷ Issue 0 0 ∷ SkipOn 1 ∷ Load 1 0 0 ∷ Load 1 0 0 ∷ Load 0 0 1 ∷ Issue 0 0 ∷ Load 0 0 6
+    ∷ Mfence 0 ∷ Commit 0 ∷ Commit 0 ∷ Load 1 0 6 ∷ Issue 1 0 ∷ Issue 1 0 ∷ Clwb 1 0 ∷ Issue 1 0 ∷ Load 1 0 14
+    ∷ SkipOff 1 ∷ Issue 1 0 ∷ Crash ∷ Load 0 0 6 ∷ Load 0 0 6 ∷ Load 0 0 1 ∷ []) ∷
+    -- session 28
+    (Begin 1 3 2 ∷ Issue 2 1 ∷ Commit 2 ∷ Issue 1 1 ∷ Commit 1 ∷ Load 2 1 3 ∷ Issue 2 0 ∷ Load 2 1 3 ∷ Commit 2
+    ∷ Load 1 0 6 ∷ Issue 1 1 ∷ Commit 1 ∷ Crash ∷ Load 2 1 1 ∷ Load 1 0 6 ∷ Load 2 0 6 ∷ Load 2 1 1
+    ∷ Issue 0 0 ∷ Commit 0 ∷ Load 0 1 1 ∷ Issue 1 0 ∷ Commit 1 ∷ Crash ∷ Load 2 0 17 ∷ Load 2 1 1 ∷ SkipOn 2
+    ∷ []) ∷
+    -- session 29
+    (Begin 1 3 2 ∷ Issue 1 0 ∷ Commit 1 ∷ Issue 2 1 ∷ Issue 2 1 ∷ Issue 1 0 ∷ Commit 1 ∷ Crash ∷ SkipOn 0
+    ∷ Issue 0 1 ∷ Commit 0 ∷ []) ∷
+    -- session 30
+    (Begin 1 3 2 ∷ Issue 2 0 ∷ Issue 2 1 ∷ Clwb 0 1 ∷ Clflush 1 1 ∷ Commit 2 ∷ Clflush 2 1 ∷ Commit 2
+    ∷ Load 0 0 1 ∷ Issue 0 0 ∷ Load 0 1 2 ∷ Commit 0 ∷ Crash ∷ Load 0 0 9 ∷ Issue 2 1 ∷ Commit 2 ∷ Load 1 1 14
+    ∷ Issue 1 1 ∷ Commit 1 ∷ Crash ∷ Load 1 0 9 ∷ Load 2 1 0 ∷ Load 1 1 0 ∷ Load 1 0 0 ∷ []) ∷
+    -- session 31
+    (Begin 1 2 2 ∷ Issue 1 0 ∷ Commit 1 ∷ Load 0 0 1 ∷ Issue 0 1 ∷ Commit 0 ∷ Issue 1 1 ∷ Commit 1 ∷ Load 1 0 1
+    ∷ Crash ∷ Issue 1 1 ∷ Crash ∷ Load 1 0 1 ∷ Load 1 1 6 ∷ Issue 1 1 ∷ Commit 1 ∷ Load 1 1 14 ∷ Issue 1 0
+    ∷ Load 1 0 17 ∷ Load 0 1 14 ∷ []) ∷
     -- session 32
-    (Begin 1 3 3 ∷ Issue 1 0 ∷ Clflush 2 1 ∷ Crash ∷ Load 0 2 0 ∷ Load 2 1 0 ∷ Load 0 0 0 ∷ Issue 1 2 ∷ Crash ∷ Load 0 2 0
-    ∷ Load 1 1 0 ∷ Load 1 0 0 ∷ Issue 0 0 ∷ Crash ∷ Load 1 0 0 ∷ []) ∷
+    (Begin 1 3 3 ∷ Issue 1 0 ∷ Clflush 2 1 ∷ Crash ∷ Load 0 2 0 ∷ Load 2 1 0 ∷ Load 0 0 0 ∷ Issue 1 2 ∷ Crash
+    ∷ Load 0 2 0 ∷ Load 1 1 0 ∷ Load 1 0 0 ∷ Issue 0 0 ∷ Crash ∷ Load 1 0 0 ∷ []) ∷
     -- session 33
-    (Begin 1 2 3 ∷ Clwb 1 0 ∷ Load 0 1 0 ∷ Issue 1 0 ∷ Commit 1 ∷ Load 0 0 3 ∷ Load 0 0 3 ∷ Issue 0 2 ∷ Commit 0 ∷ Crash
-    ∷ Load 1 0 0 ∷ Load 0 2 0 ∷ Load 1 1 0 ∷ Issue 1 0 ∷ Commit 1 ∷ Crash ∷ Load 0 0 0 ∷ Load 0 1 0 ∷ Load 0 2 0 ∷ Load 1 1 0
-    ∷ Load 1 2 7 ∷ Load 0 0 13 ∷ Load 0 0 3 ∷ Issue 0 0 ∷ Commit 0 ∷ Crash ∷ Crash ∷ Crash ∷ Crash ∷ Crash ∷ Crash ∷ []) ∷
+    (Begin 1 2 3 ∷ Clwb 1 0 ∷ Load 0 1 0 ∷ Issue 1 0 ∷ Commit 1 ∷ Load 0 0 3 ∷ Load 0 0 3 ∷ Issue 0 2
+    ∷ Commit 0 ∷ Crash ∷ Load 1 0 0 ∷ Load 0 2 0 ∷ Load 1 1 0 ∷ Issue 1 0 ∷ Commit 1 ∷ Crash ∷ Load 0 0 0
+    ∷ Load 0 1 0 ∷ Load 0 2 0 ∷ Load 1 1 0 ∷ Load 1 2 7 ∷ Load 0 0 13 ∷ Load 0 0 3 ∷ Issue 0 0 ∷ Commit 0
+    ∷ Crash ∷ Crash ∷ Crash ∷ Crash ∷ Crash ∷ Crash ∷ []) ∷
     -- session 34
-    (Begin 1 3 1 ∷ SkipOn 0 ∷ Load 0 0 0 ∷ Load 0 0 0 ∷ SkipOff 0 ∷ Crash ∷ Load 1 0 0 ∷ Issue 0 0 ∷ Commit 0 ∷ Crash
-    ∷ Load 1 0 0 ∷ Load 0 0 7 ∷ []) ∷
+    (Begin 1 3 1 ∷ SkipOn 0 ∷ Load 0 0 0 ∷ Load 0 0 0 ∷ SkipOff 0 ∷ Crash ∷ Load 1 0 0 ∷ Issue 0 0 ∷ Commit 0
+    ∷ Crash ∷ Load 1 0 0 ∷ Load 0 0 7 ∷ []) ∷
     -- session 35
     (Begin 1 2 1 ∷ Issue 1 0 ∷ Clflush 1 0 ∷ Commit 1 ∷ Issue 1 0 ∷ Crash ∷ Load 0 0 0 ∷ Load 0 0 1 ∷ []) ∷
     -- session 36
-    (Begin 1 2 2 ∷ Issue 1 1 ∷ Commit 1 ∷ Load 0 1 1 ∷ Issue 0 1 ∷ Commit 0 ∷ Crash ∷ Load 1 1 1 ∷ Load 0 0 0 ∷ Clflush 1 0
-    ∷ Crash ∷ Load 0 1 1 ∷ Load 0 0 0 ∷ Mfence 0 ∷ Crash ∷ Load 1 0 0 ∷ Load 0 1 1 ∷ Load 0 0 0 ∷ []) ∷
-    -- session 37
-    (Begin 1 2 3 ∷ Issue 1 0 ∷ SkipOn 0 ∷ Load 0 1 0 ∷ SkipOff 0 ∷ Issue 0 2 ∷ Load 0 2 5 ∷ Commit 1 ∷ Commit 0 ∷ Issue 0 2
-    ∷ Load 0 2 9 ∷ Commit 0 ∷ Load 0 0 1 ∷ Issue 0 1 ∷ Commit 0 ∷ Crash ∷ Mfence 1 ∷ Load 0 0 1 ∷ Load 0 1 13 ∷ Load 0 0 1
+    (Begin 1 2 2 ∷ Issue 1 1 ∷ Commit 1 ∷ Load 0 1 1 ∷ Issue 0 1 ∷ Commit 0 ∷ Crash ∷ Load 1 1 1 ∷ Load 0 0 0
+    ∷ Clflush 1 0 ∷ Crash ∷ Load 0 1 1 ∷ Load 0 0 0 ∷ Mfence 0 ∷ Crash ∷ Load 1 0 0 ∷ Load 0 1 1 ∷ Load 0 0 0
     ∷ []) ∷
+    -- session 37
+    (Begin 1 2 3 ∷ Issue 1 0 ∷ SkipOn 0 ∷ Load 0 1 0 ∷ SkipOff 0 ∷ Issue 0 2 ∷ Load 0 2 5 ∷ Commit 1 ∷ Commit 0
+    ∷ Issue 0 2 ∷ Load 0 2 9 ∷ Commit 0 ∷ Load 0 0 1 ∷ Issue 0 1 ∷ Commit 0 ∷ Crash ∷ Mfence 1 ∷ Load 0 0 1
+    ∷ Load 0 1 13 ∷ Load 0 0 1 ∷ []) ∷
     -- session 38
-    (Begin 1 1 3 ∷ Issue 0 2 ∷ Commit 0 ∷ Clflush 0 1 ∷ Issue 0 1 ∷ Load 0 2 1 ∷ Commit 0 ∷ Issue 0 1 ∷ Crash ∷ Load 0 0 0
-    ∷ Load 0 2 1 ∷ Load 0 1 4 ∷ Load 0 0 0 ∷ Issue 0 1 ∷ Issue 0 0 ∷ Issue 0 1 ∷ Commit 0 ∷ Crash ∷ Load 0 2 1 ∷ Load 0 1 13
-    ∷ Load 0 0 0 ∷ Load 0 1 4 ∷ Load 0 2 1 ∷ Load 0 2 1 ∷ Load 0 0 0 ∷ Load 0 2 1 ∷ []) ∷
+    (Begin 1 1 3 ∷ Issue 0 2 ∷ Commit 0 ∷ Clflush 0 1 ∷ Issue 0 1 ∷ Load 0 2 1 ∷ Commit 0 ∷ Issue 0 1 ∷ Crash
+    ∷ Load 0 0 0 ∷ Load 0 2 1 ∷ Load 0 1 4 ∷ Load 0 0 0 ∷ Issue 0 1 ∷ Issue 0 0 ∷ Issue 0 1 ∷ Commit 0 ∷ Crash
+    ∷ Load 0 2 1 ∷ Load 0 1 13 ∷ Load 0 0 0 ∷ Load 0 1 4 ∷ Load 0 2 1 ∷ Load 0 2 1 ∷ Load 0 0 0 ∷ Load 0 2 1
+    ∷ []) ∷
     -- session 39
-    (Begin 1 1 3 ∷ Issue 0 0 ∷ Commit 0 ∷ Issue 0 2 ∷ Commit 0 ∷ Issue 0 0 ∷ Commit 0 ∷ Issue 0 0 ∷ Commit 0 ∷ Issue 0 0
-    ∷ Crash ∷ SkipOn 0 ∷ Load 0 0 1 ∷ Crash ∷ Load 0 1 0 ∷ Load 0 2 0 ∷ Load 0 0 7 ∷ Load 0 2 0 ∷ Load 0 1 0 ∷ []) ∷
+    (Begin 1 1 3 ∷ Issue 0 0 ∷ Commit 0 ∷ Issue 0 2 ∷ Commit 0 ∷ Issue 0 0 ∷ Commit 0 ∷ Issue 0 0 ∷ Commit 0
+    ∷ Issue 0 0 ∷ Crash ∷ SkipOn 0 ∷ Load 0 0 1 ∷ Crash ∷ Load 0 1 0 ∷ Load 0 2 0 ∷ Load 0 0 7 ∷ Load 0 2 0
+    ∷ Load 0 1 0 ∷ []) ∷
     -- session 40
-    (Begin 1 2 3 ∷ Issue 1 1 ∷ Commit 1 ∷ Load 0 1 1 ∷ Issue 0 1 ∷ Commit 0 ∷ Load 1 1 4 ∷ Issue 1 2 ∷ Commit 1 ∷ Crash
-    ∷ Load 1 2 7 ∷ Load 1 0 0 ∷ Load 0 1 1 ∷ SkipOn 0 ∷ Issue 0 1 ∷ Commit 0 ∷ SkipOff 0 ∷ Load 1 1 14 ∷ Issue 1 2 ∷ Commit 1
-    ∷ Crash ∷ Load 1 1 1 ∷ Load 0 1 1 ∷ Clwb 0 1 ∷ Load 0 2 18 ∷ Load 0 1 1 ∷ []) ∷
+    (Begin 1 2 3 ∷ Issue 1 1 ∷ Commit 1 ∷ Load 0 1 1 ∷ Issue 0 1 ∷ Commit 0 ∷ Load 1 1 4 ∷ Issue 1 2 ∷ Commit 1
+    ∷ Crash ∷ Load 1 2 7 ∷ Load 1 0 0 ∷ Load 0 1 1 ∷ SkipOn 0 ∷ Issue 0 1 ∷ Commit 0 ∷ SkipOff 0 ∷ Load 1 1 14
+    ∷ Issue 1 2 ∷ Commit 1 ∷ Crash ∷ Load 1 1 1 ∷ Load 0 1 1 ∷ Clwb 0 1 ∷ Load 0 2 18 ∷ Load 0 1 1 ∷ []) ∷
     []
 
 -- the answers, and the cut buffers afterwards
