@@ -1,4 +1,5 @@
--- What the functions' proofs cite: a run's records one by one (Records), its end, and the order query after it
--- (Endings).
+-- What the functions' proofs cite: what judging an event finds (Judging), a run's records one by one (Records), its end,
+-- and the order query and the verdict after it (Endings).
+pub mod Judging
 pub mod Records
 pub mod Endings

@@ -25,20 +25,22 @@ use Rattle.model.proofs.Searching.{test}
 use Rattle.model.proofs.TurnedAway.{passed→}
 use Rattle.area.specs.Cells.{getRow}
 use Rattle.machine.specs.declared.state.Machine.{Machine}
-use Rattle.machine.specs.Twin.{world, started}
+use Rattle.machine.specs.Twin.{World, world, started}
 use Rattle.machine.specs.Turning.{refusalW, beginRefusal}
 use Rattle.machine.specs.Effects.{stepW}
 use Rattle.machine.specs.Sim.{Sim}
 use Rattle.machine.proofs.CellLaws.{replicate-at}
 use Rattle.machine.proofs.Refusals.{refusals, begin-refusals}
-use Rattle.machine.proofs.Simulation.{step-next}
 use Rattle.machine.proofs.Start.{sim-start}
 use Rattle.judge.specs.declared.run.Turn.{Turn}
-use Rattle.judge.specs.Runs.{Reached, Turned}
+use Rattle.judge.specs.declared.loads.Evidence.{Evidence}
+use Rattle.judge.specs.Judging.{nothing, judgedWork, foundBy, Held}
+use Rattle.judge.specs.Runs.{startedAt, ended, Reached, Turned}
+use Rattle.judge.proofs.Judging.{sim-next, held-next, held-first}
 
--- a turn, by its fields
-abbrev pub turn : Machine → ℕ → ℕ → ℕ → Turn
-turn m at k e = record { machine = m; at = at; refusal = k; event = e }
+-- a turn that ends no run
+abbrev pub going : Machine → Evidence → ℕ → Turn
+going m found at = record { machine = m; found = found; at = at; refusal = 0; event = 0 }
 
 -- every cell of a cleared work area is 0
 cleared-cell : (e k : ℕ) → getRow (replicate 32768 0) e k ≡ 0
@@ -103,9 +105,9 @@ module _ (bytes : List ℕ) where
 
     module _ (all-pass : (e : ℕ) → e < n → refusalAt bytes e ≡ 0) (no-end : endsAt bytes n ≡ false) where
       turned-by :
-          (m : Machine) (at k next : ℕ) (work : List ℕ) → refusalAt bytes n ≡ k → k ≢ 0
-          → Turned bytes next (turn m at k n) work
-      turned-by m at k next work is some-number = record {
+          (t : Turn) (k next : ℕ) (work : List ℕ) → refusalAt bytes n ≡ k → k ≢ 0
+          → Turned bytes next (ended t k n) work
+      turned-by t k next work is some-number = record {
         passes = λ none. absurd (some-number none);
         turned-away = λ _. record {
           earlier-pass = all-pass;
@@ -116,30 +118,30 @@ module _ (bytes : List ℕ) where
       }
 
       pub unread-turn :
-          (m : Machine) (at k e next : ℕ) (work : List ℕ) → readAt bytes (start bytes n) ≡ refused k e
-          → Turned bytes next (turn m at k n) work
-      unread-turn m at k e next work is =
-          turned-by m at k next work (unread-number k e is) (unread-some k e is)
+          (t : Turn) (k e next : ℕ) (work : List ℕ) → readAt bytes (start bytes n) ≡ refused k e
+          → Turned bytes next (ended t k n) work
+      unread-turn t k e next work is = turned-by t k next work (unread-number k e is) (unread-some k e is)
 
       pub forbidden-turn :
-          (m : Machine) (at k next : ℕ) (work : List ℕ) (x : Event) (past : ℕ)
+          (t : Turn) (k next : ℕ) (work : List ℕ) (x : Event) (past : ℕ)
           → readAt bytes (start bytes n) ≡ event x past → refusal (events bytes) n ≡ k → k ≢ 0
-          → Turned bytes next (turn m at k n) work
-      forbidden-turn m at k next work x past is-read is some-number =
-          turned-by m at k next work (read-number x past is-read ∙ is) some-number
+          → Turned bytes next (ended t k n) work
+      forbidden-turn t k next work x past is-read is some-number =
+          turned-by t k next work (read-number x past is-read ∙ is) some-number
 
     -- ---- a record that passes
 
     pub passing-turn :
-        (m : Machine) (work : List ℕ) (x : Event) (past : ℕ)
+        (m : Machine) (found : Evidence) (work : List ℕ) (x : Event) (past : ℕ)
         → ((e : ℕ) → e < n → refusalAt bytes e ≡ 0) → readAt bytes (start bytes n) ≡ event x past
         → refusal (events bytes) n ≡ 0 → Sim (events bytes) (suc n) (world m work)
-        → Turned bytes (suc n) (turn m past 0 0) work
-    passing-turn m work x past earlier is-read passes state = record {
+        → Held (events bytes) (suc n) found work → Turned bytes (suc n) (going m found past) work
+    passing-turn m found work x past earlier is-read passes state loads = record {
       passes = λ _. record {
         position = read-next bytes n x past is-read;
         all-pass = last-or-earlier;
         state = state;
+        loads = loads;
       };
       turned-away = λ some-number. absurd (some-number refl);
     }
@@ -156,37 +158,51 @@ module _ (bytes : List ℕ) where
   none-earlier : (e : ℕ) → e < 0 → refusalAt bytes e ≡ 0
   none-earlier e inside = absurd (not-suc-le-zero inside)
 
-  module _ (m : Machine) (k next : ℕ) (work : List ℕ) where
-    pub first-unread : (e : ℕ) → readAt bytes 0 ≡ refused k e → Turned bytes next (turn m 0 k 0) work
+  module _ (t : Turn) (k next : ℕ) (work : List ℕ) where
+    pub first-unread : (e : ℕ) → readAt bytes 0 ≡ refused k e → Turned bytes next (ended t k 0) work
     unfolding start
-    first-unread e is = unread-turn 0 none-earlier refl m 0 k e next work is
+    first-unread e is = unread-turn 0 none-earlier refl t k e next work is
 
     pub first-forbidden :
         (x : Event) (past : ℕ) → readAt bytes 0 ≡ event x past → beginRefusal x ≡ k → k ≢ 0
-        → Turned bytes next (turn m 0 k 0) work
+        → Turned bytes next (ended t k 0) work
     unfolding start
     first-forbidden x past is-read is some-number =
-        forbidden-turn 0 none-earlier refl m 0 k next work x past is-read
+        forbidden-turn 0 none-earlier refl t k next work x past is-read
         (sym (begin-refusals (events bytes)) ∙ (ap beginRefusal (event-is 0 x past is-read) ∙ is)) some-number
 
   pub first-passes :
       (x : Event) (past : ℕ) → readAt bytes 0 ≡ event x past → beginRefusal x ≡ 0
-      → Turned bytes 1 (turn (started (fieldsOf x .threads) (fieldsOf x .locations)) past 0 0) (replicate 32768 0)
+      → Turned bytes 1 (startedAt (fieldsOf x .threads) (fieldsOf x .locations) past) (replicate 32768 0)
   unfolding start
   first-passes x past is-read is =
-      let event-0 = event-is 0 x past is-read in
-      let room : 32768 ≤ length {A = ℕ} (replicate 32768 0) = omega (arith, length-replicate {A = ℕ} 32768 0) in
-      let passes : refusal (events bytes) 0 ≡ 0 =
-      sym (begin-refusals (events bytes)) ∙ (ap beginRefusal event-0 ∙ is)
-      in
-      passing-turn 0 (started (fieldsOf x .threads) (fieldsOf x .locations)) (replicate 32768 0) x past none-earlier
-      is-read passes
-      (rw (sym event-0)
-      (sim-start (events bytes) passes (replicate 32768 0) room cleared-cell))
+      passing-turn 0 begun nothing (replicate 32768 0) x past none-earlier is-read passes state
+      (held-first (events bytes) begun (replicate 32768 0) cleared-cell state)
+    where
+      begun : Machine
+      begun = started (fieldsOf x .threads) (fieldsOf x .locations)
+
+      event-0 : events bytes 0 ≡ x
+      event-0 = event-is 0 x past is-read
+
+      passes : refusal (events bytes) 0 ≡ 0
+      passes = sym (begin-refusals (events bytes)) ∙ (ap beginRefusal event-0 ∙ is)
+
+      room : 32768 ≤ length {A = ℕ} (replicate 32768 0)
+      room = omega (arith, length-replicate {A = ℕ} 32768 0)
+
+      state : Sim (events bytes) 1 (world begun (replicate 32768 0))
+      state = rw (sym event-0) (sim-start (events bytes) passes (replicate 32768 0) room cleared-cell)
 
   -- ---- a later record
 
-  module _ (n at : ℕ) (m : Machine) (work : List ℕ) (reached : Reached bytes n at m work) where
+  module _ (n : ℕ) (t : Turn) (work : List ℕ) (reached : Reached bytes n t work) where
+    abbrev at : ℕ
+    at = t .at
+
+    abbrev m : Machine
+    m = t .machine
+
     read-there : (a : Answer) → readAt bytes at ≡ a → readAt bytes (start bytes n) ≡ a
     read-there a is = ap (readAt bytes) (sym (reached .position)) ∙ is
 
@@ -206,36 +222,46 @@ module _ (bytes : List ℕ) where
         ∙ ap (refusalW (world m work)) (at-event x past is-read)
 
     module _ (inside : at < length bytes) (k next : ℕ) (after : List ℕ) where
-      pub later-unread : (e : ℕ) → readAt bytes at ≡ refused k e → Turned bytes next (turn m at k n) after
+      pub later-unread : (e : ℕ) → readAt bytes at ≡ refused k e → Turned bytes next (ended t k n) after
       later-unread e is =
-          unread-turn n (reached .all-pass) (still-inside inside) m at k e next after (read-there (refused k e) is)
+          unread-turn n (reached .all-pass) (still-inside inside) t k e next after (read-there (refused k e) is)
 
       pub later-forbidden :
           (x : Event) (past : ℕ) → readAt bytes at ≡ event x past → refusalW (world m work) x ≡ k → k ≢ 0
-          → Turned bytes next (turn m at k n) after
+          → Turned bytes next (ended t k n) after
       later-forbidden x past is-read is some-number =
-          forbidden-turn n (reached .all-pass) (still-inside inside) m at k next after x past
+          forbidden-turn n (reached .all-pass) (still-inside inside) t k next after x past
           (read-there (event x past) is-read) (rule-is x past is-read ∙ is) some-number
 
     pub later-passes :
         (x : Event) (past : ℕ) → readAt bytes at ≡ event x past → refusalW (world m work) x ≡ 0
-        → (m' : Machine) (work' : List ℕ) → world m' work' ≡ stepW (world m work) x
-        → Turned bytes (suc n) (turn m' past 0 0) work'
-    later-passes x past is-read is m' work' stepped =
-        let passes : refusal (events bytes) n ≡ 0 = rule-is x past is-read ∙ is in
-        passing-turn n m' work' x past (reached .all-pass) (read-there (event x past) is-read) passes
-        (rw (stepped, sym (at-event x past is-read))
-        (step-next (events bytes) n (world m work) (reached .state) passes))
+        → (m' : Machine) (found' : Evidence) (work' : List ℕ) → found' ≡ foundBy (t .found) m work x
+        → world m' work' ≡ stepW (world m (judgedWork (t .found) m work x)) x
+        → Turned bytes (suc n) (going m' found' past) work'
+    later-passes x past is-read is m' found' work' found-is stepped =
+        passing-turn n m' found' work' x past (reached .all-pass) (read-there (event x past) is-read) passes
+        (rw (stepped, sym event-n)
+        (sim-next (events bytes) n m (t .found) work (reached .state) (reached .loads) passes))
+        (rw (found-is, work-is, sym event-n)
+        (held-next (events bytes) n m (t .found) work (reached .state) (reached .loads) passes))
+      where
+        passes : refusal (events bytes) n ≡ 0
+        passes = rule-is x past is-read ∙ is
+
+        event-n : events bytes n ≡ x
+        event-n = at-event x past is-read
+
+        work-is : work' ≡ stepW (world m (judgedWork (t .found) m work x)) x .work
+        work-is = ap (λ (w : World). w .work) stepped
 
     -- the machine knows the record's number
-    pub reached-here : Reached bytes (m .event) at m work
-    reached-here =
-        subst (λ (e : ℕ). Reached bytes e at m work) (sym (reached .state .numbers .event-is)) reached
+    pub reached-here : Reached bytes (m .event) t work
+    reached-here = subst (λ (e : ℕ). Reached bytes e t work) (sym (reached .state .numbers .event-is)) reached
 
     -- ---- the next record lies further on
 
-    further : (m' : Machine) (at' : ℕ) (work' : List ℕ) → Reached bytes (suc n) at' m' work' → at < at'
-    further m' at' work' next =
+    further : (t' : Turn) (work' : List ℕ) → Reached bytes (suc n) t' work' → at < t' .at
+    further t' work' next =
         let p = passed→ bytes n (next .all-pass n (omega arith)) in
         omega (arith, reached .position, next .position, read-grows bytes n (p .x) (p .next) (p .is-read))
 
@@ -247,6 +273,6 @@ module _ (bytes : List ℕ) where
         by-refusal :
             (eqb (t' .refusal) 0 ≡ true) ⊎ (eqb (t' .refusal) 0 ≡ false) → left bytes t' < suc (length bytes - at)
         by-refusal (inl none) =
-            let on = further (t' .machine) (t' .at) work' (next .passes (eqb-true (t' .refusal) 0 none)) in
+            let on = further t' work' (next .passes (eqb-true (t' .refusal) 0 none)) in
             rw none (omega arith)
         by-refusal (inr some) = rw some (omega arith)

@@ -1,7 +1,8 @@
 -- For the fold over a trace: the invariant of judging, its start, its steps and its two ends. While no pair is found,
 -- the rows of the machine and the marks say what the definitions say of the first n events. A counted load that breaks
 -- gives the ruling of every accepted trace that begins with these events, so later records need nothing of the marks.
--- In order: `Good`; `good-start`; `good-quiet`; the counted load, `good-load` and `good-breaks`; `good-robust`.
+-- In order: `Good`; `good-start`; the machine's steps, `good-kept` and `good-quiet`; the counted load, `good-load` and
+-- `good-breaks`; `good-robust`.
 use Prim.Native.Nat.{ℕ, suc, _≤_, _<_}
 use native.Mathlib.Omega.{arith}
 use mathlib.Core.Path.{_≡_, refl, sym, _∙_, ap₂}
@@ -29,7 +30,7 @@ use Rattle.model.proofs.Unchanged.{landed-away}
 use Rattle.model.proofs.RepeatedLoads.{Repeats}
 use Rattle.area.specs.Cells.{getRow, cell}
 use Rattle.area.specs.Tables.{cutSlot, lowSlot, lastSlot, commitsSlot, loadStretchSlot}
-use Rattle.area.specs.Rows.{Rows, JudgingSlot, ButMachine}
+use Rattle.area.specs.Rows.{Rows, ButMachine}
 use Rattle.marks.specs.Marking.{loaded}
 use Rattle.marks.specs.Testing.{hits, missingBy, observedBy}
 use Rattle.marks.specs.Judged.{repeated, noted, judged, breaks}
@@ -73,26 +74,39 @@ module _ (ev : ℕ → Event) where
     loads = λ x there some. absurd (some (empty (suc (loadStretchSlot x)) 13));
   }
 
-  -- ---- an event that is no counted load: v is the work area after the machine's step
+  -- ---- a step of the machine: v is the work area after it
 
-  pub good-quiet :
-      (n : ℕ) (w v : List ℕ) → Accepted ev (suc n) → counted ev n ≡ false → ButMachine w v → Rows ev (suc n) v
-      → Good n w → Good (suc n) v
-  good-quiet n w v accepted uncounted leaves rows good = record {
-    rows = rows;
-    judging =
-        quiet-step ev n accepted v uncounted (says-there ev (leaves .flags) same-marks (good .judging));
-    no-pair = uncounted-no-worse ev n accepted uncounted (good .no-pair);
-    loads =
-        loads-later ev n (suc n) w v (omega arith) (λ i from-496 below. leaves .slots i (load-slot i from-496 below))
-        (good .loads);
-  }
-    where
-      same-marks : (i : ℕ) → 256 ≤ i → i < 368 → cell v i ≡ cell w i
-      same-marks i from-256 below = leaves .slots i (record { in-range = inl (from-256, below) })
+  module _ (w v : List ℕ) (leaves : ButMachine w v) where
+    judging-kept : (n : ℕ) → Judging ev n w → Judging ev n v
+    judging-kept n = says-there ev (leaves .flags) same-marks
+      where
+        same-marks : (i : ℕ) → 256 ≤ i → i < 368 → cell v i ≡ cell w i
+        same-marks i from-256 below = leaves .slots i (record { in-range = inl (from-256, below) })
 
-      load-slot : (i : ℕ) → 496 ≤ i → i < 1008 → JudgingSlot i
-      load-slot i from-496 below = record { in-range = inr (from-496, below) }
+    loads-kept : (n m : ℕ) → n ≤ m → Loads ev n w → Loads ev m v
+    loads-kept n m within = loads-later ev n m w v within same-loads
+      where
+        same-loads : (i : ℕ) → 496 ≤ i → i < 1008 → cell v i ≡ cell w i
+        same-loads i from-496 below = leaves .slots i (record { in-range = inr (from-496, below) })
+
+    -- that of an event which has been judged already
+    pub good-kept : (n : ℕ) → Rows ev n v → Good n w → Good n v
+    good-kept n rows good = record {
+      rows = rows;
+      judging = judging-kept n (good .judging);
+      no-pair = good .no-pair;
+      loads = loads-kept n n (omega arith) (good .loads);
+    }
+
+    -- that of an event which is no counted load
+    pub good-quiet :
+        (n : ℕ) → Accepted ev (suc n) → counted ev n ≡ false → Rows ev (suc n) v → Good n w → Good (suc n) v
+    good-quiet n accepted uncounted rows good = record {
+      rows = rows;
+      judging = quiet-step ev n accepted v uncounted (judging-kept n (good .judging));
+      no-pair = uncounted-no-worse ev n accepted uncounted (good .no-pair);
+      loads = loads-kept n (suc n) (omega arith) (good .loads);
+    }
 
   -- ---- a counted load
 

@@ -36,6 +36,9 @@ module _ (ev : ℕ → Event) where
   pub begin-no-issue : {e : ℕ} → is ev 1 e ≡ true → Issue ev e → ⊥
   begin-no-issue {e} begins store = false-true (sym (one-kind e 1 2 (omega arith) begins) ∙ store .test)
 
+  pub begin-no-load : (e : ℕ) → is ev 1 e ≡ true → load? ev e ≡ false
+  begin-no-load e = one-kind e 1 4 (omega arith)
+
   -- ---- the decisions
 
   pub issue-or-not : (e : ℕ) → Issue ev e ⊎ (issue? ev e ≡ false)

@@ -29,19 +29,19 @@ returns c =
     let at-number = c .before in
     let at-told = at-number .before in
     let at-read = at-told .before .before in
-    let entry = at-read .before .before .before in
+    let entry = at-read .before .before .before .before in
     let bytes : List ℕ = entry .args .trace .now in
-    let at : ℕ = entry .args .at in
-    let m = entry .args .m in
+    let t = entry .args .t in
     let work : List ℕ = entry .args .work .now in
     let told = at-told .enum-told .given in
     let k : ℕ = at-number .number-of .result in
     let unread =
-    was-refused bytes (at-read .read-at .result) at (told .0 .0) k (at-read .read-at .ensures) (told .1)
+    was-refused bytes (at-read .read-at .result) (t .at) (told .0 .0) k (at-read .read-at .ensures) (told .1)
     (at-number .number-of .ensures)
     in
     rw (c .refuse .ensures)
-    (later-unread bytes (m .event) at m work (entry .pre .0) (entry .pre .1) k (suc (m .event)) work 0 unread)
+    (later-unread bytes (t .machine .event) t work (entry .pre .0) (entry .pre .1) k (suc (t .machine .event)) work 0
+    unread)
 
 refusal-of-requires : tie.Need-refusal-of-requires
 refusal-of-requires c κs = search needs
@@ -57,18 +57,21 @@ returns-2 c =
     let at-rule = c .before .before in
     let at-record = at-rule .before .before .before in
     let at-read = at-record .before .before in
-    let entry = at-read .before .before .before in
+    let entry = at-read .before .before .before .before in
     let bytes : List ℕ = entry .args .trace .now in
-    let at : ℕ = entry .args .at in
-    let m = entry .args .m in
+    let t = entry .args .t in
+    let n : ℕ = t .machine .event in
     let work : List ℕ = entry .args .work .now in
     let told = at-record .r .given in
     let x = told .0 .0 in
     let past = told .0 .1 .0 in
-    let is-read = was-read bytes (at-read .read-at .result) at x past (at-read .read-at .ensures) (told .1) in
+    let is-read = was-read bytes (at-read .read-at .result) (t .at) x past (at-read .read-at .ensures) (told .1) in
     rw (c .refuse2 .ensures)
-    (later-forbidden bytes (m .event) at m work (entry .pre .0) (entry .pre .1) (at-rule .refusal-of .result)
-    (suc (m .event)) work x past is-read (sym (at-rule .refusal-of .ensures)) (λ none. omega arith))
+    (later-forbidden bytes n t work (entry .pre .0) (entry .pre .1) (at-rule .refusal-of .result) (suc n) work x past
+    is-read (sym (at-rule .refusal-of .ensures)) (λ none. omega arith))
+
+judge-event-requires : tie.Need-judge-event-requires
+judge-event-requires c κs = search needs
 
 step-requires : tie.Need-step-requires
 step-requires c κs = search needs
@@ -79,22 +82,24 @@ same-length-2 c = search needs
 returns-3 : tie.Need-returns-3
 returns-3 c =
     let at-step = c .before .before in
-    let at-rule = at-step .before .before .before in
+    let at-judged = at-step .before .before .before .before in
+    let judged = at-judged .judge-event in
+    let at-rule = at-judged .before .before .before in
     let at-record = at-rule .before .before .before in
     let at-read = at-record .before .before in
-    let entry = at-read .before .before .before in
+    let entry = at-read .before .before .before .before in
     let bytes : List ℕ = entry .args .trace .now in
-    let at : ℕ = entry .args .at in
-    let m = entry .args .m in
+    let t = entry .args .t in
     let told = at-record .r .given in
     let x = told .0 .0 in
     let past = told .0 .1 .0 in
-    let is-read = was-read bytes (at-read .read-at .result) at x past (at-read .read-at .ensures) (told .1) in
-    later-passes bytes (m .event) at m (entry .args .work .now) (entry .pre .0) x past is-read
-    (omega (arith, at-rule .refusal-of .ensures)) (at-step .step .result) _ (at-step .step .ensures)
+    let is-read = was-read bytes (at-read .read-at .result) (t .at) x past (at-read .read-at .ensures) (told .1) in
+    later-passes bytes (t .machine .event) t (entry .args .work .now) (entry .pre .0) x past is-read
+    (omega (arith, at-rule .refusal-of .ensures)) (at-step .step .result) (judged .result) _ (judged .ensures .0)
+    (rw (sym (judged .ensures .1)) (at-step .step .ensures))
 
 pub judge-record-spec : {M : Type 1} → statement M
 judge-record-spec =
     tie.close
     (tie.spec read-at-requires enum-known-r enum-told number-of-requires refuse-requires returns refusal-of-requires
-    refuse-requires-2 same-length returns-2 step-requires same-length-2 returns-3)
+    refuse-requires-2 same-length returns-2 judge-event-requires step-requires same-length-2 returns-3)

@@ -35,7 +35,7 @@ judge-record-requires c κs =
     let here = at-loop .loop in
     let entry = at-loop .before .before .before .before in
     let reached = here .inv .1 .1 .passes (omega arith) in (
-      reached-here (entry .args .trace .now) (here .inv .1 .0) (here .t .at) (here .t .machine) (here .work) reached,
+      reached-here (entry .args .trace .now) (here .inv .1 .0) (here .t) (here .work) reached,
       ltb-true _ _ (at-inside .if2 .taken),
     )
 
@@ -46,19 +46,18 @@ loop-less c =
     let at-loop = at-inside .before .before .before .before in
     let here = at-loop .loop in
     let bytes : List ℕ = at-loop .before .before .before .before .args .trace .now in
-    let m = here .t .machine in
     let reached = here .inv .1 .1 .passes (omega arith) in
     rw (eq-eqb (here .t .refusal) 0 (omega arith))
-    (less-left bytes (m .event) (here .t .at) m (here .work)
-    (reached-here bytes (here .inv .1 .0) (here .t .at) m (here .work) reached)
-    (at-record .judge-record .result) _ (ltb-true _ _ (at-inside .if2 .taken)) (at-record .judge-record .ensures))
+    (less-left bytes (here .t .machine .event) (here .t) (here .work)
+    (reached-here bytes (here .inv .1 .0) (here .t) (here .work) reached) (at-record .judge-record .result) _
+    (ltb-true _ _ (at-inside .if2 .taken)) (at-record .judge-record .ensures))
 
 loop-again : tie.Need-loop-again Inv-loop μ-loop
 loop-again c =
     let at-record = c .before .before in
     let here = at-record .before .before .before .before .before .before .loop in
     let called = at-record .judge-record in
-    (called .kept .1 .1 .1 .0 ∙ here .inv .0, (suc (here .t .machine .event), called .ensures))
+    (called .kept .1 .1 .0 ∙ here .inv .0, (suc (here .t .machine .event), called .ensures))
 
 same-length : tie.Need-same-length Inv-loop μ-loop
 same-length c = c .before .before .before .before .loop .inv .0

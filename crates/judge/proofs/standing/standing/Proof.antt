@@ -1,21 +1,12 @@
 -- `standing` meets its contract: its tests are those of `standingAfter`, one after the other. A test of the code with
 -- a `!` is read the other way round.
-use mathlib.Core.Path.{_≡_, refl, sym}
-use mathlib.Core.Bool.{Bool, true, false, not}
+use mathlib.Core.Path.{refl, sym}
 use native.Mathlib.Omega.{arith}
 use borrow.Author.Needs.{needs}
-use borrow.Author.Tests.{eq-eqb, ne-eqb}
+use borrow.Author.Tests.{eq-eqb, ne-eqb, not-true, not-false}
 use Rattle.judge.specs.Standings.{standingAfter}
 use Rattle.judge.proofs.standing.standing.Statement.{statement}
 use Rattle.judge.proofs.standing.standing.Tie as tie
-
-failed : (b : Bool) → not b ≡ true → b ≡ false
-failed true is = sym is
-failed false is = refl
-
-passed : (b : Bool) → not b ≡ false → b ≡ true
-passed true is = refl
-passed false is = sym is
 
 returns : tie.Need-returns
 unfolding standingAfter
@@ -34,7 +25,7 @@ returns-2 c =
     rw (
       eq-eqb (entry .args .t .refusal) 0 (omega arith),
       sym (p-store .ensures),
-      failed (p-store .result) (c .if2 .taken),
+      not-true (p-store .result) (c .if2 .taken),
     )
     refl
 
@@ -52,9 +43,9 @@ returns-3 c =
     rw (
       eq-eqb (entry .args .t .refusal) 0 (omega arith),
       sym (p-store .ensures),
-      passed (p-store .result) (at-first .if2 .left),
+      not-false (p-store .result) (at-first .if2 .left),
       sym (q-store .ensures),
-      failed (q-store .result) (c .if3 .taken),
+      not-true (q-store .result) (c .if3 .taken),
     )
     refl
 
@@ -72,9 +63,9 @@ returns-4 c =
     rw (
       eq-eqb (entry .args .t .refusal) 0 (omega arith),
       sym (p-store .ensures),
-      passed (p-store .result) (at-first .if2 .left),
+      not-false (p-store .result) (at-first .if2 .left),
       sym (q-store .ensures),
-      passed (q-store .result) (at-second .if3 .left),
+      not-false (q-store .result) (at-second .if3 .left),
     )
     (c .order-of .ensures)
 

@@ -1,0 +1,46 @@
+// Counted loads, judged as they come. The first that breaks the trace leaves its evidence; none after it is judged.
+ghost use mathlib.Core.Path.{_≡_};
+ghost use Rattle.judge.specs.Judging.{evidenceAt, judgedWork, foundBy};
+use machine::Machine;
+use marks::evidence;
+use marks::judged;
+use record::Event;
+
+// The load that breaks the trace, 0 while none does, with the missing and the observed store.
+pub struct Evidence {
+    pub load: u16,
+    pub missing: u16,
+    pub observed: u16,
+}
+
+// The evidence over records 0 to `load`, which are all that the work area knows of.
+fn evidence_at(work: &[u16], load: u16) -> Evidence
+    ensures { λ r. ⌜ r ≡ evidenceAt (now (work .entry)) load ⌝ }
+{
+    let n = area::numbers::next_number(load);
+    let missing = evidence::missing(work, n);
+    let observed = evidence::observed(work, n, missing);
+    Evidence {
+        load,
+        missing,
+        observed,
+    }
+}
+
+// The next event, which passes: what is found with it.
+pub(crate) fn judge_event(found: Evidence, m: Machine, work: &mut [u16], e: Event) -> Evidence
+    ensures { λ r. ⌜ r ≡ foundBy found m (now (work .entry)) e ⌝ }
+    ensures { λ _. ⌜ now (work .exit) ≡ judgedWork found m (now (work .entry)) e ⌝ }
+{
+    if found.load != 0 {
+        return found;
+    }
+    if !machine::counts(m, work, e) {
+        return found;
+    }
+    let f = record::fields_of(e);
+    if !judged::judge_load(work, m.stretch, f.location, f.source) {
+        return found;
+    }
+    evidence_at(work, m.event)
+}
