@@ -1,0 +1,2 @@
+-- What a reader has to believe of this crate: what the program `verdict` prints (Text).
+pub mod Text

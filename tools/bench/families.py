@@ -1,0 +1,136 @@
+"""Traces of one family and size, for counting the judge's instructions.
+
+`python3 families.py FAMILY EVENTS` writes a trace with that many events after its begin to standard output. Every
+trace is accepted, and robust: a broken trace would end the judging of loads early. Only the standard library is used.
+"""
+
+from __future__ import annotations
+
+import random
+import struct
+import sys
+from typing import Callable, Dict, List
+
+
+class Trace:
+    """A trace that grows by events that the machine's rules allow, and knows what its loads may read."""
+
+    def __init__(self, threads: int, locations: int) -> None:
+        self.bytes = struct.pack("<5H", 8, 1, 1, threads, locations)
+        self.threads = threads
+        self.locations = locations
+        self.events = 0
+        self.queues: List[List[tuple[int, int]]] = [[] for _ in range(threads)]
+        self.current: Dict[int, int] = {}
+        self.landed: Dict[int, int] = {}
+
+    def add(self, kind: int, *fields: int) -> int:
+        self.bytes += struct.pack(f"<{2 + len(fields)}H", 2 + 2 * len(fields), kind, *fields)
+        self.events += 1
+        return self.events
+
+    def issue(self, thread: int, location: int) -> None:
+        self.queues[thread].append((self.add(2, thread, location), location))
+
+    def commit(self, thread: int) -> None:
+        store, location = self.queues[thread].pop(0)
+        self.add(3, thread)
+        self.current[location] = store
+
+    def load(self, thread: int, location: int) -> None:
+        """The source that the load rule names; a crossing load reads the last store that landed before the stretch."""
+        waiting = [store for store, place in self.queues[thread] if place == location]
+        source = waiting[-1] if waiting else self.current.get(location, self.landed.get(location, 0))
+        self.add(4, thread, location, source)
+
+    def crash(self) -> None:
+        self.add(9)
+        self.landed.update(self.current)
+        self.current = {}
+        self.queues = [[] for _ in range(self.threads)]
+
+
+def mixed(events: int) -> Trace:
+    """Typical: four threads, 64 locations, stores and their commits, loads, flushes and fences, three crashes."""
+    draw = random.Random(1)
+    trace = Trace(4, 64)
+    while trace.events < events:
+        thread, location = draw.randrange(4), draw.randrange(64)
+        choice = draw.randrange(100)
+        if trace.events % (events // 4) == events // 4 - 1:
+            trace.crash()
+        elif choice < 30:
+            trace.issue(thread, location)
+        elif choice < 60 and trace.queues[thread]:
+            trace.commit(thread)
+        elif choice < 85:
+            trace.load(thread, location)
+        elif choice < 95:
+            trace.add(6, thread, location)
+        else:
+            trace.add(7, thread)
+    return trace
+
+
+def one_location(events: int) -> Trace:
+    """All stores at one location, then, after a crash, loads of it."""
+    trace = Trace(1, 1)
+    while trace.events < events // 2:
+        trace.issue(0, 0)
+        trace.commit(0)
+    trace.crash()
+    while trace.events < events:
+        trace.load(0, 0)
+    return trace
+
+
+def long_queue(events: int) -> Trace:
+    """One thread with a long queue, which loads other locations."""
+    trace = Trace(1, 256)
+    while trace.events < events // 2:
+        trace.issue(0, trace.events % 128)
+    while trace.events < events:
+        trace.load(0, 128 + trace.events % 128)
+    return trace
+
+
+def seven_crashes(events: int) -> Trace:
+    """Stores before each of seven crashes, and loads after each."""
+    trace = Trace(2, 32)
+    part = events // 8
+    for _ in range(7):
+        while (trace.events + 1) % part:
+            turn = trace.events % part
+            if turn < part // 3:
+                trace.load(turn % 2, turn % 32)
+            else:
+                trace.issue(turn % 2, turn % 32)
+                if (trace.events + 1) % part:
+                    trace.commit(turn % 2)
+        trace.crash()
+    while trace.events < events:
+        trace.load(trace.events % 2, trace.events % 32)
+    return trace
+
+
+def eight_threads(events: int) -> Trace:
+    """Eight threads that store and load from each other."""
+    trace = Trace(8, 8)
+    while trace.events + 3 <= events:
+        turn = trace.events // 3
+        trace.issue(turn % 8, turn % 8)
+        trace.commit(turn % 8)
+        trace.load((turn + 1) % 8, turn % 8)
+    while trace.events < events:
+        trace.load(0, 0)
+    return trace
+
+
+FAMILIES: Dict[str, Callable[[int], Trace]] = {
+    "mixed": mixed, "one_location": one_location, "long_queue": long_queue, "seven_crashes": seven_crashes,
+    "eight_threads": eight_threads}
+
+if __name__ == "__main__":
+    made = FAMILIES[sys.argv[1]](int(sys.argv[2]))
+    assert made.events == int(sys.argv[2]), made.events
+    sys.stdout.buffer.write(made.bytes)
