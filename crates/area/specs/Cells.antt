@@ -1,6 +1,6 @@
 -- Rows of 16 numbers, one for each event from 1 to 2,048; and column 13 as a list of cells. Reads and stores are total.
 use Prim.Native.Nat.{ℕ, suc, _+_, _-_, _*_, min}
-use mathlib.Core.Bool.{Bool, cond}
+use mathlib.Core.Bool.{cond}
 use mathlib.Core.List.{List}
 use lib.ListN.{getD, set}
 use lib.Dec.{eqb, ltb}

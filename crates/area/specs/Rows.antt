@@ -1,6 +1,6 @@
 -- What the rows of stores hold after n events, and which cells each half of the judge may change: the machine's steps
 -- the clocks, links and tables of the machine; judging the flags, the cut, the lowest forbidden places and the loads.
-use Prim.Native.Nat.{ℕ, suc, _≤_, _<_}
+use Prim.Native.Nat.{ℕ, _≤_, _<_}
 use mathlib.Core.Path.{_≡_}
 use mathlib.Core.Logic.{_⊎_, _≢_}
 use mathlib.Core.List.{List, [], _∷_}

@@ -5,12 +5,12 @@ use Prim.Native.Nat.{ℕ, zero, suc, _+_, _≤_, _<_}
 use native.Mathlib.Omega.{arith}
 use mathlib.Core.Path.{_≡_, refl, sym, ap, _∙_, fun-ext}
 use mathlib.Core.Bool.{Bool, true, false, cond, _&&_, not}
-use mathlib.Core.Logic.{_⊎_, inl, inr, _≢_}
+use mathlib.Core.Logic.{_⊎_, inl, inr}
 use mathlib.Core.List.{List, [], _∷_, _++_}
-use lib.ListN.{length, getD, drop, length-drop, List·getD-eq-default}
+use lib.ListN.{length, drop, length-drop, List·getD-eq-default}
 use lib.Seq.{drop-drop, drop-cons, drop-length, drop-append-seam}
 use lib.Dec.{eqb, ltb}
-use borrow.Author.Tests.{eqb-true, eqb-false, eq-eqb, ltb-true, ltb-false, lt-ltb, le-ltb, not-true, not-false}
+use borrow.Author.Tests.{eqb-true, eqb-false, not-true, not-false}
 use Rattle.record.specs.declared.events.Event.{Event}
 use Rattle.record.specs.declared.events.Event.the-variants.{Crash}
 use Rattle.record.specs.Answers.{Answer, refused, event}
@@ -27,7 +27,7 @@ use Rattle.model.specs.Reading.{events, refusalAt, endsAt, Reading, acce
 use Rattle.model.specs.Reading.{AcceptedWith, TurnedAwayWith}
 use Rattle.model.specs.Answers as Answers
 use Rattle.model.specs.Verdict.{rulingOf}
-use Rattle.model.specs.Judge.{ruledAnswer, ruledCut, readingAnswer, readingCut, judgeOf, cutAfter}
+use Rattle.model.specs.Judge.{ruledAnswer, ruledCut, readingAnswer, readingCut}
 use Rattle.model.proofs.Searching.{false-true, test, parts, less?, →some, First, first-is}
 use Rattle.model.proofs.TurnedAway.{accepted-exactly, turned-away-exactly}
 

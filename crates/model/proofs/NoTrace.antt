@@ -9,7 +9,7 @@ use Rattle.record.specs.Table.{rowOf}
 use Rattle.record.specs.Fields.{eventOf}
 use Rattle.model.specs.Search.{first, firstFrom}
 use Rattle.model.specs.Rules.{answer, rules}
-use Rattle.model.specs.Reading.{Reading, turnedAway, stop, refusalAt, events, readingOf}
+use Rattle.model.specs.Reading.{turnedAway, stop, refusalAt, events, readingOf}
 
 -- B, version 1 with one thread and two locations, and the bytes that follow it
 abbrev begun : List ℕ → List ℕ

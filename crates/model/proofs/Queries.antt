@@ -1,16 +1,16 @@
 -- The order query is exact: of two stores it answers same, before, after or neither exactly as happens-before has them.
 -- The clock of a store covers another exactly if they are equal or the other happens before it. Assumes nothing.
-use Prim.Native.Nat.{ℕ, _≤_, _<_}
+use Prim.Native.Nat.{ℕ, _≤_}
 use native.Mathlib.Omega.{arith}
-use mathlib.Core.Path.{_≡_, refl, sym, _∙_}
-use mathlib.Core.Bool.{Bool, true, false, _&&_, not}
+use mathlib.Core.Path.{_≡_, sym, _∙_}
+use mathlib.Core.Bool.{true, false, _&&_, not}
 use mathlib.Core.Logic.{_⊎_, inl, inr, _≢_, _↔_}
 use mathlib.Core.List.{List}
 use lib.Dec.{eqb, ltb}
 use borrow.Author.Tests.{eqb-true, eqb-false, eq-eqb, ne-eqb, ltb-true, lt-ltb, le-ltb, not-true}
 use Rattle.record.specs.declared.events.Event.{Event}
 use Rattle.record.specs.Tests.{_gives_else_}
-use Rattle.model.specs.Trace.{thread, issue?, Issue, stretch, place}
+use Rattle.model.specs.Trace.{thread, Issue, stretch, place}
 use Rattle.model.specs.HappensBefore.{Before}
 use Rattle.model.specs.Clocks.{vc}
 use Rattle.model.specs.Answers.{before, after, same, neither}

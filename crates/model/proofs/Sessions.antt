@@ -3,19 +3,18 @@
 -- is computed. Assumes nothing.
 use Prim.Native.Nat.{ℕ, zero, suc, _<_}
 use native.Mathlib.Omega.{arith}
-use mathlib.Core.Path.{_≡_, refl, sym, ap, ap₂, _∙_}
-use mathlib.Core.Bool.{Bool, true, false, _&&_}
+use mathlib.Core.Path.{_≡_, refl, ap₂}
+use mathlib.Core.Bool.{Bool, true, _&&_}
 use mathlib.Core.List.{List, [], _∷_, map}
-use lib.ListN.{length, getD, replicate}
+use lib.ListN.{length, replicate}
 use lib.Dec.{ltb}
 use borrow.Author.Tests.{ltb-true}
 use Rattle.record.specs.declared.events.Event.{Event}
-use Rattle.record.specs.declared.events.Event.the-variants.{Begin, Crash}
 use Rattle.record.specs.Fields.{fieldsOf, TwoByte}
 use Rattle.model.specs.Trace.{traceOf}
 use Rattle.model.specs.Answers.{Answer}
-use Rattle.model.specs.Judge.{cleared, judgeOf, cutAfter}
-use Rattle.model.proofs.Searching.{false-true, parts}
+use Rattle.model.specs.Judge.{judgeOf, cutAfter}
+use Rattle.model.proofs.Searching.{parts}
 use Rattle.model.proofs.Encoding.{encode, AllTwoByte, twoByte?, readingEvents, answerEvents, cutEvents}
 use Rattle.model.proofs.Encoding.{same-reading, same-answer, same-cut}
 

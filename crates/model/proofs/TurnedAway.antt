@@ -1,10 +1,10 @@
 -- Refusals are exact: a trace's bytes are accepted with N records, or turned away with number k at event e, exactly if
 -- document 01's conditions hold, and one of the two holds of all bytes. The search for the first record that is turned
 -- away always ends, since each record that is read takes at least four bytes. Assumes nothing.
-use Prim.Native.Nat.{ℕ, zero, suc, _+_, _*_, _≤_, _<_}
+use Prim.Native.Nat.{ℕ, zero, suc, _*_, _≤_, _<_}
 use native.Mathlib.Omega.{arith}
-use mathlib.Core.Path.{_≡_, refl, sym, ap, _∙_}
-use mathlib.Core.Bool.{Bool, true, false, cond, _&&_, not}
+use mathlib.Core.Path.{_≡_, sym, _∙_}
+use mathlib.Core.Bool.{Bool, true, false, cond, not}
 use mathlib.Core.Logic.{_⊎_, inl, inr, _≢_, _↔_}
 use mathlib.Core.List.{List}
 use lib.ListN.{length}
@@ -19,8 +19,8 @@ use Rattle.record.proofs.Starts.{start-inside, read-grows, read-at-answers}
 use Rattle.model.specs.Search.{some, first}
 use Rattle.model.specs.Rules.{refusal, Accepted}
 use Rattle.model.specs.Reading.{refusalIn, events, refusalAt, stop, endsAt}
-use Rattle.model.specs.Reading.{Reading, accepted, turnedAway, readingOf, AcceptedWith, TurnedAwayWith}
-use Rattle.model.proofs.Searching.{false-true, test, both, parts, same?, less?, some→, →some, First, first-is}
+use Rattle.model.specs.Reading.{accepted, turnedAway, readingOf, AcceptedWith, TurnedAwayWith}
+use Rattle.model.proofs.Searching.{false-true, test, both, parts, less?, →some, First, first-is}
 
 module _ (bytes : List ℕ) where
   -- ---- one record

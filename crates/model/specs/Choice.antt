@@ -1,7 +1,7 @@
 -- Choices of crash points, and what robust and broken mean: document 01, "Happens-before and the choice".
 use Prim.Native.Nat.{ℕ, suc, _≤_, _<_}
 use mathlib.Core.Path.{_≡_}
-use mathlib.Core.Bool.{Bool, true, cond}
+use mathlib.Core.Bool.{true, cond}
 use mathlib.Core.Logic.{_⊎_, _≢_}
 use lib.Dec.{ltb}
 use Rattle.record.specs.declared.events.Event.{Event}

@@ -2,13 +2,13 @@
 -- and the choice" and "When a trace is turned away".
 use Prim.Native.Nat.{ℕ, _-_}
 use mathlib.Core.List.{List, _++_}
-use mathlib.Core.Bool.{Bool, true, false, cond, _&&_, _||_, not}
+use mathlib.Core.Bool.{Bool, _&&_, _||_, not}
 use lib.ListN.{length, drop, replicate}
 use lib.Dec.{eqb, ltb}
 use Rattle.record.specs.declared.events.Event.{Event}
 use Rattle.record.specs.Tests.{_gives_else_}
 use Rattle.model.specs.Trace.{thread, issue?, stretch, place}
-use Rattle.model.specs.Choice.{Choice, Ruling, robust, broken, finished}
+use Rattle.model.specs.Choice.{Ruling, robust, broken, finished}
 use Rattle.model.specs.Clocks.{vc}
 use Rattle.model.specs.Verdict.{rulingOf}
 use Rattle.model.specs.Reading.{events, Reading, accepted, turnedAway, readingOf}

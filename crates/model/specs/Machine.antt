@@ -2,8 +2,8 @@
 -- A queue is no list here: it is first in, first out, so of a thread's stores in a stretch the first are committed, as
 -- many as it has commits there, and the others wait. "A thread's state is handed to each record and comes back
 -- changed": that state is the code's; here it is what the events before n say.
-use Prim.Native.Nat.{ℕ, zero, suc, _≤_, _<_}
-use mathlib.Core.Bool.{Bool, true, false, cond, _&&_, _||_, not}
+use Prim.Native.Nat.{ℕ, zero, suc}
+use mathlib.Core.Bool.{Bool, false, cond, _&&_, _||_, not}
 use lib.Dec.{eqb, ltb, leb}
 use Rattle.record.specs.declared.events.Event.{Event}
 use Rattle.model.specs.Search.{last}

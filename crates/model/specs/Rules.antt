@@ -1,8 +1,8 @@
 -- Which events the machine's rules forbid, and in which order: document 01, "When a trace is turned away", refusals 1
 -- and 5 to 13. Refusals 2 to 4 are the record layer's; specs/Reading.antt puts them in front.
-use Prim.Native.Nat.{ℕ, _≤_, _<_}
+use Prim.Native.Nat.{ℕ, _<_}
 use mathlib.Core.Path.{_≡_}
-use mathlib.Core.Bool.{Bool, true, false, cond, _&&_, _||_, not}
+use mathlib.Core.Bool.{Bool, cond, _&&_, _||_, not}
 use lib.Dec.{eqb, ltb, leb}
 use Rattle.record.specs.declared.events.Event.{Event}
 use Rattle.record.specs.Fields.{fieldsOf}

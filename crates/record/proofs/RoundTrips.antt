@@ -14,7 +14,7 @@ use Rattle.record.specs.Bytes.{word, bytes}
 use Rattle.record.specs.Table.{rowOf, lengthOf}
 use Rattle.record.specs.Events.{kindOf, valuesOf, recordOf}
 use Rattle.record.specs.Fields.{fieldsAt, fieldsOf, eventOf, TwoByte}
-use Rattle.record.specs.Answers.{Answer, event, wrote}
+use Rattle.record.specs.Answers.{event, wrote}
 use Rattle.record.specs.Reading.{readFirst}
 use Rattle.record.specs.Writing.{writing, written}
 use Rattle.record.specs.declared.events.Event.{Event}

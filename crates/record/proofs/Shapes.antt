@@ -1,17 +1,17 @@
 -- How the table lays out each kind's record: facts that hold of every kind, by one clause for each.
 -- Assumes nothing.
-use mathlib.Core.Path.{_≡_, refl, sym, ap, _∙_}
+use mathlib.Core.Path.{_≡_, refl, sym, _∙_}
 use mathlib.Core.Bool.{Bool, true, false}
 use mathlib.Core.Logic.{_⊎_, inl, inr}
 use mathlib.Core.List.{List, [], _∷_, _++_}
-use Prim.Native.Nat.{ℕ, zero, suc, _+_, _-_, _*_, _/_, _%_, _<_, _≤_}
+use Prim.Native.Nat.{ℕ, zero, suc, _+_, _-_, _*_, _/_, _%_, _≤_}
 use native.Mathlib.Nat.{zero-add}
 use native.Mathlib.Omega.{arith}
 use lib.ListN.{length, getD, drop, List·getD-eq-default}
 use lib.Seq.{sets, sets-eq}
 use lib.Dec.{eqb, lit≤}
 use borrow.Author.Tests.{eqb-true, eqb-false}
-use Rattle.record.specs.Bytes.{word, bytes, putWord}
+use Rattle.record.specs.Bytes.{word, putWord}
 use Rattle.record.specs.Table.{rowOf, lengthOf}
 use Rattle.record.specs.Events.{kindOf, valuesOf, recordOf}
 use Rattle.record.specs.Fields.{fieldsAt, putFields, eventsOf, eventOf, fieldsOf}

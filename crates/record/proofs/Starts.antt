@@ -2,9 +2,8 @@
 -- to e cannot all be framed. `joined-front`: the parts 0 to e, one after the other, are the front of the trace.
 -- `read-next`: reading record e leads to where record e + 1 starts. Assumes nothing.
 use mathlib.Core.Path.{_≡_, refl, sym, ap, _∙_}
-use mathlib.Core.Bool.{Bool, true, false}
 use mathlib.Core.Logic.{_⊎_, inl, inr, _↔_}
-use mathlib.Core.List.{List, [], _∷_, _++_}
+use mathlib.Core.List.{List, []}
 use Prim.Native.Nat.{ℕ, zero, suc, _+_, _-_, _<_, _≤_}
 use native.Mathlib.Omega.{arith}
 use native.Mathlib.Numerals.{add-one}
@@ -20,7 +19,7 @@ use Rattle.record.specs.declared.reading.Frame.{Frame}
 use Rattle.record.specs.declared.reading.Frame.the-variants.{Size, Unframed}
 use Rattle.record.specs.declared.reading.Read.{Read}
 use Rattle.record.specs.declared.reading.Read.the-variants.{Record}
-use Rattle.record.proofs.Frames.{clash, Framed, frame→, →frame, read→}
+use Rattle.record.proofs.Frames.{clash, frame→, →frame, read→}
 use Rattle.record.proofs.Frames.{Answers, an-event, a-refusal, read-answers}
 
 -- ---- the size at a position

@@ -1,5 +1,4 @@
 -- Each return has made the definition's tests in their order. Assumes nothing.
-use native.Mathlib.Omega.{arith}
 use borrow.Author.Tests.{eq-eqb, ne-eqb, lt-ltb, le-ltb}
 use Rattle.record.specs.Reading.{frame}
 use borrow.Author.Needs.{needs}
