@@ -33,7 +33,7 @@ HEADERS = {
 }
 
 IMPORTS = """use mathlib.Core.Path.{_≡_, refl, sym, ap, _∙_}
-use mathlib.Core.List.{List, [], _∷_, _++_, map}
+use mathlib.Core.List.{List, [], _∷_, map}
 use Prim.Native.Nat.{ℕ}
 use Rattle.record.specs.declared.events.Event.{Event}
 %s

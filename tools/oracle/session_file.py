@@ -1,0 +1,110 @@
+"""Write the input of the program `sessions` and what it must print.
+
+python3 session_file.py ../../crates/sessions       # writes its files stdin and stdout
+
+The sessions of document 01 and their answers are those that sessions.py states by hand; those of the random sessions
+and of all their order queries come from the brute force of oracle.py. The answers 14 and 15, and how many numbers of
+each buffer are 0 afterwards, are worked out here from document 01's sentences.
+"""
+
+from __future__ import annotations
+
+import sys
+from pathlib import Path
+
+import generate
+import oracle
+from oracle import Refused
+from sessions import CASES, EDGES, ERRORS, MORE_REFUSALS, ORDERS, REFUSALS, session, show
+
+LONGEST = 32767  # the program's room for a trace; the program `verdict` is run on longer input by tests/verdict
+SEED = 2027
+RANDOM_JUDGED = 400
+RANDOM_ORDERED = 25
+
+Pair = tuple[str, list[str]]
+
+
+def lines_of(answer: object) -> list[str]:
+    """What is printed for the answer of an order query."""
+    return [f"refused {answer.number} {answer.event}"] if isinstance(answer, Refused) else [str(answer)]
+
+
+def judged(comment: str, data: bytes, lines: list[str]) -> list[Pair]:
+    """A comment and a trace to judge, each with what is printed for it."""
+    return [("# " + comment, ["# " + comment]), ("j" + data.hex(), lines)]
+
+
+def listed() -> list[Pair]:
+    """Document 01's sessions, as sessions.py has them."""
+    pairs: list[Pair] = []
+    for name, data, expected in CASES + REFUSALS + MORE_REFUSALS + EDGES + ERRORS:
+        if len(data) <= LONGEST:
+            pairs += judged(name, data, expected.split(" / "))
+    for name, data, first, second, answer in ORDERS:
+        pairs.append((f"# order: {name}", [f"# order: {name}"]))
+        pairs.append((f"o{first:04x}{second:04x}{data.hex()}", lines_of(answer)))
+    return pairs
+
+
+def with_buffers() -> list[Pair]:
+    """ "14, 15; then per record"; "refusals 14 and 15 touch nothing"; a refusal and broken leave the cut buffer as lent;
+    afterwards the work area's "first 32,768 are 0 and the rest untouched". No number of a buffer is 0 before. """
+    robust, broken, refused = CASES[1][1], CASES[0][1], CASES[7][1]
+    lines = {data: expected.split(" / ") for _, data, expected in CASES}
+    cleared, kept = 32768, 0
+    cut_of_robust = 56 - 1
+    table = [
+        ("work area of 32,767 numbers", 32767, 56, robust, ["refused 14 0"], kept, 0),
+        ("no work area", 0, 56, robust, ["refused 14 0"], kept, 0),
+        ("14 before 15", 32767, 55, robust, ["refused 14 0"], kept, 0),
+        ("14 before the trace's refusal", 32767, 56, refused, ["refused 14 0"], kept, 0),
+        ("cut buffer of 55 numbers", 32768, 55, robust, ["refused 15 0"], kept, 0),
+        ("cut buffer of 57 numbers", 32768, 57, robust, ["refused 15 0"], kept, 0),
+        ("no cut buffer", 32768, 0, robust, ["refused 15 0"], kept, 0),
+        ("15 before the trace's refusal", 32768, 55, refused, ["refused 15 0"], kept, 0),
+        ("robust, with the smallest buffers", 32768, 56, robust, lines[robust], cleared, cut_of_robust),
+        ("robust, with a larger work area", 32770, 56, robust, lines[robust], cleared, cut_of_robust),
+        ("broken", 32769, 56, broken, lines[broken], cleared, 0),
+        ("refused", 32769, 56, refused, lines[refused], cleared, 0),
+        ("no bytes", 32768, 56, b"", ["refused 1 0"], cleared, 0),
+    ]
+    pairs: list[Pair] = []
+    for name, work, cut, data, expected, work_zeros, cut_zeros in table:
+        pairs.append((f"# buffers: {name}", [f"# buffers: {name}"]))
+        zeros = [f"zeros of the work area {work_zeros}", f"zeros of the cut buffer {cut_zeros}"]
+        pairs.append((f"b{work:04x}{cut:04x}{data.hex()}", expected + zeros))
+    return pairs
+
+
+def random_judged() -> list[Pair]:
+    """Random sessions: robust, broken and refused."""
+    pairs: list[Pair] = []
+    for data, answer in generate.generate(SEED, RANDOM_JUDGED, generate.Limits()):
+        pairs += judged(show(data), data, oracle.verdict_lines(data, lambda _, known=answer: known))
+    return pairs
+
+
+def random_ordered() -> list[Pair]:
+    """All order queries between the stores of random accepted sessions, and one to a number that is no store."""
+    pairs: list[Pair] = []
+    for data, _ in generate.generate(SEED + 1, RANDOM_ORDERED, generate.Limits(only="accepted")):
+        pairs.append(("# order: " + show(data), ["# order: " + show(data)]))
+        stores = sorted(oracle.run(data).stores)[:5]
+        for first in stores:
+            for second in stores + [0]:
+                answer = lines_of(oracle.order(data, first, second))
+                pairs.append((f"o{first:04x}{second:04x}{data.hex()}", answer))
+    return pairs
+
+
+def main() -> None:
+    """Write the two files."""
+    folder = Path(sys.argv[1])
+    pairs = listed() + with_buffers() + random_judged() + random_ordered()
+    (folder / "stdin").write_text("".join(line + "\n" for line, _ in pairs))
+    (folder / "stdout").write_text("".join(line + "\n" for _, lines in pairs for line in lines))
+
+
+if __name__ == "__main__":
+    main()
