@@ -1,7 +1,8 @@
 """Traces of one family and size, for counting the judge's instructions.
 
 `python3 families.py FAMILY EVENTS` writes a trace with that many events after its begin to standard output. Every
-trace is accepted, and robust: a broken trace would end the judging of loads early. Only the standard library is used.
+trace is accepted, and but for the last family robust: a broken trace ends the judging of loads early. The first five are
+families of everyday programs, the last three are made to be dear.
 """
 
 from __future__ import annotations
@@ -126,9 +127,54 @@ def eight_threads(events: int) -> Trace:
     return trace
 
 
+def deep_walks(events: int) -> Trace:
+    """Stores at one location, then a load of the value before the trace in each later stretch: seven walks of it all."""
+    trace = Trace(1, 1)
+    while trace.events < events - 15:
+        trace.issue(0, 0)
+        trace.commit(0)
+    for _ in range(7):
+        trace.crash()
+        trace.add(4, 0, 0, 0)
+    while trace.events < events:
+        trace.add(7, 0)
+    return trace
+
+
+def many_crossings(events: int) -> Trace:
+    """A crossing load of another location at almost every event, in all eight stretches."""
+    trace = Trace(8, 256)
+    part = events // 8
+    for _ in range(7):
+        while (trace.events + 1) % part:
+            trace.load(trace.events % 8, trace.events % 256)
+        trace.crash()
+    while trace.events < events:
+        trace.load(trace.events % 8, trace.events % 256)
+    return trace
+
+
+def late_break(events: int) -> Trace:
+    """Stores of eight threads that load from each other, and a contradiction at the last event: broken."""
+    trace = Trace(8, 256)
+    trace.issue(0, 255)
+    trace.commit(0)
+    while trace.events < events - 5:
+        turn = trace.events // 3
+        trace.issue(turn % 8, turn % 255)
+        trace.commit(turn % 8)
+        trace.load((turn + 1) % 8, turn % 255)
+    while trace.events < events - 3:
+        trace.add(7, 0)
+    trace.crash()
+    trace.add(4, 0, 255, 1)
+    trace.add(4, 0, 255, 0)
+    return trace
+
+
 FAMILIES: Dict[str, Callable[[int], Trace]] = {
     "mixed": mixed, "one_location": one_location, "long_queue": long_queue, "seven_crashes": seven_crashes,
-    "eight_threads": eight_threads}
+    "eight_threads": eight_threads, "deep_walks": deep_walks, "many_crossings": many_crossings, "late_break": late_break}
 
 if __name__ == "__main__":
     made = FAMILIES[sys.argv[1]](int(sys.argv[2]))
