@@ -13,8 +13,9 @@ use lib.Seq.{length-take-le, take-add, take-all}
 use borrow.Author.Tests.{eq-eqb}
 use Rattle.record.specs.Answers.{Answer, refused, event, wrote, readAnswer}
 use Rattle.record.specs.Reading.{frame, readFramed, readFirst, readAt, from}
-use Rattle.record.specs.Parts.{sizeOf, sizeAt, start, recordPart, AllFramed, joined}
+use Rattle.record.specs.Parts.{sizeOf, sizeAt, start, placeOf, recordPart, AllFramed, joined}
 use Rattle.record.specs.declared.events.Event.{Event}
+use Rattle.record.specs.declared.parts.Place.{Place}
 use Rattle.record.specs.declared.reading.Frame.{Frame}
 use Rattle.record.specs.declared.reading.Frame.the-variants.{Size, Unframed}
 use Rattle.record.specs.declared.reading.Read.{Read}
@@ -110,7 +111,7 @@ start-stays s i e h none = up-to (e - i) e (omega arith)
         let size : sizeAt s (start s (i + d)) ≡ 0 = rw before none in
         rw (next, size, before) (omega arith)
 
-pub part-after : (s : List ℕ) (i e : ℕ) → i ≤ e → sizeAt s (start s i) ≡ 0 → recordPart s e ≡ []
+part-after : (s : List ℕ) (i e : ℕ) → i ≤ e → sizeAt s (start s i) ≡ 0 → recordPart s e ≡ []
 unfolding recordPart
 part-after s i e h none = rw (start-stays s i e h none, none)
 
@@ -154,15 +155,27 @@ empty-exactly s e = (λ empty all. part-some s e all empty, λ not-all. by-cases
     by-cases not-all (inl all) = absurd (not-all (record { framed = λ i h. all i (omega arith) }))
     by-cases not-all (inr (i, h, none)) = part-after s i e (omega arith) none
 
--- the bytes from where record i starts to its end are the part, once i has come to e
+-- where the code has come, once i is e; and before that, if record i cannot be framed
+pub place-is :
+    (s : List ℕ) (i e at n : ℕ) → i ≡ e → at ≡ start s i → n ≡ sizeAt s at
+    → record { start = at; size = n } ≡ placeOf s e
+place-is s i e at n same is size = rw (size, is, same) refl
+
+pub place-stays :
+    (s : List ℕ) (i e at : ℕ) → i ≤ e → at ≡ start s i → sizeAt s at ≡ 0
+    → record { start = at; size = 0 } ≡ placeOf s e
+place-stays s i e at below is none =
+    let unframed : sizeAt s (start s i) ≡ 0 = rw (sym is) none in
+    rw (start-stays s i e below unframed, unframed, is) refl
+
+-- the bytes from where a record starts to its end are the part
 pub part-is :
-    (s : List ℕ) (e i at n : ℕ) → i ≤ e → e ≤ i → at ≡ start s i → n ≡ sizeAt s at
-    → take (at + n - at) (drop at s) ≡ recordPart s e
+    (s : List ℕ) (e : ℕ) (p : Place) → p ≡ placeOf s e
+    → take (p .start + p .size - p .start) (drop (p .start) s) ≡ recordPart s e
 unfolding recordPart
-part-is s e i at n below above is size =
-    let same : i ≡ e = omega arith in
-    let span : at + n - at ≡ n = omega arith in
-    rw (span, size, is, same)
+part-is s e p is =
+    let span : p .start + p .size - p .start ≡ p .size = omega arith in
+    rw (span, is) refl
 
 -- ---- parts one after the other
 

@@ -4,6 +4,7 @@ use mathlib.Core.Path.{_≡_}
 use Prim.Native.Nat.{ℕ, zero, suc, _+_, _≤_}
 use lib.ListN.{take, drop}
 use Rattle.record.specs.Reading.{frame}
+use Rattle.record.specs.declared.parts.Place.{Place}
 use Rattle.record.specs.declared.reading.Frame.{Frame}
 use Rattle.record.specs.declared.reading.Frame.the-variants.{Size, Unframed}
 
@@ -19,6 +20,10 @@ sizeAt s at = sizeOf (frame (drop at s))
 unfoldable pub start : List ℕ → ℕ → ℕ
 start s zero = 0
 start s (suc e) = start s e + sizeAt s (start s e)
+
+-- where record number e stands
+abbrev pub placeOf : List ℕ → ℕ → Place
+placeOf s e = record { start = start s e; size = sizeAt s (start s e) }
 
 -- "record number e as a part of the caller's trace, length bytes included"
 unfoldable pub recordPart : List ℕ → ℕ → List ℕ

@@ -141,7 +141,7 @@ pub fn fields_of(e: Event) -> Fields
 }
 
 // The event of a kind with these fields; a crash where there is no such kind.
-pub(crate) fn event_of(kind: u16, f: Fields) -> Event
+pub fn event_of(kind: u16, f: Fields) -> Event
     ensures { λ r. ⌜ r ≡ eventOf kind f ⌝ }
 {
     match kind {

@@ -13,9 +13,12 @@ mod writing;
 
 pub use events::Event;
 pub use events::Fields;
+pub use events::event_of;
 pub use events::fields_of;
 pub use events::kind_of;
+pub use parts::Place;
 pub use parts::part;
+pub use parts::place_of;
 pub use reader::Reader;
 pub use reader::new;
 pub use reader::next;
