@@ -1,22 +1,14 @@
 -- The table of kinds: its rows by number, and that each field of a kind ends within the kind's record.
 -- A rule of the table is one test, computed over all rows, and one lemma that turns it into the rule at each row.
 -- Assumes nothing.
-use mathlib.Core.Path.{_≡_, refl}
 use mathlib.Core.Bool.{Bool, true, false}
 use mathlib.Core.List.{List, [], _∷_}
-use Prim.Native.Nat.{ℕ, zero, suc, _+_, _<_, _≤_}
-use native.Mathlib.Nat.{le-of-suc-le-suc, not-suc-le-zero}
+use Prim.Native.Nat.{ℕ, zero, suc, _+_, _≤_}
 use native.Mathlib.Omega.{arith}
-use lib.ListN.{length, getD}
+use lib.ListN.{getD}
 use lib.Dec.{T, leb, leb→le}
 use Rattle.record.specs.Table.{kinds, rowOf, lengthOf}
 use Rattle.record.specs.Fields.{RowFits}
-
--- within a list the default does not matter
-pub getD-within : {A : Type 0} (l : List A) (k : ℕ) (d e : A) → k < length l → getD l k d ≡ getD l k e
-getD-within [] k d e h = absurd (not-suc-le-zero h)
-getD-within (x ∷ l) zero d e h = refl
-getD-within (x ∷ l) (suc k) d e h = getD-within l k d e (le-of-suc-le-suc h)
 
 abbrev both : Bool → Bool → Bool
 both true b = b

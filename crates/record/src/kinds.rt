@@ -34,14 +34,28 @@ const KINDS: [[u16; 8]; 12] = [
     [11, 4, 4, 0, 0, 0, 0, 0],
 ];
 
-// The row of a kind; zeros where there is no such kind.
+// The row of a kind; zeros where there is no such kind. Each arm indexes the table by a constant: an index that is known
+// only at run time would have the whole table copied at each call.
 pub(crate) fn row_of(kind: u16) -> [u16; 8]
     ensures { λ r. ⌜ r ≡ rowOf kind ⌝ }
 {
-    if kind < 12 {
-        let k = kind as usize;
-        KINDS[k]
-    } else {
-        [0; 8]
+    if kind < 6 {
+        return match kind {
+            1 => KINDS[1],
+            2 => KINDS[2],
+            3 => KINDS[3],
+            4 => KINDS[4],
+            5 => KINDS[5],
+            _ => KINDS[0],
+        };
+    }
+    match kind {
+        6 => KINDS[6],
+        7 => KINDS[7],
+        8 => KINDS[8],
+        9 => KINDS[9],
+        10 => KINDS[10],
+        11 => KINDS[11],
+        _ => KINDS[0],
     }
 }
