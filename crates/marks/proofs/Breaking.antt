@@ -18,7 +18,7 @@ use Rattle.model.proofs.Searching.{both, parts, same-test, some→, →some}
 use Rattle.model.proofs.RulingSteps.{hit→, →hit, hit-is-bad, bad-has-hit, marked?, marked-over}
 use Rattle.area.specs.Cells.{cell}
 use Rattle.area.specs.Tables.{cutSlot, lowSlot}
-use Rattle.marks.specs.Testing.{hitAt, hits}
+use Rattle.marks.specs.Testing.{hitAt, placesBefore, hits}
 use Rattle.marks.proofs.Says.{Fit, fits, PlaceOf, AtMost}
 use Rattle.marks.proofs.Stepping.{Judging}
 
@@ -55,10 +55,12 @@ module _ (ev : ℕ → Event) (N : ℕ) (accepted : Accepted ev N) where
         inside = omega (arith, it .is-it, low-is, cut-is, ap₂ (closure ev N) (it .in-j) (it .by-t))
 
     -- a marked store in the closure makes its place hit
-    hit-at-its-place : (p : ℕ) → marked? ev N p ≡ true → In ev (closure ev N) p → hits w ≡ true
+    hit-at-its-place :
+        (j : ℕ) → stretch ev N ≤ j → (p : ℕ) → marked? ev N p ≡ true → In ev (closure ev N) p → hits w j ≡ true
     unfolding hits
-    hit-at-its-place p marked inside =
-        →some 56 (hitAt w) i (omega (arith, fit .stretch-from-1, fit .stretch-to-7, fit .thread-below-8))
+    hit-at-its-place j last p marked inside =
+        →some (placesBefore j) (hitAt w) i
+        (omega (arith, marked-over ev N p marked .over, fit .stretch-from-1, fit .stretch-to-7, fit .thread-below-8))
         (both (not (eqb (cell w (312 + i)) 0)) _ (rw (ne-eqb (cell w (312 + i)) 0 some)) (le-leb _ _ below))
       where
         fit : Fit ev N p
@@ -88,18 +90,19 @@ module _ (ev : ℕ → Event) (N : ℕ) (accepted : Accepted ev N) where
         below : cell w (312 + i) ≤ cell w (256 + i)
         below = omega (arith, low-is, cut-is, it .at-most)
 
-    pub hits-is-bad : hits w ≡ bad? ev N
+    -- in stretch j, which is not over
+    pub hits-is-bad : (j : ℕ) → stretch ev N ≤ j → hits w j ≡ bad? ev N
     unfolding hits
-    hits-is-bad = same-test _ _ to-bad from-bad
+    hits-is-bad j last = same-test _ _ to-bad from-bad
       where
-        to-bad : hits w ≡ true → bad? ev N ≡ true
+        to-bad : hits w j ≡ true → bad? ev N ≡ true
         to-bad hit =
-            let (i, there, at-i) = some→ 56 (hitAt w) hit in
+            let (i, there, at-i) = some→ (placesBefore j) (hitAt w) hit in
             let both-hold = parts (not (eqb (cell w (312 + i)) 0)) _ at-i in
-            hit-at-is-bad i there (eqb-false _ 0 (not-true _ (both-hold .0))) (leb-true _ _ (both-hold .1))
+            hit-at-is-bad i (omega arith) (eqb-false _ 0 (not-true _ (both-hold .0))) (leb-true _ _ (both-hold .1))
 
-        from-bad : bad? ev N ≡ true → hits w ≡ true
+        from-bad : bad? ev N ≡ true → hits w j ≡ true
         from-bad bad =
             let (p, hit) = bad-has-hit ev N accepted bad in
             let (marked, inside) = hit→ ev N accepted p hit in
-            hit-at-its-place p marked inside
+            hit-at-its-place j last p marked inside

@@ -21,8 +21,8 @@ use Rattle.model.specs.Verdict.{forbidden?, observed?, bad?, closure}
 use Rattle.model.specs.Verdict.{missingOf, observedOf, rulingOf}
 use Rattle.model.specs.Answers.{cutOf, shareOf}
 use Rattle.model.proofs.Searching.{false-true, test, same?}
-use Rattle.model.proofs.Counting.{count-skip}
-use Rattle.model.proofs.Roles.{load-no-issue, load-no-commit}
+use Rattle.model.proofs.Counting.{count-skip, stretch-else}
+use Rattle.model.proofs.Roles.{load-no-crash, load-no-issue, load-no-commit}
 use Rattle.model.proofs.Acceptance.{prefix, event-bound, counted-crosses}
 use Rattle.model.proofs.Ranges.{load-has-location, location-bound}
 use Rattle.model.proofs.RulingSteps.{marked?, uncounted-no-worse, robust-ruling, broken-ruling}
@@ -201,8 +201,10 @@ module _ (ev : ℕ → Event) where
             rw new (noted-loads ev n (loaded w x s) room counts x-there kept)
 
     -- the test on the marks after it
-    hits-after : hits (judged w j x s) ≡ bad? ev (suc n)
-    hits-after = hits-is-bad ev (suc n) accepted (judged w j x s) judged-judging
+    hits-after : hits (judged w j x s) j ≡ bad? ev (suc n)
+    hits-after =
+        let same = stretch-else ev n (load-no-crash ev (counted-crosses ev n counts .loads)) in
+        hits-is-bad ev (suc n) accepted (judged w j x s) judged-judging j (omega (arith, same))
 
     -- after a repeated load the marks are as before, and there was no pair
     no-pair-again : repeated w j x s ≡ true → false ≡ bad? ev (suc n)
@@ -210,7 +212,7 @@ module _ (ev : ℕ → Event) where
     no-pair-again again =
         let (l, repeats) = repeats-one again in
         let part = prefix ev (suc n) n accepted (omega (arith, repeats .before)) (omega arith) in
-        let before : hits w ≡ bad? ev n = hits-is-bad ev n part w (good .judging) in
+        let before : hits w j ≡ bad? ev n = hits-is-bad ev n part w (good .judging) j (omega arith) in
         sym (good .no-pair) ∙ (sym before ∙ (rw again at hits-after))
 
     -- the answer: with it there is a pair
@@ -220,7 +222,7 @@ module _ (ev : ℕ → Event) where
       where
         by-test :
             (repeated w j x s ≡ true) ⊎ (repeated w j x s ≡ false)
-            → (not (repeated w j x s) && hits (judged w j x s)) ≡ bad? ev (suc n)
+            → (not (repeated w j x s) && hits (judged w j x s) j) ≡ bad? ev (suc n)
         by-test (inl again) = rw again (no-pair-again again)
         by-test (inr new) = rw new hits-after
 

@@ -154,7 +154,7 @@ module _ (w : List ℕ) (j x s : ℕ) (again : Bool) (again-is : again ≡ repea
 
   pub judged-steps :
       (w₁ w₂ : List ℕ) (bad : Bool)
-      → again ≡ false → w₁ ≡ loaded w x s → w₂ ≡ noted w₁ j x s → bad ≡ hits w₂
+      → again ≡ false → w₁ ≡ loaded w x s → w₂ ≡ noted w₁ j x s → bad ≡ hits w₂ j
       → (bad ≡ breaks w j x s) × (w₂ ≡ judged w j x s)
   unfolding judged breaks
   judged-steps w₁ w₂ bad new load-is note-is bad-is =

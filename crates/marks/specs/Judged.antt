@@ -22,4 +22,4 @@ judged w j x s = cond (repeated w j x s) w (noted (loaded w x s) j x s)
 
 -- with it there is a pair
 unfoldable pub breaks : List ℕ → ℕ → ℕ → ℕ → Bool
-breaks w j x s = not (repeated w j x s) && hits (judged w j x s)
+breaks w j x s = not (repeated w j x s) && hits (judged w j x s) j

@@ -1,6 +1,6 @@
 -- The test for broken, and the searches for the evidence. A pair is a forbidden store in the cut: missing is the
 -- smallest such store, observed the smallest observed store that is it or happens after it.
-use Prim.Native.Nat.{ℕ, _+_}
+use Prim.Native.Nat.{ℕ, _+_, _*_, _-_, min}
 use mathlib.Core.Bool.{Bool, true, cond, _&&_, not}
 use mathlib.Core.List.{List}
 use lib.Dec.{eqb, leb}
@@ -13,8 +13,12 @@ use Rattle.marks.specs.Marking.{ownIn}
 abbrev pub hitAt : List ℕ → ℕ → Bool
 hitAt w i = not (eqb (cell w (312 + i)) 0) && leb (cell w (312 + i)) (cell w (256 + i))
 
-unfoldable pub hits : List ℕ → Bool
-hits w = some 56 (hitAt w)
+-- the places of the stretches before stretch j
+abbrev pub placesBefore : ℕ → ℕ
+placesBefore j = min (8 * (j - 1)) 56
+
+unfoldable pub hits : List ℕ → ℕ → Bool
+hits w j = some (placesBefore j) (hitAt w)
 
 -- the flags 1 and 2, read
 abbrev pub isForbidden : ℕ → Bool

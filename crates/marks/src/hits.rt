@@ -1,6 +1,7 @@
-// The test for broken: some lowest forbidden place is below the cut.
+// The test for broken: some lowest forbidden place is below the cut. Only stores of finished stretches are forbidden, so
+// a load of stretch j need not look at the places of stretch j and after.
 ghost use mathlib.Core.Path.{_≡_};
-ghost use Rattle.marks.specs.Testing.{hitAt, hits};
+ghost use Rattle.marks.specs.Testing.{hitAt, placesBefore, hits};
 
 // At place i of the cut buffer: slots 312 to 367 hold one more than the lowest places, 256 to 311 the cut.
 fn hit_at(work: &[u16], i: u16) -> bool
@@ -11,10 +12,23 @@ fn hit_at(work: &[u16], i: u16) -> bool
     if low == 0 { false } else { low <= cut }
 }
 
-pub fn hits(work: &[u16]) -> bool
-    ensures { λ r. ⌜ r ≡ hits (now (work .entry)) ⌝ }
+// How many places the stretches before stretch j have.
+fn places_before(j: u16) -> u16
+    ensures { λ r. ⌜ r ≡ placesBefore j ⌝ }
 {
-    let mut i: u16 = 56;
+    if j == 0 {
+        0
+    } else if 8 < j {
+        56
+    } else {
+        8 * (j - 1)
+    }
+}
+
+pub fn hits(work: &[u16], j: u16) -> bool
+    ensures { λ r. ⌜ r ≡ hits (now (work .entry)) j ⌝ }
+{
+    let mut i = places_before(j);
     while 0 < i {
         i -= 1;
         if hit_at(work, i) {

@@ -38,5 +38,5 @@ pub fn judge_load(work: &mut [u16], j: u16, x: u16, s: u16) -> bool
     }
     load::load(work, x, s);
     note(work, j, x, s);
-    hits::hits(work)
+    hits::hits(work, j)
 }
