@@ -9,7 +9,9 @@ use native.Mathlib.Omega.{arith}
 use borrow.Author.Tests.{eq-eqb, ne-eqb}
 use lib.Dec.{eqb}
 use Rattle.record.specs.declared.events.Event.{Event}
+use Rattle.record.specs.Fields.{fieldsOf}
 use Rattle.record.specs.Tests.{_gives_else_}
+use Rattle.model.specs.Trace.{kind}
 use Rattle.model.specs.Machine.{counted}
 use Rattle.model.specs.Rules.{Accepted, refusal}
 use Rattle.model.proofs.Searching.{test, same?}
@@ -19,7 +21,7 @@ use Rattle.area.specs.Cells.{getRow}
 use Rattle.area.specs.Rows.{ButMachine}
 use Rattle.machine.specs.declared.state.Machine.{Machine}
 use Rattle.machine.specs.Twin.{world}
-use Rattle.machine.specs.Turning.{countsW}
+use Rattle.machine.specs.Turning.{countsK}
 use Rattle.machine.specs.Effects.{stepW}
 use Rattle.machine.specs.Sim.{Sim}
 use Rattle.machine.proofs.CellLaws.{up-is}
@@ -42,19 +44,22 @@ module _ (ev : ℕ → Event) where
       (n : ℕ) (m : Machine) (found : Evidence) (work : List ℕ) (sim : Sim ev n (world m work))
       (held : Held ev n found work) (passes : refusal ev n ≡ 0) where
     abbrev judgedTo : List ℕ
-    judgedTo = judgedWork found m work (ev n)
+    judgedTo = judgedWork found m work (kind ev n) (fieldsOf (ev n))
 
     abbrev stepped : List ℕ
     stepped = stepW (world m judgedTo) (ev n) .work
 
+    abbrev foundNext : Evidence
+    foundNext = foundBy found m work (kind ev n) (fieldsOf (ev n))
+
     -- the state goes over to the judged work area
     sim-judged : Sim ev n (world m judgedTo)
     unfolding judgedWork
-    sim-judged = by-test (eqb (found .load) 0) (countsW (world m work) (ev n))
+    sim-judged = by-test (eqb (found .load) 0) (countsK (world m work) (kind ev n) (fieldsOf (ev n)))
       where
         by-test :
             (none counts : Bool)
-            → Sim ev n (world m ((none && counts) gives afterIt found m work (ev n) else work))
+            → Sim ev n (world m ((none && counts) gives afterIt found m work (kind ev n) (fieldsOf (ev n)) else work))
         by-test true true = sim-but-judging ev n (world m work) _ (judging-leaves work _ _ _) sim
         by-test true false = sim
         by-test false counts = sim
@@ -70,7 +75,7 @@ module _ (ev : ℕ → Event) where
     leaves = step-leaves ev n (world m judgedTo) sim-judged passes
 
     -- nothing is judged behind a load that broke
-    held-broken : found .load ≢ 0 → Held ev (suc n) (foundBy found m work (ev n)) stepped
+    held-broken : found .load ≢ 0 → Held ev (suc n) foundNext stepped
     unfolding foundBy
     held-broken some =
         rw (ne-eqb (found .load) 0 some)
@@ -89,7 +94,7 @@ module _ (ev : ℕ → Event) where
       unjudged uncounted =
           rw (eq-eqb (found .load) 0 none, counts-is ev n (world m work) sim passes, uncounted) refl
 
-      held-quiet : counted ev n ≡ false → Held ev (suc n) (foundBy found m work (ev n)) stepped
+      held-quiet : counted ev n ≡ false → Held ev (suc n) foundNext stepped
       unfolding foundBy
       held-quiet uncounted =
           rw (eq-eqb (found .load) 0 none, counts-is ev n (world m work) sim passes, uncounted)
@@ -110,7 +115,7 @@ module _ (ev : ℕ → Event) where
             refl
 
         found-is :
-            foundBy found m work (ev n)
+            foundNext
             ≡ (breaksThere ev n work gives evidenceAt (afterLoad ev n work) n else found)
         unfolding foundBy
         found-is =
@@ -123,14 +128,14 @@ module _ (ev : ℕ → Event) where
             )
             refl
 
-        held-load : breaksThere ev n work ≡ false → Held ev (suc n) (foundBy found m work (ev n)) stepped
+        held-load : breaksThere ev n work ≡ false → Held ev (suc n) foundNext stepped
         held-load fails =
             rw (found-is, fails)
             (held-while (suc n) found stepped none
             (good-kept ev judgedTo stepped leaves (suc n) (sim-next .rows)
             (rw after-is (good-load ev n accepted counts work good fails))))
 
-        held-breaks : breaksThere ev n work ≡ true → Held ev (suc n) (foundBy found m work (ev n)) stepped
+        held-breaks : breaksThere ev n work ≡ true → Held ev (suc n) foundNext stepped
         unfolding evidenceAt
         held-breaks breaks-it =
             rw (found-is, breaks-it, up-is n (sim .limits .few-events))
@@ -140,23 +145,23 @@ module _ (ev : ℕ → Event) where
             })
 
     -- WHAT IS FOUND AFTER THE EVENT
-    pub held-next : Held ev (suc n) (foundBy found m work (ev n)) stepped
+    pub held-next : Held ev (suc n) foundNext stepped
     held-next = by-found (same? (found .load) 0)
       where
         by-count :
             found .load ≡ 0 → (counted ev n ≡ true) ⊎ (counted ev n ≡ false)
-            → Held ev (suc n) (foundBy found m work (ev n)) stepped
+            → Held ev (suc n) foundNext stepped
         by-count none (inr uncounted) = held-quiet none uncounted
         by-count none (inl counts) = by-answer (test (breaksThere ev n work))
           where
             by-answer :
                 (breaksThere ev n work ≡ true) ⊎ (breaksThere ev n work ≡ false)
-                → Held ev (suc n) (foundBy found m work (ev n)) stepped
+                → Held ev (suc n) foundNext stepped
             by-answer (inl breaks-it) = held-breaks none counts breaks-it
             by-answer (inr fails) = held-load none counts fails
 
         by-found :
-            (found .load ≡ 0) ⊎ (found .load ≢ 0) → Held ev (suc n) (foundBy found m work (ev n)) stepped
+            (found .load ≡ 0) ⊎ (found .load ≢ 0) → Held ev (suc n) foundNext stepped
         by-found (inr some) = held-broken some
         by-found (inl none) = by-count none (test (counted ev n))
 

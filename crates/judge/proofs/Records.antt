@@ -16,6 +16,7 @@ use Rattle.record.specs.declared.reading.Read.the-variants.{Record, Refused}
 use Rattle.record.specs.Answers.{Answer, event, refused, readAnswer}
 use Rattle.record.specs.Reading.{readAt}
 use Rattle.record.specs.Parts.{start}
+use Rattle.record.specs.Events.{kindOf}
 use Rattle.record.specs.Fields.{fieldsOf}
 use Rattle.record.proofs.Frames.{clash, Answers, an-event, a-refusal}
 use Rattle.record.proofs.Starts.{read-at-answers, read-next, read-grows}
@@ -235,8 +236,9 @@ module _ (bytes : List ℕ) where
 
     pub later-passes :
         (x : Event) (past : ℕ) → readAt bytes at ≡ event x past → refusalW (world m work) x ≡ 0
-        → (m' : Machine) (found' : Evidence) (work' : List ℕ) → found' ≡ foundBy (t .found) m work x
-        → world m' work' ≡ stepW (world m (judgedWork (t .found) m work x)) x
+        → (m' : Machine) (found' : Evidence) (work' : List ℕ)
+        → found' ≡ foundBy (t .found) m work (kindOf x) (fieldsOf x)
+        → world m' work' ≡ stepW (world m (judgedWork (t .found) m work (kindOf x) (fieldsOf x))) x
         → Turned bytes (suc n) (going m' found' past) work'
     later-passes x past is-read is m' found' work' found-is stepped =
         passing-turn n m' found' work' x past (reached .all-pass) (read-there (event x past) is-read) passes
@@ -251,7 +253,7 @@ module _ (bytes : List ℕ) where
         event-n : events bytes n ≡ x
         event-n = at-event x past is-read
 
-        work-is : work' ≡ stepW (world m (judgedWork (t .found) m work x)) x .work
+        work-is : work' ≡ stepW (world m (judgedWork (t .found) m work (kindOf x) (fieldsOf x))) x .work
         work-is = ap (λ (w : World). w .work) stepped
 
     -- the machine knows the record's number

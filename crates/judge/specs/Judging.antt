@@ -6,7 +6,7 @@ use mathlib.Core.Bool.{Bool, _&&_}
 use mathlib.Core.List.{List}
 use lib.Dec.{eqb}
 use Rattle.record.specs.declared.events.Event.{Event}
-use Rattle.record.specs.Fields.{fieldsOf}
+use Rattle.record.specs.declared.events.Fields.{Fields}
 use Rattle.record.specs.Tests.{_gives_else_}
 use Rattle.model.specs.Choice.{broken}
 use Rattle.model.specs.Rules.{Accepted}
@@ -14,7 +14,7 @@ use Rattle.model.specs.Verdict.{rulingOf}
 use Rattle.area.specs.Cells.{up}
 use Rattle.machine.specs.declared.state.Machine.{Machine}
 use Rattle.machine.specs.Twin.{world}
-use Rattle.machine.specs.Turning.{countsW}
+use Rattle.machine.specs.Turning.{countsK}
 use Rattle.marks.specs.Testing.{missingBy, observedBy}
 use Rattle.marks.specs.Judged.{judged, breaks}
 use Rattle.marks.proofs.Good.{Good}
@@ -30,18 +30,19 @@ evidenceAt work load =
     let missing = missingBy work (up load) in
     record { load = load; missing = missing; observed = observedBy work (up load) missing }
 
-module _ (found : Evidence) (m : Machine) (work : List ℕ) (e : Event) where
-  -- event e is a load to judge: it counts, and none before it broke
+-- the next event, of kind k with the fields f
+module _ (found : Evidence) (m : Machine) (work : List ℕ) (k : ℕ) (f : Fields) where
+  -- it is a load to judge: it counts, and none before it broke
   abbrev pub judges : Bool
-  judges = eqb (found .load) 0 && countsW (world m work) e
+  judges = eqb (found .load) 0 && countsK (world m work) k f
 
   abbrev pub afterIt : List ℕ
-  afterIt = judged work (m .stretch) (fieldsOf e .location) (fieldsOf e .source)
+  afterIt = judged work (m .stretch) (f .location) (f .source)
 
   abbrev pub breaksIt : Bool
-  breaksIt = breaks work (m .stretch) (fieldsOf e .location) (fieldsOf e .source)
+  breaksIt = breaks work (m .stretch) (f .location) (f .source)
 
-  -- the work area after event e is judged
+  -- the work area after it is judged
   unfoldable pub judgedWork : List ℕ
   judgedWork = judges gives afterIt else work
 

@@ -4,7 +4,7 @@ ghost use Rattle.judge.specs.Judging.{evidenceAt, judgedWork, foundBy};
 use machine::Machine;
 use marks::evidence;
 use marks::judged;
-use record::Event;
+use record::Fields;
 
 // The load that breaks the trace, 0 while none does, with the missing and the observed store.
 pub struct Evidence {
@@ -27,18 +27,23 @@ fn evidence_at(work: &[u16], load: u16) -> Evidence
     }
 }
 
-// The next event, which passes: what is found with it.
-pub(crate) fn judge_event(found: Evidence, m: Machine, work: &mut [u16], e: Event) -> Evidence
-    ensures { λ r. ⌜ r ≡ foundBy found m (now (work .entry)) e ⌝ }
-    ensures { λ _. ⌜ now (work .exit) ≡ judgedWork found m (now (work .entry)) e ⌝ }
+// The next event, which passes, by its kind and fields: what is found with it.
+pub(crate) fn judge_event(
+    found: Evidence,
+    m: Machine,
+    work: &mut [u16],
+    kind: u16,
+    f: Fields,
+) -> Evidence
+    ensures { λ r. ⌜ r ≡ foundBy found m (now (work .entry)) kind f ⌝ }
+    ensures { λ _. ⌜ now (work .exit) ≡ judgedWork found m (now (work .entry)) kind f ⌝ }
 {
     if found.load != 0 {
         return found;
     }
-    if !machine::counts(m, work, e) {
+    if !machine::counts(m, work, kind, f) {
         return found;
     }
-    let f = record::fields_of(e);
     if !judged::judge_load(work, m.stretch, f.location, f.source) {
         return found;
     }

@@ -69,11 +69,11 @@ fn begin(trace: &[u8]) -> Turn
     let Read::Record(e, next) = r else {
         return blank.refuse(number_of(r), 0);
     };
-    let k = machine::begin_refusal(e);
+    let f = record::fields_of(e);
+    let k = machine::begin_refusal(record::kind_of(e), f);
     if k != 0 {
         return blank.refuse(k, 0);
     }
-    let f = record::fields_of(e);
     Turn::start(f.threads, f.locations, next)
 }
 
@@ -89,12 +89,14 @@ fn judge_record(trace: &[u8], t: Turn, work: &mut [u16]) -> Turn
     let Read::Record(e, next) = r else {
         return t.refuse(number_of(r), m.event);
     };
-    let k = machine::refusal_of(m, work, e);
+    let kind = record::kind_of(e);
+    let f = record::fields_of(e);
+    let k = machine::refusal_of(m, work, kind, f);
     if k != 0 {
         return t.refuse(k, m.event);
     }
-    let found = loads::judge_event(t.found, m, work, e);
-    let after = machine::step(m, work, e);
+    let found = loads::judge_event(t.found, m, work, kind, f);
+    let after = machine::step(m, work, kind, f);
     Turn {
         machine: after,
         found,

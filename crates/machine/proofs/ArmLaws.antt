@@ -1,11 +1,18 @@
 -- Which arm of the match on the kind is taken, by the range in which the kind is. The single kinds compute.
 use mathlib.Core.Path.{_≡_}
-use mathlib.Core.Logic.{_⊎_, inl, inr}
+use mathlib.Core.Logic.{_⊎_, inl, inr, _≢_}
 use Prim.Native.Nat.{ℕ, _≤_, _<_}
 use native.Mathlib.Omega.{arith}
 use borrow.Author.Tests.{ne-eqb, le-leb, lt-leb}
 use Rattle.model.proofs.Searching.{less?}
 use Rattle.machine.specs.Arms.{byKind}
+
+-- the ranges behind the single kinds 2 to 4, and behind 9
+pub behind-load : (k : ℕ) → 2 ≤ k → k ≢ 2 → k ≢ 3 → k ≢ 4 → 5 ≤ k
+behind-load k low not-2 not-3 not-4 = omega arith
+
+pub behind-crash : (k : ℕ) → 9 ≤ k → k ≢ 9 → 10 ≤ k
+behind-crash k low not-9 = omega arith
 
 module _ {A : Type 0} (k : ℕ) (issue commit load flush fence crash skip other : A) where
   pub flush-arm : 5 ≤ k → k ≤ 6 → flush ≡ byKind k issue commit load flush fence crash skip other

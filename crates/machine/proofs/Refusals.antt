@@ -17,7 +17,7 @@ use Rattle.model.specs.Machine.{sourceFits, skipping}
 use Rattle.model.specs.Rules.{answer, rules, refusal}
 use Rattle.machine.specs.Arms.{byKind}
 use Rattle.machine.specs.Twin.{World, threadAt, fitsW}
-use Rattle.machine.specs.Turning.{emptyM, onThread, onPlace, refusalK, refusalW, beginRule, beginRefusal}
+use Rattle.machine.specs.Turning.{emptyM, onThread, onPlace, refusalK, refusalW, beginRule, beginK, beginRefusal}
 use Rattle.machine.specs.Sim.{issued, done, Sim}
 use Rattle.machine.proofs.Searches.{fits-is}
 
@@ -222,7 +222,7 @@ ltb-not a b = by-test (leb b a) refl
 
 module _ (ev : ℕ → Event) where
   first-is : (e : Event) → ev 0 ≡ e → beginRefusal e ≡ refusal ev 0
-  unfolding beginRefusal beginRule rules answer rowOf
+  unfolding beginK beginRule rules answer rowOf
   first-is (Begin v a b) is =
       rw (is, ltb-not a 1, ltb-not 8 a, ltb-not b 1, ltb-not 256 b)
       (begin-tests (eqb v 1) (leb 1 a) (leb a 8) (leb 1 b) (leb b 256))

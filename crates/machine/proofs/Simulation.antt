@@ -20,7 +20,7 @@ use Rattle.model.proofs.Roles.{load-or-not}
 use Rattle.model.proofs.Unchanged.{skipping-on, skipping-off}
 use Rattle.machine.specs.Arms.{byKind}
 use Rattle.machine.specs.Twin.{World}
-use Rattle.machine.specs.Turning.{countsW}
+use Rattle.machine.specs.Turning.{countsK, countsW}
 use Rattle.machine.specs.Effects.{stepK, stepW}
 use Rattle.machine.specs.Sim.{Sim}
 use Rattle.machine.proofs.Keep.{few-own, small-own}
@@ -95,7 +95,7 @@ module _ (ev : ℕ → Event) (n : ℕ) (w : World) (sim : Sim ev n w) (passes :
 
   -- THE MACHINE COUNTS THE LOADS THAT COUNT
   pub counts-is : countsW w (ev n) ≡ counted ev n
-  unfolding countsW counted rowOf
+  unfolding countsK counted rowOf
   counts-is = by-role (load-or-not ev n)
     where
       by-role : trace.Load ev n ⊎ (load? ev n ≡ false) → countsW w (ev n) ≡ counted ev n

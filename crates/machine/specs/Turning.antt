@@ -80,14 +80,17 @@ beginRule version threads locations =
     6
 
 -- what turns the first event away
-unfoldable pub beginRefusal : Event → ℕ
-beginRefusal e =
-    let f = fieldsOf e in
-    eqb (kindOf e) 1 gives beginRule (f .version) (f .threads) (f .locations) else 1
+unfoldable pub beginK : ℕ → Fields → ℕ
+beginK k f = eqb k 1 gives beginRule (f .version) (f .threads) (f .locations) else 1
+
+abbrev pub beginRefusal : Event → ℕ
+beginRefusal e = beginK (kindOf e) (fieldsOf e)
 
 -- the event is a counted load
-unfoldable pub countsW : World → Event → Bool
-countsW w e =
-    let f = fieldsOf e in
-    eqb (kindOf e) 4 && eqb (waitingW w (f .thread) (f .location)) 0 && eqb (currentW w (f .location)) 0
+unfoldable pub countsK : World → ℕ → Fields → Bool
+countsK w k f =
+    eqb k 4 && eqb (waitingW w (f .thread) (f .location)) 0 && eqb (currentW w (f .location)) 0
     && not (threadAt (w .machine) (f .thread) .skip)
+
+abbrev pub countsW : World → Event → Bool
+countsW w e = countsK w (kindOf e) (fieldsOf e)

@@ -2,9 +2,9 @@
 ghost use mathlib.Core.Path.{_≡_};
 ghost use Rattle.machine.specs.Twin.{world, waitingW, currentW, pastW, fitsW};
 ghost use Rattle.machine.specs.Turning.{inTime, onThread, onPlace, commitRule, loadRule, fenceRule, crashRule};
-ghost use Rattle.machine.specs.Turning.{skipRule, beginRule, beginRefusal, refusalW, countsW};
+ghost use Rattle.machine.specs.Turning.{skipRule, beginRule, beginK, refusalK, countsK};
 use crate::state::Machine;
-use record::Event;
+use record::Fields;
 
 // ---- the load rule
 
@@ -168,12 +168,10 @@ fn begin_rule(version: u16, threads: u16, locations: u16) -> u16
 
 // ---- the calls
 
-// What turns the first record away: 1 if it is no begin, 6, or 0.
-pub fn begin_refusal(e: Event) -> u16
-    ensures { λ r. ⌜ r ≡ beginRefusal e ⌝ }
+// What turns the first record away, by its kind and fields: 1 if it is no begin, 6, or 0.
+pub fn begin_refusal(kind: u16, f: Fields) -> u16
+    ensures { λ r. ⌜ r ≡ beginK kind f ⌝ }
 {
-    let kind = record::kind_of(e);
-    let f = record::fields_of(e);
     if kind != 1 {
         return 1;
     }
@@ -181,11 +179,9 @@ pub fn begin_refusal(e: Event) -> u16
 }
 
 // What turns a later record away: 5, 7 to 13, or 0.
-pub fn refusal_of(m: Machine, work: &[u16], e: Event) -> u16
-    ensures { λ r. ⌜ r ≡ refusalW (world m (now (work .entry))) e ⌝ }
+pub fn refusal_of(m: Machine, work: &[u16], kind: u16, f: Fields) -> u16
+    ensures { λ r. ⌜ r ≡ refusalK (world m (now (work .entry))) kind f ⌝ }
 {
-    let kind = record::kind_of(e);
-    let f = record::fields_of(e);
     let t = f.thread;
     let x = f.location;
     match kind {
@@ -201,11 +197,9 @@ pub fn refusal_of(m: Machine, work: &[u16], e: Event) -> u16
 }
 
 // The event is a counted load: it is crossing, and its thread is in no skip.
-pub fn counts(m: Machine, work: &[u16], e: Event) -> bool
-    ensures { λ r. ⌜ r ≡ countsW (world m (now (work .entry))) e ⌝ }
+pub fn counts(m: Machine, work: &[u16], kind: u16, f: Fields) -> bool
+    ensures { λ r. ⌜ r ≡ countsK (world m (now (work .entry))) kind f ⌝ }
 {
-    let kind = record::kind_of(e);
-    let f = record::fields_of(e);
     if kind != 4 {
         return false;
     }

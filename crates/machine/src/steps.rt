@@ -5,9 +5,9 @@ ghost use Rattle.record.specs.Tests.{_gives_else_};
 ghost use Rattle.area.specs.Cells.{cell};
 ghost use Rattle.area.specs.Tables.{seenSlot};
 ghost use Rattle.machine.specs.Twin.{world};
-ghost use Rattle.machine.specs.Effects.{clocked, joined, wiped, issueW, commitW, loadW, crashW, skipM, stepW};
+ghost use Rattle.machine.specs.Effects.{clocked, joined, wiped, issueW, commitW, loadW, crashW, skipM, stepK};
 use crate::state::Machine;
-use record::Event;
+use record::Fields;
 
 // What the clock of a store by thread t, its n-th of the stretch, says of thread u.
 fn clock_entry(work: &[u16], t: u16, n: u16, u: u16) -> u16
@@ -115,11 +115,9 @@ fn skip(m: Machine, t: u16, on: bool) -> Machine
 }
 
 // The effect of an event that passes. Flushes and fences change nothing, and a begin is no later event.
-pub fn step(m: Machine, work: &mut [u16], e: Event) -> Machine
-    ensures { λ r. ⌜ world r (now (work .exit)) ≡ stepW (world m (now (work .entry))) e ⌝ }
+pub fn step(m: Machine, work: &mut [u16], kind: u16, f: Fields) -> Machine
+    ensures { λ r. ⌜ world r (now (work .exit)) ≡ stepK (world m (now (work .entry))) kind f ⌝ }
 {
-    let kind = record::kind_of(e);
-    let f = record::fields_of(e);
     let t = f.thread;
     match kind {
         2 => issue(m, work, t, f.location),

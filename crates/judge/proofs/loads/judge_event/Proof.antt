@@ -30,9 +30,6 @@ returns-2 c =
     let fails = not-true (counted .result) (c .if2 .taken) in
     (rw (none, sym (counted .ensures), fails) refl, rw (none, sym (counted .ensures), fails) refl)
 
-fields-of-requires : tie.Need-fields-of-requires
-fields-of-requires c κs = search needs
-
 judge-load-requires : tie.Need-judge-load-requires
 judge-load-requires c κs = search needs
 
@@ -44,15 +41,14 @@ unfolding judgedWork foundBy
 returns-3 c =
     let at-load = c .before .before .before in
     let load = at-load .judge-load in
-    let fields = at-load .before .before .fields-of in
-    let at-count = at-load .before .before .before in
+    let at-count = at-load .before .before in
     let counted = at-count .before .counts in
     let entry = at-count .before .before .before .before .before .before in
     let none = eq-eqb (entry .args .found .load) 0 (omega arith) in
     let counts = not-false (counted .result) (at-count .if2 .left) in
     let holds = not-true (load .result) (c .if3 .taken) in (
-      rw (none, sym (counted .ensures), counts, sym (fields .ensures), sym (load .ensures .0), holds) refl,
-      rw (none, sym (counted .ensures), counts, load .ensures .1, fields .ensures) refl,
+      rw (none, sym (counted .ensures), counts, sym (load .ensures .0), holds) refl,
+      rw (none, sym (counted .ensures), counts, load .ensures .1) refl,
     )
 
 evidence-at-requires : tie.Need-evidence-at-requires
@@ -67,8 +63,7 @@ returns-4 c =
     let at-answer = c .before .before in
     let at-load = at-answer .before .before .before in
     let load = at-load .judge-load in
-    let fields = at-load .before .before .fields-of in
-    let at-count = at-load .before .before .before in
+    let at-count = at-load .before .before in
     let counted = at-count .before .counts in
     let entry = at-count .before .before .before .before .before .before in
     let none = eq-eqb (entry .args .found .load) 0 (omega arith) in
@@ -79,17 +74,16 @@ returns-4 c =
         sym (counted .ensures),
         counts,
         c .evidence-at .ensures,
-        sym (fields .ensures),
         sym (load .ensures .0),
         breaks-it,
         sym (load .ensures .1),
       )
           refl,
-      rw (none, sym (counted .ensures), counts, load .ensures .1, fields .ensures) refl,
+      rw (none, sym (counted .ensures), counts, load .ensures .1) refl,
     )
 
 pub judge-event-spec : {M : Type 1} → statement M
 judge-event-spec =
     tie.close
-    (tie.spec returns counts-requires same-length returns-2 fields-of-requires judge-load-requires same-length-2
+    (tie.spec returns counts-requires same-length returns-2 judge-load-requires same-length-2
     returns-3 evidence-at-requires same-length-3 returns-4)

@@ -44,6 +44,12 @@ returns c =
     in
     rw (c .refuse .ensures) (first-unread bytes (at-start .start .result) k 1 (replicate 32768 0) 0 unread)
 
+fields-of-requires : tie.Need-fields-of-requires
+fields-of-requires c κs = search needs
+
+kind-of-requires : tie.Need-kind-of-requires
+kind-of-requires c κs = search needs
+
 begin-refusal-requires : tie.Need-begin-refusal-requires
 begin-refusal-requires c κs = search needs
 
@@ -53,7 +59,8 @@ refuse-requires-2 c κs = search needs
 returns-2 : tie.Need-returns-2
 returns-2 c =
     let at-rule = c .before .before in
-    let at-record = at-rule .before .before in
+    let at-fields = at-rule .before .before in
+    let at-record = at-fields .before .before in
     let at-read = at-record .before .before in
     let at-start = at-read .before in
     let entry = at-start .before .before in
@@ -64,19 +71,17 @@ returns-2 c =
     let is-read = was-read bytes (at-read .read-at .result) 0 x past (at-read .read-at .ensures) (told .1) in
     rw (c .refuse2 .ensures)
     (first-forbidden bytes (at-start .start .result) (at-rule .begin-refusal .result) 1 (replicate 32768 0) x past
-    is-read (sym (at-rule .begin-refusal .ensures)) (λ none. omega arith))
-
-fields-of-requires : tie.Need-fields-of-requires
-fields-of-requires c κs = search needs
+    is-read (rw (sym (at-rule .before .kind-of .ensures), sym (at-fields .fields-of .ensures))
+    (sym (at-rule .begin-refusal .ensures))) (λ none. omega arith))
 
 start-requires-2 : tie.Need-start-requires-2
 start-requires-2 c κs = search needs
 
 returns-3 : tie.Need-returns-3
 returns-3 c =
-    let at-fields = c .before in
-    let at-rule = at-fields .before .before in
-    let at-record = at-rule .before .before in
+    let at-rule = c .before .before in
+    let at-fields = at-rule .before .before in
+    let at-record = at-fields .before .before in
     let at-read = at-record .before .before in
     let entry = at-read .before .before .before in
     let bytes : List ℕ = entry .args .trace .now in
@@ -85,10 +90,12 @@ returns-3 c =
     let past = told .0 .1 .0 in
     let is-read = was-read bytes (at-read .read-at .result) 0 x past (at-read .read-at .ensures) (told .1) in
     rw (c .start2 .ensures, at-fields .fields-of .ensures)
-    (first-passes bytes x past is-read (omega (arith, at-rule .begin-refusal .ensures)))
+    (first-passes bytes x past is-read
+    (rw (sym (at-rule .before .kind-of .ensures), sym (at-fields .fields-of .ensures))
+    (omega (arith, at-rule .begin-refusal .ensures))))
 
 pub begin-spec : {M : Type 1} → statement M
 begin-spec =
     tie.close
     (tie.spec start-requires read-at-requires enum-known-r enum-told number-of-requires refuse-requires returns
-    begin-refusal-requires refuse-requires-2 returns-2 fields-of-requires start-requires-2 returns-3)
+    fields-of-requires kind-of-requires begin-refusal-requires refuse-requires-2 returns-2 start-requires-2 returns-3)

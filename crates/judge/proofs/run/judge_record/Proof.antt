@@ -1,6 +1,6 @@
 -- `judge_record` meets its contract: the laws of proofs/Records.antt, for a later record that cannot be read, that is
 -- turned away, and that passes.
-use mathlib.Core.Path.{sym}
+use mathlib.Core.Path.{_≡_, sym, _∙_}
 use mathlib.Core.List.{List}
 use Prim.Native.Nat.{ℕ, suc}
 use native.Mathlib.Omega.{arith}
@@ -43,6 +43,12 @@ returns c =
     (later-unread bytes (t .machine .event) t work (entry .pre .0) (entry .pre .1) k (suc (t .machine .event)) work 0
     unread)
 
+kind-of-requires : tie.Need-kind-of-requires
+kind-of-requires c κs = search needs
+
+fields-of-requires : tie.Need-fields-of-requires
+fields-of-requires c κs = search needs
+
 refusal-of-requires : tie.Need-refusal-of-requires
 refusal-of-requires c κs = search needs
 
@@ -55,7 +61,9 @@ same-length c = search needs
 returns-2 : tie.Need-returns-2
 returns-2 c =
     let at-rule = c .before .before in
-    let at-record = at-rule .before .before .before in
+    let at-fields = at-rule .before .before in
+    let at-kind = at-fields .before in
+    let at-record = at-kind .before .before in
     let at-read = at-record .before .before in
     let entry = at-read .before .before .before .before in
     let bytes : List ℕ = entry .args .trace .now in
@@ -68,7 +76,8 @@ returns-2 c =
     let is-read = was-read bytes (at-read .read-at .result) (t .at) x past (at-read .read-at .ensures) (told .1) in
     rw (c .refuse2 .ensures)
     (later-forbidden bytes n t work (entry .pre .0) (entry .pre .1) (at-rule .refusal-of .result) (suc n) work x past
-    is-read (sym (at-rule .refusal-of .ensures)) (λ none. omega arith))
+    is-read (rw (sym (at-kind .kind-of .ensures), sym (at-fields .fields-of .ensures))
+    (sym (at-rule .refusal-of .ensures))) (λ none. omega arith))
 
 judge-event-requires : tie.Need-judge-event-requires
 judge-event-requires c κs = search needs
@@ -85,7 +94,9 @@ returns-3 c =
     let at-judged = at-step .before .before .before .before in
     let judged = at-judged .judge-event in
     let at-rule = at-judged .before .before .before in
-    let at-record = at-rule .before .before .before in
+    let at-fields = at-rule .before .before in
+    let at-kind = at-fields .before in
+    let at-record = at-kind .before .before in
     let at-read = at-record .before .before in
     let entry = at-read .before .before .before .before in
     let bytes : List ℕ = entry .args .trace .now in
@@ -94,12 +105,17 @@ returns-3 c =
     let x = told .0 .0 in
     let past = told .0 .1 .0 in
     let is-read = was-read bytes (at-read .read-at .result) (t .at) x past (at-read .read-at .ensures) (told .1) in
+    let passed : at-rule .refusal-of .result ≡ 0 = omega (arith, at-judged .before .before .if1 .left) in
+    let kind-is = sym (at-kind .kind-of .ensures) in
+    let fields-are = sym (at-fields .fields-of .ensures) in
     later-passes bytes (t .machine .event) t (entry .args .work .now) (entry .pre .0) x past is-read
-    (omega (arith, at-rule .refusal-of .ensures)) (at-step .step .result) (judged .result) _ (judged .ensures .0)
-    (rw (sym (judged .ensures .1)) (at-step .step .ensures))
+    (rw (kind-is, fields-are) (sym (at-rule .refusal-of .ensures) ∙ passed)) (at-step .step .result) (judged .result) _
+    (rw (kind-is, fields-are) (judged .ensures .0))
+    (rw (kind-is, fields-are, sym (judged .ensures .1)) (at-step .step .ensures))
 
 pub judge-record-spec : {M : Type 1} → statement M
 judge-record-spec =
     tie.close
-    (tie.spec read-at-requires enum-known-r enum-told number-of-requires refuse-requires returns refusal-of-requires
+    (tie.spec read-at-requires enum-known-r enum-told number-of-requires refuse-requires returns kind-of-requires fields-of-requires
+    refusal-of-requires
     refuse-requires-2 same-length returns-2 judge-event-requires step-requires same-length-2 returns-3)

@@ -1,17 +1,12 @@
 -- Each arm's step is the definition's for that kind; the ranges by ArmLaws. Assumes nothing.
 use native.Mathlib.Omega.{arith}
+use native.Mathlib.Nat.{le-of-suc-le-suc}
 use Rattle.machine.specs.Arms.{byKind}
 use Rattle.machine.specs.Effects.{stepK, passW, skipW}
-use Rattle.machine.proofs.ArmLaws.{flush-arm, fence-arm, skip-arm, other-arm}
+use Rattle.machine.proofs.ArmLaws.{behind-load, behind-crash, flush-arm, fence-arm, skip-arm, other-arm}
 use borrow.Author.Needs.{needs}
 use Rattle.machine.proofs.steps.step.Statement.{statement}
 use Rattle.machine.proofs.steps.step.Tie as tie
-
-kind-of-requires : tie.Need-kind-of-requires
-kind-of-requires c κs = search needs
-
-fields-of-requires : tie.Need-fields-of-requires
-fields-of-requires c κs = search needs
 
 issue-requires : tie.Need-issue-requires
 issue-requires c κs = search needs
@@ -42,13 +37,7 @@ unfolding stepK byKind
 returns c =
     let at-issue-arg = c .before .before .before in
     let at-match = at-issue-arg .before in
-    let at-fields-of = at-match .before in
-    let at-kind-of = at-fields-of .before in
-    rw (
-      ← at-kind-of .kind-of .ensures,
-      ← at-fields-of .fields-of .ensures,
-      at-match .match .keys1,
-    )
+    rw (at-match .match .keys1)
     (c .before .before .issue .ensures)
 
 same-length-2 : tie.Need-same-length-2
@@ -59,13 +48,7 @@ unfolding stepK byKind
 returns-2 c =
     let at-commit-arg = c .before .before .before in
     let at-match = at-commit-arg .before in
-    let at-fields-of = at-match .before in
-    let at-kind-of = at-fields-of .before in
-    rw (
-      ← at-kind-of .kind-of .ensures,
-      ← at-fields-of .fields-of .ensures,
-      at-match .match .keys2,
-    )
+    rw (at-match .match .keys2)
     (c .before .before .commit .ensures)
 
 same-length-3 : tie.Need-same-length-3
@@ -76,13 +59,7 @@ unfolding stepK byKind
 returns-3 c =
     let at-load-arg = c .before .before .before in
     let at-match = at-load-arg .before in
-    let at-fields-of = at-match .before in
-    let at-kind-of = at-fields-of .before in
-    rw (
-      ← at-kind-of .kind-of .ensures,
-      ← at-fields-of .fields-of .ensures,
-      at-match .match .keys3,
-    )
+    rw (at-match .match .keys3)
     (c .before .before .load .ensures)
 
 same-length-4 : tie.Need-same-length-4
@@ -93,63 +70,43 @@ unfolding stepK byKind
 returns-4 c =
     let at-crash-arg = c .before .before .before in
     let at-match = at-crash-arg .before in
-    let at-fields-of = at-match .before in
-    let at-kind-of = at-fields-of .before in
-    rw (
-      ← at-kind-of .kind-of .ensures,
-      ← at-fields-of .fields-of .ensures,
-      at-match .match .keys4,
-    )
+    rw (at-match .match .keys4)
     (c .before .before .crash .ensures)
 
 returns-5 : tie.Need-returns-5
 unfolding stepK passW
 returns-5 c =
-    let at-match = c .before .before .before in
-    let at-fields-of = at-match .before in
-    let at-kind-of = at-fields-of .before in
-    rw (← at-kind-of .kind-of .ensures, ← at-fields-of .fields-of .ensures, c .tick .ensures)
-    (flush-arm _ _ _ _ _ _ _ _ _ (omega arith) (omega arith))
+    let at-low = c .before .before in
+    let others = at-low .before .match .rest in
+    let low = behind-load _ (at-low .if1 .left) (others .0 .0 .0 .1) (others .0 .0 .1) (others .0 .1) in
+    rw (c .tick .ensures) (flush-arm _ _ _ _ _ _ _ _ _ low (le-of-suc-le-suc (c .before .if2 .taken)))
 
 returns-6 : tie.Need-returns-6
 unfolding stepK passW
 returns-6 c =
-    let at-if1 = c .before .before .before in
-    let at-fields-of = at-if1 .before .before in
-    let at-kind-of = at-fields-of .before in
-    rw (← at-kind-of .kind-of .ensures, ← at-fields-of .fields-of .ensures, c .tick2 .ensures)
+    rw (c .tick2 .ensures)
     (fence-arm _ _ _ _ _ _ _ _ _ (omega arith) (omega arith))
 
 returns-7 : tie.Need-returns-7
 unfolding stepK skipW
 returns-7 c =
-    let at-if2 = c .before .before .before in
-    let at-fields-of = at-if2 .before .before .before in
-    let at-kind-of = at-fields-of .before in
-    rw (← at-kind-of .kind-of .ensures, ← at-fields-of .fields-of .ensures, c .skip .ensures)
-    (skip-arm _ _ _ _ _ _ _ _ _ (omega arith) (omega arith))
+    let at-range = c .before in
+    let others = at-range .before .before .before .before .match .rest in
+    let low = behind-crash _ (at-range .before .if3 .left) (others .1) in
+    rw (c .skip .ensures) (skip-arm _ _ _ _ _ _ _ _ _ low (le-of-suc-le-suc (at-range .if4 .taken)))
 
 returns-8 : tie.Need-returns-8
 unfolding stepK
-returns-8 c =
-    rw (← c .before .before .before .kind-of .ensures, ← c .before .before .fields-of .ensures)
-    (other-arm _ _ _ _ _ _ _ _ _ (λ low high. omega arith))
+returns-8 c = other-arm _ _ _ _ _ _ _ _ _ (λ low high. omega arith)
 
 returns-9 : tie.Need-returns-9
 unfolding stepK
-returns-9 c =
-    let at-if1 = c .before .before .before in
-    let at-fields-of = at-if1 .before .before in
-    let at-kind-of = at-fields-of .before in
-    rw (← at-kind-of .kind-of .ensures, ← at-fields-of .fields-of .ensures)
-    (other-arm _ _ _ _ _ _ _ _ _ (λ low high. omega arith))
+returns-9 c = other-arm _ _ _ _ _ _ _ _ _ (λ low high. omega arith)
 
 pub step-spec : {M : Type 1} → statement M
 step-spec =
     tie.close
     (tie.spec
-    kind-of-requires
-    fields-of-requires
     issue-requires
     commit-requires
     load-requires
