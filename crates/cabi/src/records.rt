@@ -1,0 +1,105 @@
+// The numbers of a record.
+ghost use mathlib.Core.Path.{_≡_};
+ghost use Rattle.record.specs.Answers.{readAnswer, writeAnswer};
+ghost use Rattle.cabi.specs.Records.{eventNumbers, readNumbers, sizeIn, refusalIn, eventIn, isKind};
+ghost use Rattle.cabi.specs.Records.{writingNumbers, writtenNumbers};
+use record::Event;
+use record::Fields;
+use record::Read;
+use record::Written;
+
+fn event_numbers(e: Event) -> [u16; 8]
+    ensures { λ r. ⌜ r ≡ eventNumbers e ⌝ }
+{
+    let k = record::kind_of(e);
+    let f = record::fields_of(e);
+    [
+        0,
+        k,
+        f.version,
+        f.threads,
+        f.locations,
+        f.thread,
+        f.location,
+        f.source,
+    ]
+}
+
+pub(crate) fn read_numbers(r: Read) -> [u16; 8]
+    ensures { λ n. ⌜ n ≡ readNumbers (readAnswer r) ⌝ }
+{
+    match r {
+        Read::Record(e, _) => event_numbers(e),
+        Read::Refused(k) => [k, 0, 0, 0, 0, 0, 0, 0],
+    }
+}
+
+// The position past the record; 0 for a refusal.
+pub(crate) fn past(r: Read) -> usize
+    ensures { λ n. ⌜ n ≡ sizeIn (readAnswer r) ⌝ }
+{
+    match r {
+        Read::Record(_, n) => n,
+        Read::Refused(_) => 0,
+    }
+}
+
+// What writing did: a refusal's number or 0, and the number of bytes written.
+pub struct Outcome {
+    pub refusal: u16,
+    pub size: usize,
+}
+
+fn outcome_of(w: Written) -> Outcome
+    ensures { λ r. ⌜ (r .refusal ≡ refusalIn (writeAnswer w)) × (r .size ≡ sizeIn (writeAnswer w)) ⌝ }
+{
+    match w {
+        Written::Done(n) => Outcome {
+            refusal: 0,
+            size: n,
+        },
+        Written::NoRoom => Outcome {
+            refusal: 17,
+            size: 0,
+        },
+    }
+}
+
+fn event_in(numbers: [u16; 8]) -> Event
+    ensures { λ r. ⌜ r ≡ eventIn numbers ⌝ }
+{
+    let f = Fields {
+        thread: numbers[5],
+        location: numbers[6],
+        source: numbers[7],
+        version: numbers[2],
+        threads: numbers[3],
+        locations: numbers[4],
+    };
+    record::event_of(numbers[1], f)
+}
+
+fn is_kind(k: u16) -> bool
+    ensures { λ r. ⌜ r ≡ isKind k ⌝ }
+{
+    match k {
+        1..=11 => true,
+        _ => false,
+    }
+}
+
+pub(crate) fn write(numbers: [u16; 8], output: &mut [u8]) -> Outcome
+    ensures { λ r. ⌜ (r .refusal ≡ refusalIn (writingNumbers numbers (now (output .entry))))
+        × (r .size ≡ sizeIn (writingNumbers numbers (now (output .entry)))) ⌝ }
+    ensures { λ _. ⌜ now (output .exit) ≡ writtenNumbers numbers (now (output .entry)) ⌝ }
+{
+    if !is_kind(numbers[1]) {
+        return Outcome {
+            refusal: 3,
+            size: 0,
+        };
+    }
+    let e = event_in(numbers);
+    let w = record::write(e, output);
+    outcome_of(w)
+}

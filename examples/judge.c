@@ -1,0 +1,51 @@
+/*
+ * Judges the trace in a file: prints one line and exits with 0 robust, 1 broken, 2 refused; 3 if there is no such file.
+ *
+ *     rt staticlib cabi
+ *     cc -Iinclude examples/judge.c target/staticlib/libcabi.a -o target/judge
+ *     target/judge crates/verdict/stdin
+ */
+#include <stdio.h>
+
+#include "gorbuzte.h"
+
+#define LONGEST 65536
+
+static uint8_t trace[LONGEST];
+static uint16_t work[GORBUZTE_WORK];
+static uint16_t cut[GORBUZTE_CUT];
+
+/* Reads the file. Returns its length, at most LONGEST, or -1. */
+static long read_file(const char *path)
+{
+    FILE *file = fopen(path, "rb");
+    if (file == NULL)
+        return -1;
+    size_t size = fread(trace, 1, LONGEST, file);
+    fclose(file);
+    return (long)size;
+}
+
+int main(int argc, char **argv)
+{
+    uint16_t answer[GORBUZTE_ANSWER_SIZE];
+    long size = argc == 2 ? read_file(argv[1]) : -1;
+    if (size < 0) {
+        fprintf(stderr, "usage: judge FILE\n");
+        return 3;
+    }
+    gorbuzte_judge(trace, (size_t)size, work, GORBUZTE_WORK, cut, GORBUZTE_CUT, answer);
+    switch (answer[GORBUZTE_VERDICT]) {
+    case GORBUZTE_ROBUST:
+        printf("robust: %d events, share %d\n", answer[GORBUZTE_EVENTS], answer[GORBUZTE_SHARE]);
+        return 0;
+    case GORBUZTE_BROKEN:
+        printf("broken at load %d: store %d is missing, store %d was observed (%s)\n", answer[GORBUZTE_LOAD],
+               answer[GORBUZTE_MISSING], answer[GORBUZTE_OBSERVED],
+               answer[GORBUZTE_KIND] == GORBUZTE_FLUSH ? "flush" : "contradiction");
+        return 1;
+    default:
+        printf("refused %d at event %d\n", answer[GORBUZTE_REFUSAL], answer[GORBUZTE_EVENT]);
+        return 2;
+    }
+}

@@ -1,0 +1,92 @@
+/*
+ * Gorbuzte: a judge of store order across crashes, for C.
+ *
+ * Link target/staticlib/libcabi.a, which `rt staticlib cabi` proves and builds (x86-64 Linux). Every call takes any
+ * input, always returns, keeps nothing and calls nothing outside the library. A trace is a pointer and a length in
+ * bytes, a work area or a cut buffer a pointer and a length in two-byte numbers; no two of them may overlap. A pointer
+ * must not be NULL, even where its length is 0. Answers are two-byte numbers in lent arrays of fixed size.
+ */
+#ifndef GORBUZTE_H
+#define GORBUZTE_H
+
+#include <stddef.h>
+#include <stdint.h>
+
+#ifdef __cplusplus
+extern "C" {
+#endif
+
+#define GORBUZTE_WORK 32768 /* numbers of a work area, at least */
+#define GORBUZTE_CUT 56     /* numbers of a cut buffer, exactly */
+
+/* The numbers of an answer to gorbuzte_judge. What a verdict does not have is 0. */
+enum gorbuzte_answer {
+    GORBUZTE_REFUSAL,  /* the refusal's number, 1 to 15, or 0 */
+    GORBUZTE_EVENT,    /* the refusal's event number */
+    GORBUZTE_VERDICT,  /* one of gorbuzte_verdict */
+    GORBUZTE_EVENTS,   /* events after the begin */
+    GORBUZTE_SHARE,    /* robust: the share, in percent */
+    GORBUZTE_LOAD,     /* broken: the first event with which no choice explains the loads */
+    GORBUZTE_MISSING,  /* broken: the store that a load forbids */
+    GORBUZTE_OBSERVED, /* broken: the store that a load observes */
+    GORBUZTE_KIND,     /* broken: one of gorbuzte_kind */
+    GORBUZTE_ANSWER_SIZE
+};
+
+enum gorbuzte_verdict { GORBUZTE_REFUSED = 0, GORBUZTE_ROBUST = 1, GORBUZTE_BROKEN = 2 };
+
+enum gorbuzte_kind { GORBUZTE_CONTRADICTION = 1, GORBUZTE_FLUSH = 2 };
+
+/*
+ * Judges a trace. Robust fills the cut buffer with the least choice: stretch j, thread t at 8 * (j - 1) + t, the rest 0;
+ * any other answer leaves it as lent. Afterwards the first 32,768 numbers of the work area are 0 and the rest is
+ * untouched, but refusals 14 (a smaller work area) and 15 (a cut buffer that is not 56 numbers) touch nothing.
+ */
+void gorbuzte_judge(const uint8_t *trace, size_t trace_len, uint16_t *work, size_t work_len, uint16_t *cut,
+                    size_t cut_len, uint16_t answer[GORBUZTE_ANSWER_SIZE]);
+
+/* The numbers of an answer to gorbuzte_order: the refusal's number (1 to 14, 16) or 0, its event number, and this. */
+enum gorbuzte_standing {
+    GORBUZTE_BEFORE = 1,
+    GORBUZTE_AFTER = 2,
+    GORBUZTE_SAME = 3,
+    GORBUZTE_NEITHER = 4
+};
+
+/* How the store that event `first` issues stands to that of event `second`, by happens-before. */
+void gorbuzte_order(const uint8_t *trace, size_t trace_len, uint16_t *work, size_t work_len, uint16_t first,
+                    uint16_t second, uint16_t answer[3]);
+
+/* The numbers of a record. What its kind does not have is 0. */
+enum gorbuzte_record {
+    GORBUZTE_RECORD_REFUSAL, /* the refusal's number or 0 */
+    GORBUZTE_RECORD_KIND,    /* 1 to 11 */
+    GORBUZTE_VERSION,
+    GORBUZTE_THREADS,
+    GORBUZTE_LOCATIONS,
+    GORBUZTE_THREAD,
+    GORBUZTE_LOCATION,
+    GORBUZTE_SOURCE,
+    GORBUZTE_RECORD_SIZE
+};
+
+/* Reads the record at a position. Returns the position past it; 0 if it is refused, with 1, 2, 3 or 4. */
+size_t gorbuzte_read(const uint8_t *trace, size_t trace_len, size_t at, uint16_t record[GORBUZTE_RECORD_SIZE]);
+
+/*
+ * Writes a record to the start of the output. Returns its size; 0 if it is refused, with 3 (no such kind) or 17 (the
+ * output is shorter than the record), and then the output is untouched. Only the refusal of `record` changes.
+ */
+size_t gorbuzte_write(uint16_t record[GORBUZTE_RECORD_SIZE], uint8_t *output, size_t output_len);
+
+/*
+ * Where record number e stands in a trace: place[0] is the position of its length bytes, place[1] its size with them.
+ * The size is 0 exactly if records 0 to e cannot all be framed.
+ */
+void gorbuzte_frame(const uint8_t *trace, size_t trace_len, size_t e, size_t place[2]);
+
+#ifdef __cplusplus
+}
+#endif
+
+#endif
