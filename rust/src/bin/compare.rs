@@ -1,0 +1,54 @@
+//! `compare SEED COUNT` compares the library, the reference and the fast judge on COUNT generated traces.
+
+use gorbuzte::comparison::{Comparison, Counts};
+use gorbuzte::generator::{Family, Generator, Random, FAMILIES};
+use std::process::ExitCode;
+use std::time::Instant;
+
+fn main() -> ExitCode {
+    let numbers: Vec<u64> = std::env::args().skip(1).filter_map(|word| word.parse().ok()).collect();
+    let [seed, count] = numbers[..] else {
+        eprintln!("usage: compare SEED COUNT");
+        return ExitCode::from(2);
+    };
+    let start = Instant::now();
+    let mut generator = Generator::new();
+    let mut comparison = Comparison::new();
+    let mut made = [0_u64; FAMILIES.len()];
+    for number in 0..count {
+        let (trace, family) = generator.trace(seed, number);
+        made[family as usize] += 1;
+        if let Err(difference) = comparison.check(trace, &Random::new(!seed, number)) {
+            tell(seed, number, family, trace, &difference);
+            return ExitCode::FAILURE;
+        }
+    }
+    print_counts(&comparison.counts, &made);
+    println!("{:.1} seconds", start.elapsed().as_secs_f64());
+    println!("{count} traces, 0 differences");
+    ExitCode::SUCCESS
+}
+
+/// Prints a difference with all that is needed to repeat it.
+fn tell(seed: u64, number: u64, family: Family, trace: &[u8], difference: &str) {
+    println!("seed {seed}, trace {number} ({family:?}), {} bytes:", trace.len());
+    println!("{}", trace.iter().map(|byte| format!("{byte:02x}")).collect::<String>());
+    println!("{difference}");
+    println!("{} traces, 1 difference", number + 1);
+}
+
+fn print_counts(counts: &Counts, made: &[u64]) {
+    for (family, number) in FAMILIES.iter().zip(made) {
+        println!("made {family:?}: {number}");
+    }
+    println!("robust: {}, of them with a store in the cut: {}", counts.robust, counts.robust_with_stores);
+    println!("broken, contradiction: {}", counts.contradiction);
+    println!("broken, flush: {}", counts.flush);
+    for (refusal, number) in counts.refused.iter().enumerate().skip(1) {
+        println!("refused {refusal}: {number}");
+    }
+    println!("checked by all choices: {}, of them broken: {}", counts.all_choices, counts.all_choices_broken);
+    println!("order queries: {}, traces queried in all pairs: {}", counts.queries, counts.all_pairs);
+    println!("calls with buffers of a wrong size: {}", counts.wrong_buffers);
+    println!("records read, written and framed: {}", counts.records);
+}

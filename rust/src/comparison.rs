@@ -1,0 +1,318 @@
+//! Compares the library, the reference and the fast judge on a trace: the answers, and what the lent buffers hold
+//! after.
+
+use crate::fast::Fast;
+use crate::generator::Random;
+use crate::reference::{self, Accepted};
+use crate::types::{Event, Kind, Order, Refusal, Verdict, CUT, LARGEST_RECORD, WORK};
+use crate::{ffi, wrapper};
+use std::fmt::Debug;
+
+/// The most numbers that are lent beyond the least work area.
+const EXTRA: usize = 64;
+
+/// The most choices of a trace that is also judged by trying them all.
+const CHOICES: usize = 2_000;
+
+/// The most events of a trace whose stores are queried in all pairs whenever it comes up, and now and then.
+const ALL_PAIRS: u16 = 8;
+const ALL_PAIRS_AT_TIMES: u16 = 20;
+
+/// What the numbers of the library's verdict are.
+const JUDGE: &str = "library: refusal, event, verdict, events, share, load, missing, observed, kind";
+
+/// What was met in a comparison.
+#[derive(Clone, Debug, Default, PartialEq, Eq)]
+pub struct Counts {
+    /// All traces.
+    pub traces: u64,
+    /// Traces judged robust.
+    pub robust: u64,
+    /// Traces judged robust whose least choice has a store in.
+    pub robust_with_stores: u64,
+    /// Traces judged broken by a contradiction.
+    pub contradiction: u64,
+    /// Traces judged broken by a missing flush.
+    pub flush: u64,
+    /// Refused traces, by the number of the refusal.
+    pub refused: [u64; 14],
+    /// Accepted traces that were also judged by trying all choices.
+    pub all_choices: u64,
+    /// Broken traces among those.
+    pub all_choices_broken: u64,
+    /// Traces whose order queries were compared for all pairs of numbers.
+    pub all_pairs: u64,
+    /// Order queries.
+    pub queries: u64,
+    /// Calls with a work area or a cut buffer of a wrong size.
+    pub wrong_buffers: u64,
+    /// Records that were read, written and framed.
+    pub records: u64,
+}
+
+/// The buffers and counts of a comparison.
+pub struct Comparison {
+    work: Vec<u16>,
+    cut: Vec<u16>,
+    fast: Fast,
+    /// What was met so far.
+    pub counts: Counts,
+}
+
+impl Default for Comparison {
+    fn default() -> Self {
+        Self::new()
+    }
+}
+
+/// A difference, told in words, if the two are not the same.
+fn same<T: PartialEq + Debug>(what: &str, answer: T, reference: T) -> Result<(), String> {
+    if answer == reference {
+        return Ok(());
+    }
+    Err(format!("{what}\n  answer:    {answer:?}\n  reference: {reference:?}"))
+}
+
+impl Comparison {
+    /// A comparison that has met nothing yet.
+    #[must_use]
+    pub fn new() -> Self {
+        Comparison { work: vec![0; WORK + EXTRA], cut: vec![0; 2 * CUT], fast: Fast::new(), counts: Counts::default() }
+    }
+
+    /// Compares all that is asked of one trace. The random numbers choose the checks that are made now and then.
+    ///
+    /// # Errors
+    ///
+    /// A difference, told in words.
+    pub fn check(&mut self, trace: &[u8], random: &Random) -> Result<(), String> {
+        let accepted = reference::accept(trace);
+        let expected = accepted.as_ref().map(Accepted::verdict).map_err(|refusal| *refusal);
+        self.count(&expected);
+        self.check_judge(trace, &expected, random)?;
+        same("fast judge", self.fast.judge(trace), expected)?;
+        if random.once_in(2) {
+            self.check_all_choices(trace, &expected)?;
+        }
+        match &accepted {
+            Ok(accepted) => self.check_orders(trace, accepted, &expected, random)?,
+            Err(refusal) if random.once_in(4) => {
+                let [first, second] = [0, 1].map(|_| random.between(0, 20));
+                self.check_order(trace, first, second, Err(*refusal), random)?;
+            }
+            Err(_) => {}
+        }
+        if random.once_in(16) {
+            self.check_wrong_buffers(trace, random)?;
+        }
+        if random.once_in(8) {
+            self.check_records(trace, random)?;
+        }
+        Ok(())
+    }
+
+    fn count(&mut self, answer: &Result<Verdict, Refusal>) {
+        self.counts.traces += 1;
+        let has_stores = |cut: &[u16; CUT]| cut.iter().any(|&count| count > 0);
+        self.counts.robust_with_stores +=
+            u64::from(matches!(answer, Ok(Verdict::Robust { cut, .. }) if has_stores(cut)));
+        *match answer {
+            Ok(Verdict::Robust { .. }) => &mut self.counts.robust,
+            Ok(Verdict::Broken { kind: Kind::Contradiction, .. }) => &mut self.counts.contradiction,
+            Ok(Verdict::Broken { kind: Kind::Flush, .. }) => &mut self.counts.flush,
+            Err(refusal) => &mut self.counts.refused[usize::from(refusal.number)],
+        } += 1;
+    }
+
+    /// Fills the work area with a number that is not 0. Gives that number.
+    fn fill_work(&mut self, random: &Random) -> u16 {
+        let pattern = random.between(1, u16::MAX);
+        self.work.fill(pattern);
+        pattern
+    }
+
+    /// Whether the work area holds a pattern from some place on, and only 0 before it.
+    fn work_holds(&self, cleared: usize, pattern: u16) -> Result<(), String> {
+        let differences = |part: &[u16], number: u16| part.iter().fold(0, |all, &each| all | (each ^ number));
+        let (front, rest) = self.work.split_at(cleared);
+        if differences(front, 0) | differences(rest, pattern) == 0 {
+            return Ok(());
+        }
+        let wrong = self.work.iter().enumerate().find(|(at, &is)| is != if *at < cleared { 0 } else { pattern });
+        Err(format!(
+            "library, work area, lent full of {pattern}, of which {cleared} are to be 0: (place, number) {wrong:?}"
+        ))
+    }
+
+    /// The library's verdict, the cut buffer and the work area.
+    fn check_judge(
+        &mut self,
+        trace: &[u8],
+        expected: &Result<Verdict, Refusal>,
+        random: &Random,
+    ) -> Result<(), String> {
+        let pattern = self.fill_work(random);
+        let lent = WORK + random.below(EXTRA + 1);
+        self.cut.fill(pattern);
+        let answer = ffi::judge(trace, &mut self.work[..lent], &mut self.cut[..CUT]);
+        same(JUDGE, answer, answer_of(expected))?;
+        let cut = match expected {
+            Ok(Verdict::Robust { cut, .. }) => *cut,
+            _ => [pattern; CUT],
+        };
+        same("library, cut buffer", &self.cut[..CUT], &cut)?;
+        same("library, behind the cut buffer", &self.cut[CUT..], &[pattern; CUT])?;
+        self.work_holds(WORK, pattern)
+    }
+
+    /// The reference against itself: the verdict by trying all choices.
+    fn check_all_choices(&mut self, trace: &[u8], expected: &Result<Verdict, Refusal>) -> Result<(), String> {
+        match reference::judge_by_all_choices(trace, CHOICES) {
+            Some(answer) if answer.is_ok() => {
+                self.counts.all_choices += 1;
+                self.counts.all_choices_broken += u64::from(matches!(answer, Ok(Verdict::Broken { .. })));
+                same("reference by all choices", &answer, expected)
+            }
+            _ => Ok(()),
+        }
+    }
+
+    /// Order queries on an accepted trace: all pairs if it is small, else one.
+    fn check_orders(
+        &mut self,
+        trace: &[u8],
+        accepted: &Accepted,
+        expected: &Result<Verdict, Refusal>,
+        random: &Random,
+    ) -> Result<(), String> {
+        let &Ok(Verdict::Robust { events, .. } | Verdict::Broken { events, .. }) = expected else { return Ok(()) };
+        if events <= ALL_PAIRS || events <= ALL_PAIRS_AT_TIMES && random.once_in(64) {
+            self.counts.all_pairs += 1;
+            for first in 0..=events + 1 {
+                for second in 0..=events + 1 {
+                    self.check_order(trace, first, second, accepted.order(first, second), random)?;
+                }
+            }
+        } else if random.once_in(2) {
+            let [first, second] = [0, 1].map(|_| random.between(0, events + 1));
+            self.check_order(trace, first, second, accepted.order(first, second), random)?;
+        }
+        Ok(())
+    }
+
+    /// One order query, and the work area after it.
+    fn check_order(
+        &mut self,
+        trace: &[u8],
+        first: u16,
+        second: u16,
+        expected: Result<Order, Refusal>,
+        random: &Random,
+    ) -> Result<(), String> {
+        self.counts.queries += 1;
+        let pattern = self.fill_work(random);
+        let lent = WORK + random.below(EXTRA + 1);
+        let answer = ffi::order(trace, &mut self.work[..lent], first, second);
+        let numbers = match expected {
+            Ok(Order::Before) => [0, 0, 1],
+            Ok(Order::After) => [0, 0, 2],
+            Ok(Order::Same) => [0, 0, 3],
+            Ok(Order::Neither) => [0, 0, 4],
+            Err(Refusal { number, event }) => [number, event, 0],
+        };
+        same(&format!("library, order of {first} and {second}: refusal, event, standing"), answer, numbers)?;
+        self.work_holds(WORK, pattern)
+    }
+
+    /// "refusals 14 and 15 touch nothing", and 14 comes before 15.
+    fn check_wrong_buffers(&mut self, trace: &[u8], random: &Random) -> Result<(), String> {
+        self.counts.wrong_buffers += 1;
+        let pattern = self.fill_work(random);
+        self.cut.fill(pattern);
+        let work = random.pick(&[0, 1, random.below(WORK), WORK - 1, WORK, WORK + 1]);
+        let wrong_cuts = [0, 1, CUT - 1, CUT + 1, 2 * CUT];
+        let cut = if work < WORK && random.once_in(2) { CUT } else { random.pick(&wrong_cuts) };
+        let number = if work < WORK { 14 } else { 15 };
+        let answer = ffi::judge(trace, &mut self.work[..work], &mut self.cut[..cut]);
+        same("library, judge with wrong buffers", answer, answer_of(&Err(Refusal { number, event: 0 })))?;
+        if work < WORK {
+            let [first, second] = [0, 1].map(|_| random.between(0, 20));
+            let answer = ffi::order(trace, &mut self.work[..work], first, second);
+            same("library, order with a work area too small", answer, [14, 0, 0])?;
+        }
+        same("library, cut buffer after a refusal of buffers", &self.cut[..], &[pattern; 2 * CUT])?;
+        self.work_holds(0, pattern)
+    }
+
+    /// The record layer: reads record by record, writes each event again, frames each record.
+    fn check_records(&mut self, trace: &[u8], random: &Random) -> Result<(), String> {
+        let (mut at, mut number) = (0, 0);
+        loop {
+            let read = reference::read_at(trace, at);
+            check_read(trace, at, &read)?;
+            let Ok((event, next)) = read else { break };
+            check_write(&event, &trace[at..next], random)?;
+            if number < 64 {
+                check_frame(trace, number)?;
+            }
+            (at, number) = (next, number + 1);
+        }
+        self.counts.records += number as u64;
+        for e in [number, number + 1, number + 2, random.below(100), usize::MAX - random.below(2)] {
+            check_frame(trace, e)?;
+        }
+        for _ in 0..4 {
+            let at = random.below(trace.len() + 8);
+            check_read(trace, at, &reference::read_at(trace, at))?;
+        }
+        check_read(trace, usize::MAX, &reference::read_at(trace, usize::MAX))
+    }
+}
+
+/// Reading at a position: the wrapper's answer, and all numbers of the library's record.
+fn check_read(trace: &[u8], at: usize, expected: &Result<(Event, usize), Refusal>) -> Result<(), String> {
+    same("library, read_at", &wrapper::read_at(trace, at), expected)?;
+    let (next, record) = ffi::read(trace, at);
+    match expected {
+        Ok((event, end)) => same("library, numbers of a record", (next, record), (*end, wrapper::record_of(event))),
+        Err(refusal) => same("library, refusal of a record", (next, record[0]), (0, refusal.number)),
+    }
+}
+
+/// Writing an event: the bytes, the bytes behind them, and what happens if the output is too short.
+fn check_write(event: &Event, bytes: &[u8], random: &Random) -> Result<(), String> {
+    const ROOM: usize = LARGEST_RECORD + 4;
+    let pattern = random.below(256) as u8;
+    let room = random.between(0, ROOM as u16).into();
+    let mut library = [pattern; ROOM];
+    let mut expected = [pattern; ROOM];
+    let answer = wrapper::write(event, &mut library[..room]);
+    same("library, write", answer, reference::write(event, &mut expected[..room]))?;
+    same("library, output", library, expected)?;
+    if answer.is_ok() {
+        same("library, bytes of a record that is written again", &library[..bytes.len()], bytes)?;
+    }
+    let mut record = wrapper::record_of(event);
+    ffi::write(&mut record, &mut library[..room]);
+    record[0] = 0;
+    same("library, numbers of a record after it is written", record, wrapper::record_of(event))
+}
+
+/// Framing a record: its bytes, and that they are a part of the trace.
+fn check_frame(trace: &[u8], e: usize) -> Result<(), String> {
+    let (library, expected) = (wrapper::frame(trace, e), reference::frame(trace, e));
+    same("library, frame", library, expected)?;
+    same("library, position of a frame", library.map(<[u8]>::as_ptr), expected.map(<[u8]>::as_ptr))
+}
+
+/// The numbers of the library's answer that belong to an answer.
+fn answer_of(answer: &Result<Verdict, Refusal>) -> [u16; ffi::ANSWER] {
+    match *answer {
+        Err(Refusal { number, event }) => [number, event, 0, 0, 0, 0, 0, 0, 0],
+        Ok(Verdict::Robust { events, share, .. }) => [0, 0, 1, events, share, 0, 0, 0, 0],
+        Ok(Verdict::Broken { events, load, missing, observed, kind }) => {
+            let kind = if kind == Kind::Contradiction { 1 } else { 2 };
+            [0, 0, 2, events, 0, load, missing, observed, kind]
+        }
+    }
+}

@@ -1,0 +1,562 @@
+//! A judge that is written for speed: one pass over the trace with vector clocks, in tables that are kept between
+//! calls.
+//!
+//! A store is named by its event number. The stores of a thread are linked in the order of their issues, and numbered
+//! from 1 over the whole trace. A clock gives for each thread the number of its last store that happens before; a
+//! number of an earlier stretch says that there is none in this one. A crash moves each thread's commits up to its
+//! last issue: so a store waits exactly if its name is above the last committed one of its thread. With that a crash
+//! leaves clocks and locations as they are.
+
+use crate::types::{Kind, Refusal, Verdict, CUT};
+
+/// The most events after the begin.
+const EVENTS: i16 = 2_048;
+const THREADS: usize = 8;
+const LOCATIONS: usize = 256;
+const STRETCHES: usize = 8;
+
+/// The number of places in the table of stores: a power of two, so that a masked index needs no check.
+const ROOM: usize = 4_096;
+
+/// What stands in the table of headers where there is no kind. As a header it has kind 1, so it is never compared
+/// there.
+const NO_KIND: u32 = 1 << 16;
+
+/// The header of each kind's record as one number: the kind above its length.
+const HEADERS: [u32; 16] = {
+    let lengths = [0, 8, 6, 4, 8, 6, 6, 4, 4, 2, 4, 4];
+    let mut headers = [NO_KIND; 16];
+    let mut kind = 1;
+    while kind < lengths.len() {
+        headers[kind] = (kind as u32) << 16 | lengths[kind];
+        kind += 1;
+    }
+    headers
+};
+
+/// One number for each thread. The numbers are at most 2,048; signed ones have a maximum instruction on every x86-64.
+type Clock = [i16; THREADS];
+
+/// The event number of a store, 0 for none, or t - 8 for the place before the first store of thread t.
+type Name = i16;
+
+/// A store, in the table at its name.
+#[derive(Clone, Copy, Default)]
+struct Store {
+    /// The last store of each thread that happens before this one; of its own thread, this one.
+    clock: Clock,
+    /// The call in which it was committed. Another number is a leftover.
+    call: u32,
+    location: u16,
+    /// The next store of the same thread, if there is one.
+    next: Name,
+    /// The store to the same location that was committed before it, or 0.
+    older: Name,
+    /// Its stretch, counted from 0, times 8, and its thread.
+    place: u8,
+    forbidden: bool,
+    observed: bool,
+}
+
+/// The last store that was committed to a location, and the stretch of that commit above it.
+#[derive(Clone, Copy, PartialEq, Eq)]
+struct Last(u32);
+
+/// A location. The alignment makes its place in the table a shift.
+#[derive(Clone, Copy)]
+#[repr(align(32))]
+struct Location {
+    /// The last store that each thread issued here.
+    issued: [Name; THREADS],
+    last: Last,
+    /// `last` and the source at the last counted load. What they forbid is marked already. That load was crossing, so
+    /// as long as `last` stays the same, loads are.
+    counted: (Last, u16),
+}
+
+/// A location without stores and loads: no store is as low as the issued ones, and no stretch as high as the last
+/// one's.
+const UNTOUCHED: Location =
+    Location { issued: [Name::MIN; THREADS], last: Last(0xffff_0000), counted: (Last(0xffff_ffff), 0) };
+
+/// A thread. The entry of the clock at the thread itself is not kept: it is `number`.
+#[derive(Clone, Copy, Default)]
+#[repr(align(32))]
+struct Thread {
+    clock: Clock,
+    /// The number of stores that it issued.
+    number: i16,
+    /// The store that it issued last.
+    issued: Name,
+    /// The store up to which its stores are committed or dropped.
+    committed: Name,
+}
+
+/// What is known of the choice in one stretch.
+#[derive(Clone, Copy)]
+struct Stretch {
+    /// The numbers up to which each thread's stores belong to earlier stretches.
+    start: Clock,
+    /// The numbers up to which each thread's stores must be in.
+    cut: Clock,
+    /// The smallest number of each thread's forbidden stores.
+    forbidden: Clock,
+}
+
+const EMPTY: Stretch = Stretch { start: [0; THREADS], cut: [0; THREADS], forbidden: [i16::MAX; THREADS] };
+
+/// The evidence of a broken trace.
+#[derive(Clone, Copy)]
+struct Evidence {
+    load: Name,
+    missing: Name,
+    observed: Name,
+}
+
+/// A judge with its tables. A call sets back only what its trace can touch, and allocates nothing.
+pub struct Fast {
+    stores: Box<[Store; ROOM]>,
+    locations: Vec<Location>,
+    threads: [Thread; THREADS],
+    stretches: [Stretch; STRETCHES],
+    thread_count: u16,
+    /// The number of crashes so far.
+    stretch: u8,
+    /// Bit t is set while a skip of thread t is on.
+    skips: u8,
+    /// The number of stores committed in finished stretches.
+    committed: u32,
+    evidence: Option<Evidence>,
+    call: u32,
+}
+
+impl Default for Fast {
+    fn default() -> Self {
+        Self::new()
+    }
+}
+
+impl Fast {
+    /// A judge with empty tables.
+    #[must_use]
+    pub fn new() -> Self {
+        Fast {
+            stores: Box::new([Store::default(); ROOM]),
+            locations: Vec::with_capacity(LOCATIONS),
+            threads: [Thread::default(); THREADS],
+            stretches: [EMPTY; STRETCHES],
+            thread_count: 0,
+            stretch: 0,
+            skips: 0,
+            committed: 0,
+            evidence: None,
+            call: 0,
+        }
+    }
+
+    /// Judges a trace.
+    ///
+    /// # Errors
+    ///
+    /// The refusal (1 to 13) if the trace is not accepted.
+    pub fn judge(&mut self, trace: &[u8]) -> Result<Verdict, Refusal> {
+        let mut rest = self.begin(trace).map_err(|number| Refusal { number, event: 0 })?;
+        let mut event = 1;
+        while let Some(record) = rest.first_chunk() {
+            if event > EVENTS {
+                break;
+            }
+            rest = self.record(event, record, rest).map_err(|number| Refusal { number, event: event as u16 })?;
+            event += 1;
+        }
+        self.finish(event, rest)
+    }
+
+    /// Reads the begin and sets the tables back. Gives the bytes behind it.
+    fn begin<'a>(&mut self, trace: &'a [u8]) -> Result<&'a [u8], u16> {
+        let Some(record) = trace.first_chunk::<10>().filter(|record| header(record) == HEADERS[1]) else {
+            return Err(if trace.is_empty() { 1 } else { unreadable(trace).unwrap_or(1) });
+        };
+        let [version, threads, locations] = [4, 6, 8].map(|at| field(record, at));
+        if version != 1 || !(1..=8).contains(&threads) || !(1..=256).contains(&locations) {
+            return Err(6);
+        }
+        self.thread_count = threads;
+        self.locations.clear();
+        self.locations.resize(locations.into(), UNTOUCHED);
+        for (thread, first) in self.threads.iter_mut().zip(-8..) {
+            *thread = Thread { issued: first, committed: first, ..Thread::default() };
+        }
+        self.stretches[0] = EMPTY;
+        self.stretch = 0;
+        self.skips = 0;
+        self.committed = 0;
+        self.evidence = None;
+        self.next_call();
+        Ok(&trace[10..])
+    }
+
+    /// Gives the call a number that no store in the table has.
+    fn next_call(&mut self) {
+        self.call = self.call.wrapping_add(1);
+        if self.call == 0 {
+            self.stores.iter_mut().for_each(|store| store.call = 0);
+            self.call = 1;
+        }
+    }
+
+    /// The end of the trace: fewer bytes than the largest record has, or a record too many. A record is read from a
+    /// copy that is filled up.
+    fn finish(&mut self, mut event: Name, mut rest: &[u8]) -> Result<Verdict, Refusal> {
+        while !rest.is_empty() {
+            let refused = |number| Refusal { number, event: event as u16 };
+            if let Some(number) = unreadable(rest).or((event > EVENTS).then_some(13)) {
+                return Err(refused(number));
+            }
+            let mut record = [0; 10];
+            record[..rest.len()].copy_from_slice(rest);
+            rest = self.record(event, &record, rest).map_err(refused)?;
+            event += 1;
+        }
+        Ok(self.verdict(event as u16 - 1))
+    }
+
+    /// Takes the record that the bytes start with. Gives the bytes behind it.
+    #[inline(always)]
+    fn record<'a>(&mut self, event: Name, record: &[u8; 10], rest: &'a [u8]) -> Result<&'a [u8], u16> {
+        let kind = record[2] & 15;
+        if header(record) != HEADERS[usize::from(kind)] {
+            return Err(unreadable(rest).unwrap_or(3));
+        }
+        match kind {
+            2 => self.issue(event, self.thread(record)?, field(record, 6)).map(|()| &rest[8..]),
+            3 => self.commit(self.thread(record)?).map(|()| &rest[6..]),
+            4 => self.load(event, self.thread(record)?, field(record, 6), field(record, 8)).map(|()| &rest[10..]),
+            5 | 6 => self.thread(record).and_then(|_| self.flush(field(record, 6))).map(|()| &rest[8..]),
+            7 => self.thread(record).map(|_| &rest[6..]),
+            8 => self.mfence(self.thread(record)?).map(|()| &rest[6..]),
+            9 => self.crash().map(|()| &rest[4..]),
+            10 | 11 => self.skip(self.thread(record)?, kind == 10).map(|()| &rest[6..]),
+            _ => Err(5),
+        }
+    }
+
+    /// The thread of a record, or refusal 7.
+    #[inline(always)]
+    fn thread(&self, record: &[u8; 10]) -> Result<usize, u16> {
+        let thread = field(record, 4);
+        if thread >= self.thread_count {
+            return Err(7);
+        }
+        Ok(usize::from(thread) & (THREADS - 1))
+    }
+
+    #[inline(always)]
+    fn issue(&mut self, event: Name, thread: usize, location: u16) -> Result<(), u16> {
+        let place = self.locations.get_mut(usize::from(location)).ok_or(8_u16)?;
+        place.issued[thread] = event;
+        let issuer = &mut self.threads[thread];
+        self.stores[at(issuer.issued)].next = event;
+        issuer.issued = event;
+        issuer.number += 1;
+        let store = &mut self.stores[at(event)];
+        store.clock = issuer.clock;
+        store.clock[thread] = issuer.number;
+        store.location = location;
+        store.place = self.stretch << 3 | thread as u8;
+        Ok(())
+    }
+
+    #[inline(always)]
+    fn commit(&mut self, thread: usize) -> Result<(), u16> {
+        let owner = &mut self.threads[thread];
+        if owner.committed == owner.issued {
+            return Err(10);
+        }
+        owner.committed = self.stores[at(owner.committed)].next;
+        let store = &mut self.stores[at(owner.committed)];
+        let location = &mut self.locations[usize::from(store.location)];
+        store.call = self.call;
+        store.older = location.last.store();
+        store.forbidden = false;
+        store.observed = false;
+        location.last = Last::new(self.stretch, owner.committed as u16);
+        Ok(())
+    }
+
+    #[inline(always)]
+    fn load(&mut self, event: Name, thread: usize, location: u16, source: u16) -> Result<(), u16> {
+        let place = self.locations.get(usize::from(location)).ok_or(8_u16)?;
+        let reader = &mut self.threads[thread];
+        let waiting = place.issued[thread];
+        if waiting > reader.committed {
+            return if source == waiting as u16 { Ok(()) } else { Err(9) };
+        }
+        if place.last == Last::new(self.stretch, source) {
+            reader.clock = larger(&reader.clock, &self.stores[at(source as Name)].clock);
+            return Ok(());
+        }
+        if place.counted == (place.last, source) {
+            return Ok(());
+        }
+        self.crossing(event, thread, location, source)
+    }
+
+    /// A load that is crossing and does not repeat the last counted load of its location, or that is refused.
+    #[inline(never)]
+    fn crossing(&mut self, event: Name, thread: usize, location: u16, source: u16) -> Result<(), u16> {
+        if self.locations[usize::from(location)].last.stretch() == self.stretch.into() {
+            return Err(9);
+        }
+        if source != 0 {
+            let store = self.stores.get(usize::from(source)).ok_or(9_u16)?;
+            if store.call != self.call || store.location != location {
+                return Err(9);
+            }
+        }
+        if self.skips >> thread & 1 == 0 && self.evidence.is_none() {
+            let forbidden = self.forbid(location, source);
+            let observed = source != 0 && self.observe(source);
+            let place = &mut self.locations[usize::from(location)];
+            place.counted = (place.last, source);
+            if forbidden || observed {
+                self.evidence = Some(self.find_evidence(event));
+            }
+        }
+        Ok(())
+    }
+
+    /// Marks the stores to a location from the last back to the source. Gives whether one of them must be in.
+    fn forbid(&mut self, location: u16, source: u16) -> bool {
+        let place = &self.locations[usize::from(location)];
+        let (source, marked_for) = (source as Name, place.counted.1 as Name);
+        let marked = if source == marked_for { place.counted.0.store() } else { source };
+        let mut name = place.last.store();
+        let mut must_be_in = false;
+        while name != source && name != marked {
+            let store = &mut self.stores[at(name)];
+            store.forbidden = true;
+            name = store.older;
+            let thread = store.thread();
+            let number = store.clock[thread];
+            let stretch = &mut self.stretches[store.stretch()];
+            stretch.forbidden[thread] = stretch.forbidden[thread].min(number);
+            must_be_in |= number <= stretch.cut[thread];
+        }
+        must_be_in
+    }
+
+    /// Raises the cut of the source's stretch by its clock. Gives whether a forbidden store must be in now.
+    fn observe(&mut self, source: u16) -> bool {
+        let store = &mut self.stores[at(source as Name)];
+        store.observed = true;
+        let stretch = &mut self.stretches[store.stretch()];
+        stretch.cut = larger(&stretch.cut, &store.clock);
+        (0..THREADS).fold(false, |any, thread| any | (stretch.forbidden[thread] <= stretch.cut[thread]))
+    }
+
+    /// The smallest forbidden store that must be in, and the smallest observed store that it is or happens before.
+    /// Observed stores of earlier stretches have lower clocks, and those of later stretches are not the smallest.
+    #[cold]
+    fn find_evidence(&self, load: Name) -> Evidence {
+        let smallest = |test: &dyn Fn(&Store) -> bool| {
+            let found = (1..load).find(|&name| {
+                let store = &self.stores[at(name)];
+                store.call == self.call && test(store)
+            });
+            found.expect("a broken trace has evidence")
+        };
+        let missing = smallest(&|store| {
+            let thread = store.thread();
+            store.forbidden && store.clock[thread] <= self.stretches[store.stretch()].cut[thread]
+        });
+        let first = &self.stores[at(missing)];
+        let thread = first.thread();
+        let observed = smallest(&|store| store.observed && store.clock[thread] >= first.clock[thread]);
+        Evidence { load, missing, observed }
+    }
+
+    #[inline(always)]
+    fn flush(&self, location: u16) -> Result<(), u16> {
+        if usize::from(location) < self.locations.len() {
+            Ok(())
+        } else {
+            Err(8)
+        }
+    }
+
+    #[inline(always)]
+    fn mfence(&self, thread: usize) -> Result<(), u16> {
+        if self.threads[thread].issued == self.threads[thread].committed {
+            Ok(())
+        } else {
+            Err(11)
+        }
+    }
+
+    #[inline(always)]
+    fn skip(&mut self, thread: usize, on: bool) -> Result<(), u16> {
+        if (self.skips >> thread & 1 == 1) == on {
+            return Err(12);
+        }
+        self.skips ^= 1 << thread;
+        Ok(())
+    }
+
+    #[inline(never)]
+    fn crash(&mut self) -> Result<(), u16> {
+        if usize::from(self.stretch) + 1 == STRETCHES {
+            return Err(13);
+        }
+        let start = self.threads.map(|thread| thread.number);
+        let finished = &self.stretches[usize::from(self.stretch)];
+        for (number, thread) in self.threads.iter_mut().enumerate() {
+            let last = &self.stores[at(thread.committed)];
+            self.committed += (last.clock[number] - finished.start[number]) as u32;
+            thread.committed = thread.issued;
+        }
+        self.stretch += 1;
+        self.stretches[usize::from(self.stretch)] = Stretch { start, cut: start, ..EMPTY };
+        self.skips = 0;
+        Ok(())
+    }
+
+    fn verdict(&self, events: u16) -> Verdict {
+        if let Some(Evidence { load, missing, observed }) = self.evidence {
+            let kind = if missing == observed { Kind::Contradiction } else { Kind::Flush };
+            let [load, missing, observed] = [load, missing, observed].map(|name| name as u16);
+            return Verdict::Broken { events, load, missing, observed, kind };
+        }
+        let mut cut = [0; CUT];
+        let mut inside = 0;
+        for (row, stretch) in cut.chunks_exact_mut(THREADS).zip(&self.stretches[..usize::from(self.stretch)]) {
+            for (count, (last, start)) in row.iter_mut().zip(stretch.cut.iter().zip(stretch.start)) {
+                *count = (last - start) as u16;
+                inside += u32::from(*count);
+            }
+        }
+        let share = (100 * inside).checked_div(self.committed).unwrap_or(100);
+        Verdict::Robust { events, share: share as u16, cut }
+    }
+}
+
+impl Store {
+    #[inline(always)]
+    fn thread(&self) -> usize {
+        usize::from(self.place) & (THREADS - 1)
+    }
+
+    #[inline(always)]
+    fn stretch(&self) -> usize {
+        usize::from(self.place) >> 3 & (STRETCHES - 1)
+    }
+}
+
+impl Last {
+    #[inline(always)]
+    fn new(stretch: u8, store: u16) -> Self {
+        Last(u32::from(stretch) << 16 | u32::from(store))
+    }
+
+    #[inline(always)]
+    fn stretch(self) -> u32 {
+        self.0 >> 16
+    }
+
+    /// The store, or 0 if there is none.
+    #[inline(always)]
+    fn store(self) -> Name {
+        self.0 as Name
+    }
+}
+
+/// The place of a store in its table.
+#[inline(always)]
+fn at(name: Name) -> usize {
+    usize::from(name as u16) & (ROOM - 1)
+}
+
+/// The larger of two clocks at each thread.
+#[inline(always)]
+fn larger(a: &Clock, b: &Clock) -> Clock {
+    std::array::from_fn(|thread| a[thread].max(b[thread]))
+}
+
+/// The length and the kind of a record as one number, the kind above.
+#[inline(always)]
+fn header(record: &[u8; 10]) -> u32 {
+    u32::from_le_bytes([record[0], record[1], record[2], record[3]])
+}
+
+/// The two-byte number at a position of a record.
+#[inline(always)]
+fn field(record: &[u8; 10], at: usize) -> u16 {
+    u16::from_le_bytes([record[at], record[at + 1]])
+}
+
+/// The refusal of a record that cannot be read, or 5 if it is a begin; `None` otherwise. There is at least one byte.
+#[cold]
+fn unreadable(bytes: &[u8]) -> Option<u16> {
+    let number = |at: usize| bytes.get(at..at + 2).map(|pair| u16::from_le_bytes([pair[0], pair[1]]));
+    let Some(length) = number(0) else { return Some(2) };
+    if length < 2 {
+        return Some(4);
+    }
+    if bytes.len() - 2 < usize::from(length) {
+        return Some(2);
+    }
+    let kind = number(2)?;
+    match HEADERS.get(usize::from(kind)) {
+        None | Some(&NO_KIND) => Some(3),
+        Some(&header) if header & 0xffff != length.into() => Some(4),
+        _ if kind == 1 => Some(5),
+        _ => None,
+    }
+}
+
+#[cfg(test)]
+mod tests {
+    use super::*;
+
+    /// Begin with 1 thread and 2 locations, issue at 0, commit, crash, load from 1.
+    const TRACE: [u8; 38] = [
+        8, 0, 1, 0, 1, 0, 1, 0, 2, 0, 6, 0, 2, 0, 0, 0, 0, 0, 4, 0, 3, 0, 0, 0, 2, 0, 9, 0, 8, 0, 4, 0, 0, 0, 0, 0, 1,
+        0,
+    ];
+
+    #[test]
+    fn leftovers_of_earlier_calls_are_no_stores() {
+        let mut fast = Fast::new();
+        let robust = fast.judge(&TRACE);
+        assert!(matches!(robust, Ok(Verdict::Robust { events: 4, share: 100, .. })));
+        let without_store = [&TRACE[..10], &TRACE[24..]].concat();
+        assert_eq!(fast.judge(&without_store), Err(Refusal { number: 9, event: 2 }));
+        assert_eq!(fast.judge(&TRACE), robust);
+    }
+
+    #[test]
+    fn the_number_of_the_call_wraps_around() {
+        let mut fast = Fast::new();
+        let robust = fast.judge(&TRACE);
+        fast.call = u32::MAX - 1;
+        for _ in 0..4 {
+            assert_eq!(fast.judge(&TRACE), robust);
+        }
+        assert_eq!(fast.call, 3);
+    }
+
+    #[test]
+    fn every_kind_but_those_that_there_are_is_unknown() {
+        for kind in 0..=u16::MAX {
+            let [low, high] = kind.to_le_bytes();
+            let record = [2, 0, low, high];
+            let expected = match kind {
+                9 => None,
+                1..=11 => Some(4),
+                _ => Some(3),
+            };
+            assert_eq!(unreadable(&record), expected);
+            assert!(kind == 9 || HEADERS[usize::from(kind & 15)] != u32::from_le_bytes(record));
+        }
+    }
+}

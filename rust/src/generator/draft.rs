@@ -1,0 +1,312 @@
+//! A trace that grows by events which the machine's rules allow.
+
+use super::Random;
+use std::collections::VecDeque;
+
+/// How often each kind of event is drawn, and how crossing loads choose their sources.
+pub struct Settings {
+    pub issue: usize,
+    pub commit: usize,
+    pub load: usize,
+    pub flush: usize,
+    pub fence: usize,
+    pub skip: usize,
+    /// Of 10,000 events, how many are crashes.
+    pub crash: usize,
+    /// The least commits of a stretch that ends in a crash.
+    commits: usize,
+    /// The most loads that follow a crash at once.
+    loads_after_crash: usize,
+    /// What stays of a stretch's stores after a crash, as the loads see it.
+    memory: Memory,
+    /// Of 1,000 crossing loads, how many read anything that the load rule allows.
+    any_source: usize,
+}
+
+/// What stays of a stretch's stores after a crash.
+#[derive(Clone, Copy)]
+enum Memory {
+    /// The first stores in the order of commits: such a trace is robust.
+    InOrder,
+    /// The first stores of each thread.
+    ByThread,
+    /// The first stores of each location: such a trace is often broken.
+    ByLocation,
+}
+
+impl Settings {
+    /// Some settings for a trace of few events.
+    pub fn draw(random: &Random) -> Self {
+        Settings {
+            issue: random.below(6) + 6,
+            commit: random.below(8) + 6,
+            load: random.below(7) + 1,
+            flush: random.below(2),
+            fence: random.below(2),
+            skip: random.pick(&[0, 0, 0, 1, 2]),
+            crash: random.pick(&[1_000, 5_000, 9_000, 9_000]),
+            commits: random.pick(&[0, 2, 4, 4, 5, 5, 5, 6, 6, 6]),
+            loads_after_crash: random.pick(&[8, 24, 32]),
+            memory: random.pick(&[Memory::InOrder, Memory::ByThread, Memory::ByLocation, Memory::ByLocation]),
+            any_source: random.pick(&[0, 300, 600, 1_000]),
+        }
+    }
+
+    /// Some settings for a trace of many events: few crashes, and sources that seldom break the trace early.
+    pub fn draw_large(random: &Random) -> Self {
+        Settings {
+            crash: random.pick(&[10, 30, 50]),
+            memory: random.pick(&[Memory::InOrder, Memory::InOrder, Memory::ByThread]),
+            any_source: random.pick(&[0, 0, 1, 10]),
+            ..Settings::draw(random)
+        }
+    }
+}
+
+/// The trace so far and the state that the rules ask for. Buffers are kept from one trace to the next.
+pub struct Draft {
+    pub bytes: Vec<u8>,
+    /// The number of the last event.
+    pub events: u16,
+    pub threads: u16,
+    pub locations: u16,
+    pub crashes: u16,
+    /// The locations that are used.
+    used: Vec<u16>,
+    /// The waiting stores of each thread with their locations.
+    queues: Vec<VecDeque<(u16, u16)>>,
+    /// Bit t is set while a skip of thread t is on.
+    skips: u16,
+    /// The store committed last in this stretch to each location, or 0.
+    current: Vec<u16>,
+    /// The commits of this stretch: store, location, thread.
+    commits: Vec<(u16, u16, u16)>,
+    /// The stores committed in earlier stretches with their locations.
+    landed: Vec<(u16, u16)>,
+    /// The store that stayed at each location, or 0.
+    memory: Vec<u16>,
+}
+
+impl Draft {
+    /// A draft with empty buffers and no trace.
+    pub fn new() -> Self {
+        Draft {
+            bytes: Vec::new(),
+            events: 0,
+            threads: 0,
+            locations: 0,
+            crashes: 0,
+            used: Vec::new(),
+            queues: (0..9).map(|_| VecDeque::new()).collect(),
+            skips: 0,
+            current: vec![0; 257],
+            commits: Vec::new(),
+            landed: Vec::new(),
+            memory: vec![0; 257],
+        }
+    }
+
+    /// Starts a trace with a begin. Every location is used.
+    pub fn begin(&mut self, threads: u16, locations: u16) {
+        self.bytes.clear();
+        self.put(1, &[1, threads, locations]);
+        self.events = 0;
+        self.threads = threads;
+        self.locations = locations;
+        self.crashes = 0;
+        self.used.clear();
+        self.used.extend(0..locations);
+        self.queues.iter_mut().for_each(VecDeque::clear);
+        self.skips = 0;
+        self.current.fill(0);
+        self.commits.clear();
+        self.landed.clear();
+        self.memory.fill(0);
+    }
+
+    /// Starts a trace of few threads and few used locations.
+    pub fn begin_some(&mut self, random: &Random) {
+        let threads = random.pick(&[1, 1, 1, 2, 2, 2, 2, 3, 3, 4, 8]);
+        let locations = random.pick(&[1, 2, 3, 3, 4, 4, 5, 9, 256]);
+        self.begin(threads, locations);
+        let used = random.pick(&[1, 2, 3, 3, 4, 5]).min(locations);
+        self.use_some(used, random);
+    }
+
+    /// Uses that many locations, which is at most all of them: some that stand evenly apart.
+    pub fn use_some(&mut self, count: u16, random: &Random) {
+        let apart = random.between(1, self.locations / count);
+        let first = random.between(0, self.locations - 1);
+        self.used.clear();
+        self.used.extend((0..count).map(|number| (first + number * apart) % self.locations));
+    }
+
+    /// Uses the last location too.
+    pub fn use_last(&mut self) {
+        self.used.push(self.locations - 1);
+    }
+
+    /// Appends a record.
+    pub fn put(&mut self, kind: u16, fields: &[u16]) {
+        for number in [2 + 2 * fields.len() as u16, kind].iter().chain(fields) {
+            self.bytes.extend_from_slice(&number.to_le_bytes());
+        }
+        self.events += 1;
+    }
+
+    /// Some thread of the trace.
+    pub fn some_thread(&self, random: &Random) -> u16 {
+        random.between(0, self.threads - 1)
+    }
+
+    /// Some location of those in use.
+    pub fn some_location(&self, random: &Random) -> u16 {
+        random.pick(&self.used)
+    }
+
+    /// A thread whose queue is empty, or one whose queue is not.
+    pub fn thread_with_queue(&self, empty: bool, random: &Random) -> Option<u16> {
+        let first = random.between(0, self.threads - 1);
+        let threads = (0..self.threads).map(|step| (first + step) % self.threads);
+        threads.into_iter().find(|&thread| self.queues[usize::from(thread)].is_empty() == empty)
+    }
+
+    /// Appends allowed events up to an event number. Crashes stop at seven.
+    pub fn grow(&mut self, events: u16, settings: &Settings, random: &Random) {
+        while self.events < events {
+            let early = self.commits.len() < settings.commits;
+            if random.below(10_000) >= settings.crash || self.crashes == 7 || early {
+                self.step(settings, random);
+                continue;
+            }
+            self.crash(settings, random);
+            for _ in 0..random.below(settings.loads_after_crash + 1).min((events - self.events).into()) {
+                let (thread, location) = (self.some_thread(random), self.some_location(random));
+                self.load(thread, location, settings, random);
+            }
+        }
+    }
+
+    /// Appends so many allowed events, none of them a crash.
+    pub fn grow_without_crash(&mut self, more: u16, settings: &Settings, random: &Random) {
+        (0..more).for_each(|_| self.step(settings, random));
+    }
+
+    /// Appends an allowed event that is no crash.
+    fn step(&mut self, settings: &Settings, random: &Random) {
+        let weights = [settings.issue, settings.commit, settings.load, settings.flush, settings.fence, settings.skip];
+        let mut drawn = random.below(weights.iter().sum());
+        let mut action = 0;
+        while drawn >= weights[action] {
+            drawn -= weights[action];
+            action += 1;
+        }
+        let thread = self.some_thread(random);
+        let location = self.some_location(random);
+        match action {
+            0 => self.issue(thread, location),
+            1 => match self.thread_with_queue(false, random) {
+                Some(thread) => self.commit(thread),
+                None => self.issue(thread, location),
+            },
+            2 => self.load(thread, location, settings, random),
+            3 => self.put(random.between(5, 6), &[thread, location]),
+            4 if self.queues[usize::from(thread)].is_empty() => self.put(random.between(7, 8), &[thread]),
+            4 => self.sfence(thread),
+            _ => self.skip(thread),
+        }
+    }
+
+    /// Issues a store.
+    pub fn issue(&mut self, thread: u16, location: u16) {
+        self.put(2, &[thread, location]);
+        self.queues[usize::from(thread)].push_back((self.events, location));
+    }
+
+    /// Commits the oldest waiting store of a thread that has one.
+    pub fn commit(&mut self, thread: u16) {
+        if let Some((store, location)) = self.queues[usize::from(thread)].pop_front() {
+            self.put(3, &[thread]);
+            self.current[usize::from(location)] = store;
+            self.commits.push((store, location, thread));
+        }
+    }
+
+    /// Fences, which every thread may at any time.
+    pub fn sfence(&mut self, thread: u16) {
+        self.put(7, &[thread]);
+    }
+
+    /// Whether a skip of the thread is on.
+    pub fn skips(&self, thread: u16) -> bool {
+        self.skips >> thread & 1 == 1
+    }
+
+    /// Turns the thread's skip on or off.
+    fn skip(&mut self, thread: u16) {
+        self.put(if self.skips(thread) { 11 } else { 10 }, &[thread]);
+        self.skips ^= 1 << thread;
+    }
+
+    /// Loads from an allowed source.
+    fn load(&mut self, thread: u16, location: u16, settings: &Settings, random: &Random) {
+        let source = match self.named_source(thread, location) {
+            Some(store) => store,
+            None if random.below(1_000) < settings.any_source => self.some_source(location, random),
+            None => self.memory[usize::from(location)],
+        };
+        self.put(4, &[thread, location, source]);
+    }
+
+    /// The only source that a load may have if it is not crossing.
+    fn named_source(&self, thread: u16, location: u16) -> Option<u16> {
+        let waiting = self.queues[usize::from(thread)].iter().rev().find(|(_, place)| *place == location);
+        let current = self.current[usize::from(location)];
+        waiting.map(|(store, _)| *store).or((current != 0).then_some(current))
+    }
+
+    /// 0 or some store to a location that was committed in an earlier stretch.
+    fn some_source(&self, location: u16, random: &Random) -> u16 {
+        let here = || self.landed.iter().filter(|(_, place)| *place == location);
+        let drawn = random.below(here().count() + 1);
+        here().nth(drawn).map_or(0, |(store, _)| *store)
+    }
+
+    /// Whether the load rule allows a source.
+    pub fn allows(&self, thread: u16, location: u16, source: u16) -> bool {
+        match self.named_source(thread, location) {
+            Some(store) => store == source,
+            None => source == 0 || self.landed.contains(&(source, location)),
+        }
+    }
+
+    /// Appends a crash, be it allowed or not.
+    pub fn crash(&mut self, settings: &Settings, random: &Random) {
+        self.put(9, &[]);
+        self.crashes += 1;
+        self.keep(settings.memory, random);
+        self.landed.extend(self.commits.drain(..).map(|(store, location, _)| (store, location)));
+        self.queues.iter_mut().for_each(VecDeque::clear);
+        self.current.fill(0);
+        self.skips = 0;
+    }
+
+    /// Draws what stays of the stretch's stores.
+    fn keep(&mut self, memory: Memory, random: &Random) {
+        let mut points = [0; 9];
+        let all = self.commits.len();
+        for point in &mut points {
+            *point = random.pick(&[0, random.below(all + 1), random.below(all + 1), all]);
+        }
+        for (place, &(store, location, thread)) in self.commits.iter().enumerate() {
+            let point = match memory {
+                Memory::InOrder => points[0],
+                Memory::ByThread => points[usize::from(thread)],
+                Memory::ByLocation => points[usize::from(location) % points.len()],
+            };
+            if place < point {
+                self.memory[usize::from(location)] = store;
+            }
+        }
+    }
+}

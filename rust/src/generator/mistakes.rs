@@ -1,0 +1,203 @@
+//! Traces with a record that some rule turns away, and random records.
+
+use super::draft::{Draft, Settings};
+use super::Random;
+
+/// A trace that is allowed up to a record which breaks a drawn rule, and perhaps others besides. Records may follow.
+pub fn near_miss(draft: &mut Draft, random: &Random) {
+    let settings = Settings::draw(random);
+    let rule = random.between(1, 13);
+    match rule {
+        1 => return no_begin(draft, random),
+        6 => return bad_begin(draft, random),
+        _ => draft.begin_some(random),
+    }
+    let before = random.between(0, 30);
+    draft.grow(before, &settings, random);
+    let start = make_mistake(draft, rule, &settings, random);
+    if random.once_in(4) {
+        spoil(&mut draft.bytes, start, random);
+    }
+    if random.once_in(2) {
+        let more = random.between(1, 10);
+        draft.grow_without_crash(more, &settings, random);
+    }
+}
+
+/// No bytes, or a first record that is no begin.
+fn no_begin(draft: &mut Draft, random: &Random) {
+    draft.begin(1, 2);
+    draft.bytes.clear();
+    if random.once_in(4) {
+        return;
+    }
+    any_record(draft, random);
+    if random.once_in(4) {
+        spoil(&mut draft.bytes, 0, random);
+    }
+    (0..random.below(5)).for_each(|_| any_record(draft, random));
+}
+
+/// A begin with a field out of range, followed by some records.
+fn bad_begin(draft: &mut Draft, random: &Random) {
+    draft.begin(1, 2);
+    draft.bytes.clear();
+    let mut fields = [1, random.between(1, 8), random.between(1, 256)];
+    let place = random.below(3);
+    fields[place] = random.pick(&[0, [2, 9, 257][place], random.between(258, u16::MAX), u16::MAX]);
+    draft.put(1, &fields);
+    if random.once_in(8) {
+        spoil(&mut draft.bytes, 0, random);
+    }
+    (0..random.below(5)).for_each(|_| any_record(draft, random));
+}
+
+/// Appends the record that breaks a rule, behind those that it needs before it. Gives its position.
+pub fn make_mistake(draft: &mut Draft, rule: u16, settings: &Settings, random: &Random) -> usize {
+    prepare(draft, rule, settings, random);
+    let start = draft.bytes.len();
+    match rule {
+        2 => cut_short(draft, random),
+        3 => unknown_kind(draft, random),
+        4 => wrong_length(draft, random),
+        5 => draft.put(1, &[random.between(0, 2), random.between(0, 9), random.between(0, 300)]),
+        7 => wrong_thread(draft, random),
+        8 => wrong_location(draft, random),
+        9 => wrong_source(draft, random),
+        10 => draft.put(3, &[draft.thread_with_queue(true, random).unwrap_or(0)]),
+        11 => draft.put(8, &[draft.thread_with_queue(false, random).unwrap_or(0)]),
+        12 => {
+            let thread = draft.some_thread(random);
+            draft.put(if draft.skips(thread) { 10 } else { 11 }, &[thread]);
+        }
+        _ if draft.events >= 2_048 => any_record(draft, random),
+        _ => draft.put(9, &[]),
+    }
+    start
+}
+
+/// Appends the records that a mistake needs before it.
+fn prepare(draft: &mut Draft, rule: u16, settings: &Settings, random: &Random) {
+    match rule {
+        10 => prepare_empty_queue(draft, settings, random),
+        11 => {
+            let (thread, location) = (draft.some_thread(random), draft.some_location(random));
+            draft.issue(thread, location);
+        }
+        13 if random.once_in(200) => (draft.events..2_048).for_each(|_| draft.sfence(0)),
+        13 => (draft.crashes..7).for_each(|_| draft.crash(settings, random)),
+        _ => {}
+    }
+}
+
+/// Sees to it that a thread has an empty queue: by commits, or by a crash that drops what waits.
+fn prepare_empty_queue(draft: &mut Draft, settings: &Settings, random: &Random) {
+    if draft.crashes < 7 && random.once_in(2) {
+        draft.crash(settings, random);
+    }
+    while draft.thread_with_queue(true, random).is_none() {
+        draft.commit(0);
+    }
+}
+
+/// Appends a record whose bytes end early.
+fn cut_short(draft: &mut Draft, random: &Random) {
+    let start = draft.bytes.len();
+    any_record(draft, random);
+    let size = draft.bytes.len() - start;
+    draft.bytes.truncate(start + 1 + random.below(size - 1));
+}
+
+/// Appends a record of an unknown kind, with any length.
+fn unknown_kind(draft: &mut Draft, random: &Random) {
+    let kind = random.pick(&[0, 12, 99, 256 + 9, u16::MAX, random.between(12, u16::MAX)]);
+    let length = random.pick(&[2, 4, 6, 8, random.between(2, 20)]);
+    framed(draft, length, kind, random);
+}
+
+/// Appends a record with a length under 2 or one that is wrong for its kind.
+fn wrong_length(draft: &mut Draft, random: &Random) {
+    if random.once_in(3) {
+        draft.bytes.extend_from_slice(&[random.below(2) as u8, 0]);
+        (0..random.below(4)).for_each(|_| draft.bytes.push(random.below(12) as u8));
+    } else {
+        let length = random.pick(&[2, 3, 4, 5, 6, 7, 8, 9, 10, random.between(2, 40)]);
+        framed(draft, length, random.between(1, 11), random);
+    }
+}
+
+/// Appends the bytes of a record with a length and a kind; its fields are small random numbers.
+fn framed(draft: &mut Draft, length: u16, kind: u16, random: &Random) {
+    draft.bytes.extend_from_slice(&length.to_le_bytes());
+    draft.bytes.extend_from_slice(&kind.to_le_bytes());
+    for place in 2..length {
+        draft.bytes.push(if place % 2 == 0 { random.below(3) as u8 } else { 0 });
+    }
+    draft.events += 1;
+}
+
+/// Appends a load whose source the load rule does not allow, if one is found in a few draws.
+fn wrong_source(draft: &mut Draft, random: &Random) {
+    let (mut thread, mut location, mut source) = (0, 0, 0);
+    for _ in 0..8 {
+        thread = draft.some_thread(random);
+        location = draft.some_location(random);
+        source = random.pick(&[0, random.between(0, draft.events), draft.events + 1, u16::MAX, 4_096]);
+        if !draft.allows(thread, location, source) {
+            break;
+        }
+    }
+    draft.put(4, &[thread, location, source]);
+}
+
+/// Appends a record of some kind that has a thread, with a thread that there is not; the location may be wrong too.
+fn wrong_thread(draft: &mut Draft, random: &Random) {
+    let thread = random.pick(&[draft.threads, draft.threads + 1, 8, 9, 256, u16::MAX]).max(draft.threads);
+    let location = if random.once_in(2) { draft.locations } else { draft.some_location(random) };
+    let kind = random.pick(&[2, 3, 4, 5, 6, 7, 8, 10, 11]);
+    put_located(draft, kind, thread, location, random.between(0, draft.events + 1));
+}
+
+/// Appends a record of some kind that has a location, with a location that there is not.
+fn wrong_location(draft: &mut Draft, random: &Random) {
+    let location = random.pick(&[draft.locations, draft.locations + 1, 256, 257, u16::MAX]).max(draft.locations);
+    let (thread, source) = (draft.some_thread(random), random.between(0, draft.events + 1));
+    put_located(draft, random.pick(&[2, 4, 5, 6]), thread, location, source);
+}
+
+/// Appends a record of any kind, with the fields that it has.
+fn put_located(draft: &mut Draft, kind: u16, thread: u16, location: u16, source: u16) {
+    let fields = [thread, location, source];
+    let count = [0, 3, 2, 1, 3, 2, 2, 1, 1, 0, 1, 1][usize::from(kind)];
+    draft.put(kind, &fields[..count]);
+}
+
+/// Appends a record of any kind but a begin with any small fields. The machine may turn it away.
+fn any_record(draft: &mut Draft, random: &Random) {
+    let kind = random.between(2, 11);
+    let (thread, location) = (random.between(0, draft.threads), random.between(0, draft.locations));
+    let source = random.between(0, draft.events.min(40) + 1);
+    put_located(draft, kind, thread, location, source);
+}
+
+/// Changes the record at a position: cuts the trace inside it, or gives it another length or kind.
+fn spoil(bytes: &mut Vec<u8>, start: usize, random: &Random) {
+    let size = bytes.len() - start;
+    if size < 4 {
+        return;
+    }
+    match random.below(3) {
+        0 => bytes.truncate(start + 1 + random.below(size - 1)),
+        1 => bytes[start] = random.between(0, 10) as u8,
+        _ => bytes[start + 2] = random.between(0, 13) as u8,
+    }
+}
+
+/// A begin and records of any kinds with small fields.
+pub fn random_records(draft: &mut Draft, random: &Random) {
+    let (threads, locations) = (random.between(1, 3), random.between(1, 3));
+    draft.begin(threads, locations);
+    for _ in 0..random.below(20) {
+        any_record(draft, random);
+    }
+}

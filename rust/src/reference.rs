@@ -1,0 +1,172 @@
+//! A judge that is independent of the library: each function states a sentence of document 01, quoted in its comment.
+//!
+//! Queues are queues, happens-before is a search in a graph, and the least choice is what the observed stores and all
+//! stores before them need. [`judge_by_all_choices`] answers the same question by trying every choice. Nothing here is
+//! shared with the wrapper but the types of the answers.
+
+mod choice;
+mod machine;
+mod order;
+mod records;
+
+use crate::types::{Kind, Order, Refusal, Verdict, CUT};
+use choice::{all_choices, demand_of, Demand, Explanation};
+use machine::{Machine, Store};
+use order::Precedence;
+
+pub use records::{frame, read_at, write};
+
+/// "at most 2,048"
+const EVENTS: u16 = 2_048;
+
+/// An accepted trace: what the machine saw, and which stores happen directly before which.
+pub struct Accepted {
+    machine: Machine,
+    precedence: Precedence,
+    events: u16,
+}
+
+/// "A trace is accepted if no refusal over its records (1 to 13 here) applies."
+///
+/// # Errors
+///
+/// The refusal with its event number.
+pub fn accept(trace: &[u8]) -> Result<Accepted, Refusal> {
+    let mut machine = Machine::new();
+    let (mut at, mut event) = (0, 0);
+    while at < trace.len() || event == 0 {
+        let refused = |number| Refusal { number, event };
+        let (record, next) = read_at(trace, at).map_err(|refusal| refused(refusal.number))?;
+        machine.step(event, &record).map_err(refused)?;
+        at = next;
+        event += 1;
+    }
+    let precedence = Precedence::new(&machine);
+    Ok(Accepted { machine, precedence, events: event - 1 })
+}
+
+/// The verdict on a trace. The least choice is taken as what the observed stores and all stores before them need.
+///
+/// # Errors
+///
+/// The refusal (1 to 13) if the trace is not accepted.
+pub fn judge(trace: &[u8]) -> Result<Verdict, Refusal> {
+    Ok(accept(trace)?.verdict())
+}
+
+/// "The order query takes a trace, a work area and two event numbers: before, after, same, neither."
+///
+/// # Errors
+///
+/// The refusal (1 to 13) if the trace is not accepted, "then 16": "query number is no issue".
+pub fn order(trace: &[u8], first: u16, second: u16) -> Result<Order, Refusal> {
+    accept(trace)?.order(first, second)
+}
+
+/// The verdict on a trace, found by trying every choice on the trace and, if there is none, on the records 0 to e for
+/// each e. Gives `None` if the trace has more than `limit` choices.
+#[must_use]
+pub fn judge_by_all_choices(trace: &[u8], limit: usize) -> Option<Result<Verdict, Refusal>> {
+    let whole = match accept(trace) {
+        Err(refusal) => return Some(Err(refusal)),
+        Ok(accepted) => accepted,
+    };
+    if choice::count(&whole.machine, limit) > limit {
+        return None;
+    }
+    Some(Ok(match whole.least_by_all_choices() {
+        Some(cut) => whole.robust(cut),
+        None => whole.broken_by_prefixes(trace),
+    }))
+}
+
+impl Accepted {
+    /// "Robust: a closed choice explains all counted loads." "Broken: no closed choice does. Load is the smallest event
+    /// number for which records 0 to load, taken as a trace, have none either." So counted loads are added one by one,
+    /// until a store that must be in is forbidden.
+    #[must_use]
+    pub fn verdict(&self) -> Verdict {
+        let mut explanation = Explanation::new(&self.machine);
+        for load in self.machine.loads.iter().filter(|load| load.counted) {
+            explanation.add(&demand_of(&self.machine, load), &self.precedence);
+            if explanation.fails() {
+                return self.broken(load.event, &explanation.observed, &explanation.forbidden, self.events);
+            }
+        }
+        self.robust(explanation.counts(&self.machine))
+    }
+
+    /// "two event numbers: before, after, same, neither"
+    ///
+    /// # Errors
+    ///
+    /// 16, "query number is no issue"; "14, 15, 16 and 17 carry 0".
+    pub fn order(&self, first: u16, second: u16) -> Result<Order, Refusal> {
+        let store = |event| self.machine.store_of(event).ok_or(Refusal { number: 16, event: 0 });
+        let (first, second) = (store(first)?, store(second)?);
+        Ok(if first == second {
+            Order::Same
+        } else if self.precedence.before(first, second) {
+            Order::Before
+        } else if self.precedence.before(second, first) {
+            Order::After
+        } else {
+            Order::Neither
+        })
+    }
+
+    /// "Share: the percentage of stores committed in finished stretches that are in the least choice, rounded down; 100
+    /// if there are none."
+    fn robust(&self, cut: [u16; CUT]) -> Verdict {
+        let finished = |store: &&Store| store.commit.is_some() && store.stretch < self.machine.stretch;
+        let committed = self.machine.stores.iter().filter(finished).count();
+        let inside: usize = cut.iter().map(|&count| usize::from(count)).sum();
+        let share = (100 * inside).checked_div(committed).unwrap_or(100);
+        Verdict::Robust { events: self.events, share: share.try_into().expect("at most 100"), cut }
+    }
+
+    /// "Missing is a store that some counted load of those records forbids, observed one that some counted load there
+    /// observes, and they are equal or missing happens before observed; of all such pairs, the smallest missing, then
+    /// the smallest observed event number. Kind is "contradiction" if they are equal, else "flush"."
+    fn broken(&self, load: u16, observed: &[bool], forbidden: &[bool], events: u16) -> Verdict {
+        let stores = 0..self.machine.stores.len();
+        let before: Vec<Option<Vec<bool>>> =
+            stores.clone().map(|store| observed[store].then(|| self.precedence.all_before(store))).collect();
+        for p in stores.clone().filter(|&store| forbidden[store]) {
+            for (q, earlier) in before.iter().enumerate() {
+                if earlier.as_ref().is_some_and(|earlier| p == q || earlier[p]) {
+                    let kind = if p == q { Kind::Contradiction } else { Kind::Flush };
+                    let [missing, observed] = [p, q].map(|store| self.machine.stores[store].event);
+                    return Verdict::Broken { events, load, missing, observed, kind };
+                }
+            }
+        }
+        panic!("no pair of a forbidden and an observed store, though the trace is broken");
+    }
+
+    /// What each counted load observes and forbids.
+    fn demands(&self) -> Vec<Demand> {
+        self.machine.loads.iter().filter(|load| load.counted).map(|load| demand_of(&self.machine, load)).collect()
+    }
+
+    /// "The least (every other such choice has at least its count at every place)" of the closed choices that explain
+    /// all counted loads, if there is one.
+    fn least_by_all_choices(&self) -> Option<[u16; CUT]> {
+        all_choices(&self.machine, &self.precedence, &self.demands())
+    }
+
+    /// "Load is the smallest event number for which records 0 to load, taken as a trace, have none either."
+    fn broken_by_prefixes(&self, trace: &[u8]) -> Verdict {
+        let mut end = 0;
+        for load in 0..=self.events {
+            end += frame(trace, load.into()).expect("a record of an accepted trace").len();
+            let prefix = accept(&trace[..end]).expect("records 0 to load of an accepted trace");
+            if prefix.least_by_all_choices().is_none() {
+                let mut sets = Explanation::new(&prefix.machine);
+                prefix.demands().iter().for_each(|demand| sets.mark(demand));
+                return prefix.broken(load, &sets.observed, &sets.forbidden, self.events);
+            }
+        }
+        panic!("the whole trace has no choice, and yet each of its prefixes has one");
+    }
+}

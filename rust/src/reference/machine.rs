@@ -1,0 +1,208 @@
+//! The machine: which records are accepted, and what is known of the stores and loads of those that are.
+
+use super::EVENTS;
+use crate::types::Event;
+use std::collections::VecDeque;
+
+/// "A store is named by its issue's event number."
+pub struct Store {
+    pub event: u16,
+    pub thread: u16,
+    pub location: u16,
+    pub stretch: u16,
+    /// Its place in "the order of commits", over all stretches; `None` if it waits or was dropped.
+    pub commit: Option<usize>,
+}
+
+/// A load that the machine accepted.
+pub struct Load {
+    pub event: u16,
+    pub thread: u16,
+    pub location: u16,
+    pub source: u16,
+    pub stretch: u16,
+    /// "A crossing load in a skip is checked but not counted; all other crossing loads count."
+    pub counted: bool,
+}
+
+/// The state of the machine and what it has seen. Stores stand in the order of their event numbers, and so do loads.
+pub struct Machine {
+    pub threads: u16,
+    locations: u16,
+    /// "A stretch is the part between crashes, numbered from 1"
+    pub stretch: u16,
+    queues: Vec<VecDeque<usize>>,
+    skips: Vec<bool>,
+    commits: usize,
+    pub stores: Vec<Store>,
+    pub loads: Vec<Load>,
+}
+
+impl Machine {
+    /// "The trace starts with empty queues, no skips and no commits."
+    pub fn new() -> Self {
+        Machine {
+            threads: 0,
+            locations: 0,
+            stretch: 1,
+            queues: Vec::new(),
+            skips: Vec::new(),
+            commits: 0,
+            stores: Vec::new(),
+            loads: Vec::new(),
+        }
+    }
+
+    /// The number of the store that an event issued.
+    pub fn store_of(&self, event: u16) -> Option<usize> {
+        self.stores.binary_search_by_key(&event, |store| store.event).ok()
+    }
+
+    /// Takes the record with an event number, or gives the refusal: "1, 5, 13, 6, 7, 8, and the kind's own rule".
+    pub fn step(&mut self, number: u16, event: &Event) -> Result<(), u16> {
+        self.general(number, event)?;
+        match *event {
+            Event::Begin { threads, locations, .. } => self.begin(threads, locations),
+            Event::Issue { thread, location } => self.issue(number, thread, location),
+            Event::Commit { thread } => self.commit(thread)?,
+            Event::Load { thread, location, source } => self.load(number, thread, location, source)?,
+            Event::Clflush { .. } | Event::Clwb { .. } | Event::Sfence { .. } => {}
+            Event::Mfence { thread } => self.mfence(thread)?,
+            Event::Crash => self.crash(),
+            Event::SkipOn { thread } => self.skip(thread, true)?,
+            Event::SkipOff { thread } => self.skip(thread, false)?,
+        }
+        Ok(())
+    }
+
+    /// The refusals that do not belong to one kind alone, in their order: "1, 5, 13, 6, 7, 8".
+    fn general(&self, number: u16, event: &Event) -> Result<(), u16> {
+        let begin = matches!(event, Event::Begin { .. });
+        let (thread, location) = places_of(event);
+        let conditions = [
+            (1, number == 0 && !begin),
+            (5, number > 0 && begin),
+            (13, number > EVENTS || *event == Event::Crash && self.stretch == 8),
+            (6, begin && !in_range(event)),
+            (7, thread.is_some_and(|thread| thread >= self.threads)),
+            (8, location.is_some_and(|location| location >= self.locations)),
+        ];
+        match conditions.iter().find(|(_, holds)| *holds) {
+            Some((refusal, _)) => Err(*refusal),
+            None => Ok(()),
+        }
+    }
+
+    /// "begin | version (1), threads n, locations m"
+    fn begin(&mut self, threads: u16, locations: u16) {
+        self.threads = threads;
+        self.locations = locations;
+        self.queues = (0..threads).map(|_| VecDeque::new()).collect();
+        self.skips = vec![false; threads.into()];
+    }
+
+    /// "Issue: the store joins its thread's queue."
+    fn issue(&mut self, event: u16, thread: u16, location: u16) {
+        self.queues[usize::from(thread)].push_back(self.stores.len());
+        self.stores.push(Store { event, thread, location, stretch: self.stretch, commit: None });
+    }
+
+    /// "Commit: the oldest waiting store of the thread takes effect; the order of commits is the stretch's store
+    /// order." Refusal 10: "commit, empty queue".
+    fn commit(&mut self, thread: u16) -> Result<(), u16> {
+        let store = self.queues[usize::from(thread)].pop_front().ok_or(10_u16)?;
+        self.stores[store].commit = Some(self.commits);
+        self.commits += 1;
+        Ok(())
+    }
+
+    /// "Load: if the thread has waiting stores to the location, the source is the newest. Otherwise, if the stretch has
+    /// commits to it, the last one committed. Otherwise the load is *crossing*, and the source is 0 or a store to that
+    /// location committed in an earlier stretch." Refusal 9: "source against the load rule".
+    fn load(&mut self, event: u16, thread: u16, location: u16, source: u16) -> Result<(), u16> {
+        let named = self.newest_waiting(thread, location).or_else(|| self.last_committed(location));
+        let allowed = match named {
+            Some(store) => self.stores[store].event == source,
+            None => source == 0 || self.landed(location, source),
+        };
+        if !allowed {
+            return Err(9);
+        }
+        let counted = named.is_none() && !self.skips[usize::from(thread)];
+        self.loads.push(Load { event, thread, location, source, stretch: self.stretch, counted });
+        Ok(())
+    }
+
+    /// "if the thread has waiting stores to the location, the source is the newest"
+    fn newest_waiting(&self, thread: u16, location: u16) -> Option<usize> {
+        let queue = &self.queues[usize::from(thread)];
+        queue.iter().rev().copied().find(|&store| self.stores[store].location == location)
+    }
+
+    /// "if the stretch has commits to it, the last one committed"
+    fn last_committed(&self, location: u16) -> Option<usize> {
+        let here = |store: &&Store| store.stretch == self.stretch && store.location == location;
+        let last = self.stores.iter().filter(here).filter(|store| store.commit.is_some()).max_by_key(|s| s.commit)?;
+        self.store_of(last.event)
+    }
+
+    /// "a store to that location committed in an earlier stretch"
+    fn landed(&self, location: u16, source: u16) -> bool {
+        self.store_of(source).is_some_and(|store| {
+            let store = &self.stores[store];
+            store.location == location && store.commit.is_some() && store.stretch < self.stretch
+        })
+    }
+
+    /// "mfence needs an empty queue." Refusal 11: "mfence, queue not empty".
+    fn mfence(&self, thread: u16) -> Result<(), u16> {
+        if self.queues[usize::from(thread)].is_empty() {
+            Ok(())
+        } else {
+            Err(11)
+        }
+    }
+
+    /// "a crash finishes it, drops waiting stores, ends skips and starts counts afresh"
+    fn crash(&mut self) {
+        self.stretch += 1;
+        self.queues.iter_mut().for_each(VecDeque::clear);
+        self.skips.fill(false);
+    }
+
+    /// "A skip [...] is on or off per thread." Refusal 12: "skip already on, or already off".
+    fn skip(&mut self, thread: u16, on: bool) -> Result<(), u16> {
+        let skip = &mut self.skips[usize::from(thread)];
+        if *skip == on {
+            return Err(12);
+        }
+        *skip = on;
+        Ok(())
+    }
+}
+
+/// "version (1), threads n, locations m", "Threads: 1 to 8", "Locations: 1 to 256": refusal 6 otherwise.
+fn in_range(begin: &Event) -> bool {
+    match *begin {
+        Event::Begin { version, threads, locations } => {
+            version == 1 && (1..=8).contains(&threads) && (1..=256).contains(&locations)
+        }
+        _ => false,
+    }
+}
+
+/// The thread and the location of an event, of the kinds that have one.
+fn places_of(event: &Event) -> (Option<u16>, Option<u16>) {
+    match *event {
+        Event::Issue { thread, location }
+        | Event::Load { thread, location, .. }
+        | Event::Clflush { thread, location }
+        | Event::Clwb { thread, location } => (Some(thread), Some(location)),
+        Event::Commit { thread }
+        | Event::Sfence { thread }
+        | Event::Mfence { thread }
+        | Event::SkipOn { thread }
+        | Event::SkipOff { thread } => (Some(thread), None),
+        Event::Begin { .. } | Event::Crash => (None, None),
+    }
+}

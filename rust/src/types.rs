@@ -1,0 +1,139 @@
+//! The plain data types that the wrapper and the judges written in Rust have in common.
+
+/// The least number of two-byte numbers of a work area.
+pub const WORK: usize = 32_768;
+
+/// The number of two-byte numbers of a cut buffer.
+pub const CUT: usize = 56;
+
+/// The number of bytes of the largest record, its length bytes included.
+pub const LARGEST_RECORD: usize = 10;
+
+/// What the judge says of an accepted trace.
+#[derive(Clone, Copy, Debug, PartialEq, Eq)]
+pub enum Verdict {
+    /// A closed choice of crash points explains all counted loads.
+    Robust {
+        /// The number of events after the begin.
+        events: u16,
+        /// The percentage of the stores committed in finished stretches that are in the least choice, rounded down.
+        share: u16,
+        /// The least choice: the count of stretch j (from 1), thread t (from 0) stands at 8 * (j - 1) + t.
+        cut: [u16; CUT],
+    },
+    /// No closed choice of crash points explains all counted loads.
+    Broken {
+        /// The number of events after the begin.
+        events: u16,
+        /// The smallest event number for which the records up to it have no such choice either.
+        load: u16,
+        /// The event number of the smallest store that a counted load forbids and that must be in.
+        missing: u16,
+        /// The event number of the smallest store that a counted load observes and that `missing` is or happens before.
+        observed: u16,
+        /// Whether the two stores are one.
+        kind: Kind,
+    },
+}
+
+/// The two kinds of broken traces.
+#[derive(Clone, Copy, Debug, PartialEq, Eq)]
+pub enum Kind {
+    /// One store is forbidden and observed.
+    Contradiction,
+    /// The forbidden store happens before the observed one.
+    Flush,
+}
+
+/// Why a trace, a call or a record is turned away.
+#[derive(Clone, Copy, Debug, PartialEq, Eq)]
+pub struct Refusal {
+    /// The number of the refusal, 1 to 17.
+    pub number: u16,
+    /// The number of the event that is turned away; 0 for the refusals 14 to 17.
+    pub event: u16,
+}
+
+/// How the first of two stores stands to the second by happens-before.
+#[derive(Clone, Copy, Debug, PartialEq, Eq)]
+pub enum Order {
+    /// The first happens before the second.
+    Before,
+    /// The second happens before the first.
+    After,
+    /// The two are one store.
+    Same,
+    /// Neither happens before the other.
+    Neither,
+}
+
+/// One record of a trace.
+#[derive(Clone, Copy, Debug, PartialEq, Eq)]
+pub enum Event {
+    /// Kind 1, the first record of a trace.
+    Begin {
+        /// The version of the format, 1.
+        version: u16,
+        /// The number of threads.
+        threads: u16,
+        /// The number of locations.
+        locations: u16,
+    },
+    /// Kind 2: a store joins the queue of its thread.
+    Issue {
+        /// The thread that issues.
+        thread: u16,
+        /// The location that is stored to.
+        location: u16,
+    },
+    /// Kind 3: the oldest waiting store of the thread takes effect.
+    Commit {
+        /// The thread whose store it is.
+        thread: u16,
+    },
+    /// Kind 4: a load that read what a store, or the time before the trace, has left.
+    Load {
+        /// The thread that loads.
+        thread: u16,
+        /// The location that is loaded.
+        location: u16,
+        /// The event number of the issue of the store that was read, or 0.
+        source: u16,
+    },
+    /// Kind 5: a clflush.
+    Clflush {
+        /// The thread that flushes.
+        thread: u16,
+        /// The location that is flushed.
+        location: u16,
+    },
+    /// Kind 6: a clflushopt or a clwb.
+    Clwb {
+        /// The thread that flushes.
+        thread: u16,
+        /// The location that is flushed.
+        location: u16,
+    },
+    /// Kind 7: an sfence.
+    Sfence {
+        /// The thread that fences.
+        thread: u16,
+    },
+    /// Kind 8: an mfence.
+    Mfence {
+        /// The thread that fences.
+        thread: u16,
+    },
+    /// Kind 9: a crash of all threads.
+    Crash,
+    /// Kind 10: from here on crossing loads of the thread are not counted.
+    SkipOn {
+        /// The thread that skips.
+        thread: u16,
+    },
+    /// Kind 11: from here on crossing loads of the thread are counted again.
+    SkipOff {
+        /// The thread that skips no more.
+        thread: u16,
+    },
+}

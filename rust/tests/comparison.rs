@@ -1,0 +1,79 @@
+//! What the generator reaches, and a short comparison.
+
+use gorbuzte::comparison::Comparison;
+use gorbuzte::generator::{Family, Generator, Random, FAMILIES};
+use gorbuzte::{Judge, Kind, Refusal, Verdict};
+use std::collections::BTreeSet;
+
+const SEED: u64 = 2_026;
+const TRACES: u64 = 4_000;
+
+#[test]
+fn the_judges_agree() {
+    let (mut generator, mut comparison) = (Generator::new(), Comparison::new());
+    for number in 0..TRACES {
+        let (trace, family) = generator.trace(SEED, number);
+        if let Err(difference) = comparison.check(trace, &Random::new(!SEED, number)) {
+            panic!("trace {number} of seed {SEED} ({family:?}): {difference}");
+        }
+    }
+    let counts = &comparison.counts;
+    assert_eq!(counts.traces, TRACES);
+    assert!(counts.robust > TRACES / 5 && counts.contradiction + counts.flush > TRACES / 5);
+    assert!(counts.robust_with_stores > TRACES / 20 && counts.contradiction > 0 && counts.flush > 0);
+    assert!(counts.refused[1..].iter().all(|&number| number > 0), "{:?}", counts.refused);
+    assert!(counts.all_choices > TRACES / 5 && counts.all_choices_broken > 0);
+    assert!(counts.all_pairs > 0 && counts.queries > 0 && counts.wrong_buffers > 0 && counts.records > 0);
+}
+
+#[test]
+fn a_trace_depends_on_seed_and_number_only() {
+    let mut kept = Generator::new();
+    for number in (0..500).rev() {
+        let trace = kept.trace(SEED, number).0.to_vec();
+        assert_eq!(trace, Generator::new().trace(SEED, number).0);
+    }
+    assert_ne!(kept.trace(1, 0).0.to_vec(), kept.trace(2, 0).0);
+}
+
+#[test]
+fn accepted_families_are_accepted_and_both_verdicts_are_common() {
+    let (mut generator, mut judge) = (Generator::new(), Judge::new());
+    let (mut robust, mut broken) = (0, 0);
+    for number in 0..TRACES {
+        let (trace, family) = generator.trace(SEED, number);
+        if matches!(family, Family::Small | Family::Large) {
+            match judge.judge(trace).expect("accepted") {
+                Verdict::Robust { .. } => robust += 1,
+                Verdict::Broken { .. } => broken += 1,
+            }
+        }
+    }
+    assert!(3 * broken > robust && 3 * robust > broken, "{robust} robust, {broken} broken");
+}
+
+#[test]
+fn limits_are_met_from_both_sides() {
+    let (mut generator, mut judge) = (Generator::new(), Judge::new());
+    let (mut families, mut refusals) = (BTreeSet::new(), BTreeSet::new());
+    let (mut most_events, mut most_stretches, mut kinds) = (0, 0, BTreeSet::new());
+    for number in 0..20_000 {
+        let (trace, family) = generator.trace(SEED, number);
+        families.insert(family as usize);
+        match judge.judge(trace) {
+            Err(Refusal { number, event }) => drop(refusals.insert((number, event == 2_049))),
+            Ok(Verdict::Robust { events, cut, .. }) => {
+                most_events = most_events.max(events);
+                most_stretches =
+                    most_stretches.max(cut.iter().rposition(|&count| count > 0).map_or(0, |at| at / 8 + 1));
+            }
+            Ok(Verdict::Broken { events, kind, .. }) => {
+                most_events = most_events.max(events);
+                kinds.insert(kind == Kind::Flush);
+            }
+        }
+    }
+    assert_eq!(families.len(), FAMILIES.len());
+    assert_eq!((most_events, most_stretches, kinds.len()), (2_048, 7, 2));
+    assert!(refusals.contains(&(13, true)) && refusals.contains(&(13, false)), "{refusals:?}");
+}

@@ -1,0 +1,163 @@
+//! The calls of the wrapper: buffers of any size, the record layer, and one judge for many traces.
+
+mod common;
+
+use common::{lines, session};
+use gorbuzte::{ffi, frame, judge, judge_with, order, order_with, read_at, write};
+use gorbuzte::{Event, Judge, Order, Refusal, Verdict, CUT, LARGEST_RECORD, WORK};
+
+const ROBUST: &str = "B1.2.2 I0.0 C0 I1.1 C1 X L0.0<0 L0.1<3";
+const BROKEN: &str = "B1.1.2 I0.0 C0 X L0.0<1 L0.0<0";
+const REFUSED: &str = "B1.1.2 I0.0 X L0.0<1";
+
+fn refused<T>(number: u16, event: u16) -> Result<T, Refusal> {
+    Err(Refusal { number, event })
+}
+
+#[test]
+fn a_robust_answer_fills_the_cut_buffer() {
+    let (mut work, mut cut) = (vec![7; WORK + 3], [7; CUT]);
+    let mut expected = [0; CUT];
+    expected[1] = 1;
+    let answer = judge_with(&session(ROBUST), &mut work, &mut cut);
+    assert_eq!(answer, Ok(Verdict::Robust { events: 7, share: 50, cut: expected }));
+    assert_eq!(cut, expected);
+    assert!(work[..WORK].iter().all(|&number| number == 0));
+    assert_eq!(work[WORK..], [7, 7, 7]);
+}
+
+#[test]
+fn other_answers_leave_the_cut_buffer() {
+    for text in [BROKEN, REFUSED, ""] {
+        let (mut work, mut cut) = (vec![7; WORK + 3], [7; CUT]);
+        let trace = session(text);
+        assert_eq!(judge_with(&trace, &mut work, &mut cut), judge(&trace));
+        assert_eq!(cut, [7; CUT], "{text}");
+        assert!(work[..WORK].iter().all(|&number| number == 0), "{text}");
+        assert_eq!(work[WORK..], [7, 7, 7], "{text}");
+    }
+}
+
+#[test]
+fn refusals_14_and_15_touch_nothing() {
+    let sizes = [
+        (WORK - 1, CUT, 14),
+        (0, CUT, 14),
+        (WORK - 1, CUT - 1, 14),
+        (0, 0, 14),
+        (WORK, CUT - 1, 15),
+        (WORK, CUT + 1, 15),
+        (WORK + 1, 0, 15),
+    ];
+    for (work_size, cut_size, number) in sizes {
+        for text in [ROBUST, BROKEN, REFUSED, ""] {
+            let (mut work, mut cut) = (vec![7; work_size], vec![7; cut_size]);
+            assert_eq!(judge_with(&session(text), &mut work, &mut cut), refused(number, 0));
+            assert!(work.iter().chain(&cut).all(|&number| number == 7));
+        }
+    }
+}
+
+#[test]
+fn the_order_query_clears_the_work_area() {
+    let trace = session("B1.1.2 I0.0 I0.1");
+    for (first, second, expected) in [(1, 2, Ok(Order::Before)), (0, 1, refused(16, 0)), (1, 3, refused(16, 0))] {
+        let mut work = vec![7; WORK + 3];
+        assert_eq!(order_with(&trace, &mut work, first, second), expected);
+        assert!(work[..WORK].iter().all(|&number| number == 0));
+        assert_eq!(work[WORK..], [7, 7, 7]);
+        let mut small = vec![7; WORK - 1];
+        assert_eq!(order_with(&trace, &mut small, first, second), refused(14, 0));
+        assert!(small.iter().all(|&number| number == 7));
+    }
+}
+
+#[test]
+fn one_judge_serves_many_traces() {
+    let mut kept = Judge::default();
+    for text in [ROBUST, BROKEN, REFUSED, "", BROKEN, ROBUST, "B1.1.1"] {
+        let trace = session(text);
+        assert_eq!(kept.judge(&trace), judge(&trace));
+        assert_eq!(kept.order(&trace, 1, 1), order(&trace, 1, 1));
+    }
+    let trace = session(BROKEN);
+    let expected = "events 5 / verdict broken / load 5 / missing 1 / observed 1 / kind contradiction";
+    assert_eq!(lines(&trace, &kept.judge(&trace)), expected);
+}
+
+#[test]
+fn empty_slices() {
+    assert_eq!(judge(&[]), refused(1, 0));
+    assert_eq!(judge_with(&[], &mut [], &mut []), refused(14, 0));
+    assert_eq!(order_with(&[], &mut [], 0, 0), refused(14, 0));
+    assert_eq!(read_at(&[], 0), refused(1, 0));
+    assert_eq!(frame(&[], 0), None);
+    assert_eq!(write(&Event::Crash, &mut []), refused(17, 0));
+}
+
+#[test]
+fn reading() {
+    let trace = session("B1.2.3 L65535.65535<65535 C0 x0000");
+    let begin = Event::Begin { version: 1, threads: 2, locations: 3 };
+    assert_eq!(read_at(&trace, 0), Ok((begin, 10)));
+    assert_eq!(read_at(&trace, 10), Ok((Event::Load { thread: 65535, location: 65535, source: 65535 }, 20)));
+    assert_eq!(read_at(&trace, 20), Ok((Event::Commit { thread: 0 }, 26)));
+    assert_eq!(read_at(&trace, 26), refused(4, 0));
+    assert_eq!(read_at(&trace, 27), refused(2, 0));
+    for past in [28, 29, usize::MAX] {
+        assert_eq!(read_at(&trace, past), refused(1, 0));
+    }
+    assert_eq!(read_at(&session("x02006300"), 0), refused(3, 0));
+    assert_eq!(read_at(&session("x080001"), 0), refused(2, 0));
+}
+
+#[test]
+fn writing() {
+    let mut output = [0xaa; 6];
+    assert_eq!(write(&Event::Crash, &mut output[..3]), refused(17, 0));
+    assert_eq!(output, [0xaa; 6]);
+    assert_eq!(write(&Event::Crash, &mut output), Ok(4));
+    assert_eq!(output, [2, 0, 9, 0, 0xaa, 0xaa]);
+}
+
+#[test]
+fn each_kind_reads_back() {
+    let words = "B1.2.3 I4.5 C6 L7.8<9 F10.11 O12.13 SF14 MF15 X SKIP16 UNSKIP17";
+    let trace = session(words);
+    let mut at = 0;
+    for number in 0..words.split(' ').count() {
+        let (event, next) = read_at(&trace, at).unwrap();
+        let mut output = [0; LARGEST_RECORD];
+        assert_eq!(write(&event, &mut output), Ok(next - at));
+        assert_eq!(output[..next - at], trace[at..next]);
+        assert_eq!(frame(&trace, number), Some(&trace[at..next]));
+        assert_eq!(write(&event, &mut output[..next - at - 1]), refused(17, 0));
+        at = next;
+    }
+    assert_eq!(at, trace.len());
+}
+
+#[test]
+fn framing() {
+    let trace = session("B1.1.2 C0 X x0300630000 x01");
+    assert_eq!(frame(&trace, 1), Some(&trace[10..16]));
+    assert_eq!(frame(&trace, 3), Some(&trace[20..25]));
+    for past in [4, 5, 100, usize::MAX] {
+        assert_eq!(frame(&trace, past), None);
+    }
+    assert_eq!(frame(&session("x0100 B1.1.2"), 1), None);
+    assert_eq!(frame(&session("x0100 B1.1.2"), 0), None);
+    let ended = session("B1.1.2 x0100");
+    assert_eq!(frame(&ended, 0), Some(&ended[..10]));
+}
+
+#[test]
+fn the_interface_refuses_an_unknown_kind() {
+    for kind in [0, 12, 265, u16::MAX] {
+        let mut record = [0, kind, 1, 2, 3, 4, 5, 6];
+        let mut output = [0xaa; LARGEST_RECORD];
+        assert_eq!(ffi::write(&mut record, &mut output), 0);
+        assert_eq!(record, [3, kind, 1, 2, 3, 4, 5, 6]);
+        assert_eq!(output, [0xaa; LARGEST_RECORD]);
+    }
+}
