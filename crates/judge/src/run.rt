@@ -106,14 +106,16 @@ fn judge_record(trace: &[u8], t: Turn, work: &mut [u16]) -> Turn
     }
 }
 
-// All records, over a cleared work area.
+// All records, over a cleared work area. It is lent on at a constant length, so that the compiler drops the tests of
+// that length from every read and store.
 pub(crate) fn run(trace: &[u8], work: &mut [u16]) -> Turn
     requires { ⌜ now work ≡ replicate 32768 0 ⌝ }
     ensures { λ r. ⌜ Ran (now (trace .entry)) r (now (work .exit)) ⌝ }
 {
+    let size: usize = 32768;
     let mut t = begin(trace);
     while t.refusal == 0 && t.at < trace.len() {
-        t = judge_record(trace, t, work);
+        t = judge_record(trace, t, &mut work[..size]);
     }
     t
 }

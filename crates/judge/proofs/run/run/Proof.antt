@@ -1,24 +1,33 @@
 -- `run` meets its contract: each turn is that of some record (proofs/Records.antt), and less is left after it; where
--- the loop ends, the run does (proofs/Endings.antt).
-use mathlib.Core.Path.{_≡_, refl, _∙_}
-use mathlib.Core.List.{List}
+-- the loop ends, the run does (proofs/Endings.antt). The part of the work area that is lent on is all of it.
+use mathlib.Core.Path.{_≡_, refl, sym, ap, _∙_}
+use mathlib.Core.List.{List, _++_, append-nil}
 use mathlib.Core.Logic.{inl, inr}
 use Prim.Native.Nat.{ℕ, suc}
 use native.Mathlib.Omega.{arith}
 use borrow.Author.Needs.{needs}
 use borrow.Author.Tests.{eq-eqb, ltb-true, ltb-false}
-use lib.ListN.{length}
+use lib.ListN.{length, take, drop, length-replicate}
+use lib.Seq.{take-all, drop-length, length-take-le}
 use Rattle.judge.specs.Runs.{Turned}
 use Rattle.judge.proofs.Records.{left, reached-here, less-left}
 use Rattle.judge.proofs.Endings.{run-ends}
 use Rattle.judge.proofs.run.run.Statement.{statement}
 use Rattle.judge.proofs.run.run.Tie as tie
 
+-- a part of a list that is as long as the list
+all-of : (l : List ℕ) (n : ℕ) → length l ≡ n → take n l ≡ l
+all-of l n size = take-all n l (omega (arith, size))
+
+nothing-behind : (l k : List ℕ) (n : ℕ) → length l ≡ n → k ++ drop n l ≡ k
+nothing-behind l k n size = rw (sym size, drop-length l) (append-nil k)
+
 abbrev Inv-loop : tie.InvT-loop
-Inv-loop trace work₀ t₀ work t = (length work ≡ length work₀) × ((n : ℕ) × Turned trace n t work)
+Inv-loop trace work₀ size t₀ work t =
+    (length work ≡ length work₀) × (length work ≡ 32768) × ((n : ℕ) × Turned trace n t work)
 
 abbrev μ-loop : tie.MeasureT-loop
-μ-loop trace work₀ t₀ work t = left trace t
+μ-loop trace work₀ size t₀ work t = left trace t
 
 begin-requires : tie.Need-begin-requires Inv-loop μ-loop
 begin-requires c κs = search needs
@@ -26,7 +35,17 @@ begin-requires c κs = search needs
 loop-holds : tie.Need-loop-holds Inv-loop μ-loop
 loop-holds c =
     let entry = c .before .before .before in
-    (refl, (1, rw (entry .pre) (c .begin .ensures)))
+    let size = ap length (entry .pre) ∙ length-replicate {A = ℕ} 32768 0 in
+    (refl, size, (1, rw (entry .pre) (c .begin .ensures)))
+
+slice-relend-prefix-judge-record : tie.Need-slice-relend-prefix-judge-record Inv-loop μ-loop
+slice-relend-prefix-judge-record c =
+    omega (arith, c .before .before .before .before .loop .inv .1)
+
+slice-aggregate-judge-record : tie.Need-slice-aggregate-judge-record Inv-loop μ-loop
+slice-aggregate-judge-record c =
+    let here = c .before .before .before .before .before .loop in
+    sym (length-take-le 32768 (here .work) (omega (arith, here .inv .1)))
 
 judge-record-requires : tie.Need-judge-record-requires Inv-loop μ-loop
 judge-record-requires c κs =
@@ -34,8 +53,9 @@ judge-record-requires c κs =
     let at-loop = at-inside .before .before .before .before in
     let here = at-loop .loop in
     let entry = at-loop .before .before .before .before in
-    let reached = here .inv .1 .1 .passes (omega arith) in (
-      reached-here (entry .args .trace .now) (here .inv .1 .0) (here .t) (here .work) reached,
+    let reached = here .inv .2 .1 .passes (omega arith) in (
+      rw (all-of (here .work) 32768 (here .inv .1))
+          (reached-here (entry .args .trace .now) (here .inv .2 .0) (here .t) (here .work) reached),
       ltb-true _ _ (at-inside .if2 .taken),
     )
 
@@ -46,10 +66,10 @@ loop-less c =
     let at-loop = at-inside .before .before .before .before in
     let here = at-loop .loop in
     let bytes : List ℕ = at-loop .before .before .before .before .args .trace .now in
-    let reached = here .inv .1 .1 .passes (omega arith) in
+    let reached = here .inv .2 .1 .passes (omega arith) in
     rw (eq-eqb (here .t .refusal) 0 (omega arith))
     (less-left bytes (here .t .machine .event) (here .t) (here .work)
-    (reached-here bytes (here .inv .1 .0) (here .t) (here .work) reached) (at-record .judge-record .result) _
+    (reached-here bytes (here .inv .2 .0) (here .t) (here .work) reached) (at-record .judge-record .result) _
     (ltb-true _ _ (at-inside .if2 .taken)) (at-record .judge-record .ensures))
 
 loop-again : tie.Need-loop-again Inv-loop μ-loop
@@ -57,7 +77,13 @@ loop-again c =
     let at-record = c .before .before in
     let here = at-record .before .before .before .before .before .before .loop in
     let called = at-record .judge-record in
-    (called .kept .1 .1 .0 ∙ here .inv .0, (suc (here .t .machine .event), called .ensures))
+    let after : List ℕ = called .last .1 .1 .0 in
+    let all = nothing-behind (here .work) after 32768 (here .inv .1) in
+    let size : length after ≡ length (here .work) =
+    called .kept .1 .1 .0 ∙ ap length (all-of (here .work) 32768 (here .inv .1))
+    in
+    rw all
+    (size ∙ here .inv .0, size ∙ here .inv .1, (suc (here .t .machine .event), called .ensures))
 
 same-length : tie.Need-same-length Inv-loop μ-loop
 same-length c = c .before .before .before .before .loop .inv .0
@@ -67,7 +93,7 @@ returns c =
     let at-loop = c .before .before .before .before in
     let here = at-loop .loop in
     let entry = at-loop .before .before .before .before in
-    run-ends (entry .args .trace .now) (here .inv .1 .0) (here .t) (here .work) (here .inv .1 .1)
+    run-ends (entry .args .trace .now) (here .inv .2 .0) (here .t) (here .work) (here .inv .2 .1)
     (inr (ltb-false _ _ (c .if2 .left)))
 
 same-length-2 : tie.Need-same-length-2 Inv-loop μ-loop
@@ -78,11 +104,11 @@ returns-2 c =
     let at-loop = c .before .before in
     let here = at-loop .loop in
     let entry = at-loop .before .before .before .before in
-    run-ends (entry .args .trace .now) (here .inv .1 .0) (here .t) (here .work) (here .inv .1 .1)
+    run-ends (entry .args .trace .now) (here .inv .2 .0) (here .t) (here .work) (here .inv .2 .1)
     (inl (λ none. omega arith))
 
 pub run-spec : {M : Type 1} → statement M
 run-spec =
     tie.close
-    (tie.spec Inv-loop μ-loop begin-requires loop-holds judge-record-requires loop-less loop-again same-length returns
-    same-length-2 returns-2)
+    (tie.spec Inv-loop μ-loop begin-requires loop-holds slice-relend-prefix-judge-record slice-aggregate-judge-record
+    judge-record-requires loop-less loop-again same-length returns same-length-2 returns-2)
