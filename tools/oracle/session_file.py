@@ -86,7 +86,7 @@ def random_judged() -> list[Pair]:
 
 
 def random_ordered() -> list[Pair]:
-    """All order queries between the stores of random accepted sessions, and one to a number that is no store."""
+    """Order queries between the first five stores of random accepted sessions, and to a number that is no store."""
     pairs: list[Pair] = []
     for data, _ in generate.generate(SEED + 1, RANDOM_ORDERED, generate.Limits(only="accepted")):
         pairs.append(("# order: " + show(data), ["# order: " + show(data)]))
