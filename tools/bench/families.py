@@ -95,23 +95,32 @@ def long_queue(events: int) -> Trace:
     return trace
 
 
+def eight_stretches(trace: Trace, events: int, step: Callable[[], None]) -> Trace:
+    """Steps until each of seven crashes, one after every eighth of the events; then loads in turn to the end."""
+    for _ in range(7):
+        while (trace.events + 1) % (events // 8):
+            step()
+        trace.crash()
+    while trace.events < events:
+        trace.load(trace.events % trace.threads, trace.events % trace.locations)
+    return trace
+
+
 def seven_crashes(events: int) -> Trace:
     """Stores before each of seven crashes, and loads after each."""
     trace = Trace(2, 32)
     part = events // 8
-    for _ in range(7):
-        while (trace.events + 1) % part:
-            turn = trace.events % part
-            if turn < part // 3:
-                trace.load(turn % 2, turn % 32)
-            else:
-                trace.issue(turn % 2, turn % 32)
-                if (trace.events + 1) % part:
-                    trace.commit(turn % 2)
-        trace.crash()
-    while trace.events < events:
-        trace.load(trace.events % 2, trace.events % 32)
-    return trace
+
+    def step() -> None:
+        turn = trace.events % part
+        if turn < part // 3:
+            trace.load(turn % 2, turn % 32)
+        else:
+            trace.issue(turn % 2, turn % 32)
+            if (trace.events + 1) % part:
+                trace.commit(turn % 2)
+
+    return eight_stretches(trace, events, step)
 
 
 def eight_threads(events: int) -> Trace:
@@ -144,14 +153,7 @@ def deep_walks(events: int) -> Trace:
 def many_crossings(events: int) -> Trace:
     """A crossing load of another location at almost every event, in all eight stretches."""
     trace = Trace(8, 256)
-    part = events // 8
-    for _ in range(7):
-        while (trace.events + 1) % part:
-            trace.load(trace.events % 8, trace.events % 256)
-        trace.crash()
-    while trace.events < events:
-        trace.load(trace.events % 8, trace.events % 256)
-    return trace
+    return eight_stretches(trace, events, lambda: trace.load(trace.events % 8, trace.events % 256))
 
 
 def late_break(events: int) -> Trace:
