@@ -34,12 +34,6 @@ sizeIn (event e past) = past
 sizeIn (refused k e) = 0
 sizeIn (wrote n) = n
 
--- the number of a refusal, and 0 for any other answer
-abbrev pub refusalIn : Answer → ℕ
-refusalIn (event e past) = 0
-refusalIn (refused k e) = k
-refusalIn (wrote n) = 0
-
 -- ---- writing
 
 abbrev pub fieldsIn : List ℕ → Fields

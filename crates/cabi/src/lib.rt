@@ -8,11 +8,11 @@ ghost use lib.ListN.{length, set};
 ghost use Rattle.record.specs.Parts.{placeOf};
 ghost use Rattle.record.specs.Reading.{readAt};
 ghost use Rattle.model.specs.Answers.{Answer, Standing};
-ghost use Rattle.model.specs.Reading.{events, AcceptedWith};
+ghost use Rattle.model.specs.Reading.{refusalIn, events, AcceptedWith};
 ghost use Rattle.model.specs.Judge.{judgeOf, cutAfter, workAfter, orderOf, orderWorkAfter, store?};
 ghost use Rattle.model.specs.Demand.{Claims, Stands};
 ghost use Rattle.cabi.specs.Answers.{verdictNumbers, standingNumbers};
-ghost use Rattle.cabi.specs.Records.{readNumbers, sizeIn, refusalIn, writingNumbers, writtenNumbers};
+ghost use Rattle.cabi.specs.Records.{readNumbers, sizeIn, writingNumbers, writtenNumbers};
 ghost use Rattle.cabi.specs.Records.{placeNumbers};
 
 mod answers;

@@ -1,7 +1,8 @@
 // The numbers of a record.
 ghost use mathlib.Core.Path.{_≡_};
 ghost use Rattle.record.specs.Answers.{readAnswer, writeAnswer};
-ghost use Rattle.cabi.specs.Records.{eventNumbers, readNumbers, sizeIn, refusalIn, eventIn, isKind};
+ghost use Rattle.model.specs.Reading.{refusalIn};
+ghost use Rattle.cabi.specs.Records.{eventNumbers, readNumbers, sizeIn, eventIn, isKind};
 ghost use Rattle.cabi.specs.Records.{writingNumbers, writtenNumbers};
 use record::Event;
 use record::Fields;

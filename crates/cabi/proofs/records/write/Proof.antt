@@ -2,7 +2,8 @@
 use mathlib.Core.Path.{refl, sym, ap, _∙_}
 use borrow.Author.Tests.{not-true, not-false}
 use borrow.Author.Needs.{needs}
-use Rattle.cabi.specs.Records.{refusalIn, sizeIn, writingNumbers, writtenNumbers}
+use Rattle.model.specs.Reading.{refusalIn}
+use Rattle.cabi.specs.Records.{sizeIn, writingNumbers, writtenNumbers}
 use Rattle.cabi.proofs.records.write.Statement.{statement}
 use Rattle.cabi.proofs.records.write.Tie as tie
 
