@@ -1,9 +1,9 @@
 // Judges the sessions of its standard input and prints what is answered. A line of the input is a comment, which is
 // printed as it stands, or a session: a letter and hexadecimal digits, two to a byte.
 //   # COMMENT
-//   j TRACE            without the space: judge the trace, as the program `verdict` does
-//   o FIRST SECOND TRACE    four digits each: the order query
-//   b WORK CUT TRACE   four digits each: judge with a work area of 7s and a cut buffer of 9s of these lengths
+//   jTRACE               judge the trace, as the program `verdict` does
+//   oFIRSTSECONDTRACE    four digits each: the order query
+//   bWORKCUTTRACE        four digits each: judge with a work area of 7s and a cut buffer of 9s of these lengths
 ghost use mathlib.Core.Path.{_≡_};
 ghost use lib.ListN.{length};
 

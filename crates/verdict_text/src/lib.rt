@@ -5,7 +5,6 @@ ghost use Rattle.report.specs.Lines.{written, Front};
 ghost use Rattle.verdict_text.specs.Text.{textOf};
 use model::Verdict;
 
-// The lines of a verdict on a trace, with the cut buffer after judging.
 // Puts the text at the start of `out`, answers how many bytes it is, and leaves the rest of `out` as lent. By `front` a
 // caller can take `&out[..n]`.
 pub fn text_of(input: &[u8], out: &mut [u8; 1024]) -> usize
