@@ -3,8 +3,8 @@
 // end. Every call is total: it owes no bound, and touches nothing but the marks.
 pub mod end;
 pub mod evidence;
-pub mod flags;
-pub mod hits;
+mod flags;
+mod hits;
 pub mod judged;
-pub mod load;
-pub mod walk;
+mod load;
+mod walk;

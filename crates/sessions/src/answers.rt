@@ -126,7 +126,7 @@ fn answer_line(input: &[u8], at: usize) -> usize
     end + 1
 }
 
-pub fn answer_all(input: &[u8]) {
+pub(crate) fn answer_all(input: &[u8]) {
     let mut at: usize = 0;
     while at < input.len() {
         at = answer_line(input, at);

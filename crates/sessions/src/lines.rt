@@ -7,7 +7,7 @@ ghost use Rattle.report.specs.Lines.{Front};
 const NEWLINE: u8 = 10;
 
 // Where the line that starts at `at` ends: its newline, or the end of the input.
-pub fn line_end(input: &[u8], at: usize) -> usize
+pub(crate) fn line_end(input: &[u8], at: usize) -> usize
     requires { ⌜ at ≤ length (now input) ⌝ }
     ensures { λ r. ⌜ (at ≤ r) × (r ≤ length (now (input .entry))) ⌝ }
 {
@@ -33,7 +33,7 @@ fn digit(b: u8) -> u8
 }
 
 // The bytes that the digits of a line spell from position 1 on, into `out`; answers how many.
-pub fn decode(line: &[u8], out: &mut [u8]) -> usize
+pub(crate) fn decode(line: &[u8], out: &mut [u8]) -> usize
     ensures { λ r. ⌜ Front r (now (out .exit)) ⌝ }
 {
     let mut n: usize = 0;
@@ -48,11 +48,11 @@ pub fn decode(line: &[u8], out: &mut [u8]) -> usize
 }
 
 // A byte, and 0 where there is none.
-pub fn byte_at(bytes: &[u8], i: usize) -> u8 {
+pub(crate) fn byte_at(bytes: &[u8], i: usize) -> u8 {
     if i < bytes.len() { bytes[i] } else { 0 }
 }
 
 // The number that two bytes spell.
-pub fn number(high: u8, low: u8) -> u16 {
+pub(crate) fn number(high: u8, low: u8) -> u16 {
     256 * (high as u16) + (low as u16)
 }
