@@ -12,12 +12,11 @@ pub(crate) fn wide(x: u16) -> usize
 }
 
 // The number at an offset.
-pub(crate) fn word_at(s: &[u8], at: u16) -> u16
+pub(crate) fn word_at(s: &[u8], at: usize) -> u16
     requires { ⌜ at + 2 ≤ length (now s) ⌝ }
     ensures { λ r. ⌜ r ≡ word (now (s .entry)) at ⌝ }
 {
-    let i = at as usize;
-    (s[i] as u16) + (s[i + 1] as u16) * 256
+    (s[at] as u16) + (s[at + 1] as u16) * 256
 }
 
 // Stores a number at an offset.

@@ -37,7 +37,7 @@ fn field(s: &[u8], at: u16) -> u16
     requires { ⌜ at + 2 ≤ length (now s) ⌝ }
     ensures { λ r. ⌜ r ≡ fieldAt (now (s .entry)) at ⌝ }
 {
-    if at == 0 { 0 } else { word_at(s, at) }
+    if at == 0 { 0 } else { word_at(s, wide(at)) }
 }
 
 // The values of the fields that a row of the table places in a record.
