@@ -1,6 +1,8 @@
--- The mathematics that the functions' proofs cite, and the theorems about the definitions: RoundTrips and Starts.
+-- The mathematics that the functions' proofs cite, and the theorems about the definitions: RoundTrips, Starts
+-- and Scans.
 pub mod Rows
 pub mod Frames
 pub mod Shapes
 pub mod RoundTrips
 pub mod Starts
+pub mod Scans

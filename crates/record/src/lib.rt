@@ -9,6 +9,7 @@ mod kinds;
 mod parts;
 mod reader;
 mod reading;
+mod scanning;
 mod writing;
 
 pub use events::Event;
@@ -25,5 +26,7 @@ pub use reader::next;
 pub use reader::read_at;
 pub use reading::Read;
 pub use reading::read_first;
+pub use scanning::Scan;
+pub use scanning::scan_at;
 pub use writing::Written;
 pub use writing::write;
