@@ -23,9 +23,10 @@ commitsSlot j t = 360 + (8 * j + t)
 abbrev pub seenSlot : ℕ → ℕ → ℕ
 seenSlot t u = 432 + (8 * t + u)
 
--- the stretch of the last counted load at location x: slots 496 to 751; its source: slots 752 to 1,007
-abbrev pub loadStretchSlot : ℕ → ℕ
-loadStretchSlot x = 496 + x
+-- of the last counted load at location x, the last store committed there before it: slots 496 to 751; its source:
+-- slots 752 to 1,007
+abbrev pub loadLastSlot : ℕ → ℕ
+loadLastSlot x = 496 + x
 
 abbrev pub loadSourceSlot : ℕ → ℕ
 loadSourceSlot x = 752 + x

@@ -1,7 +1,7 @@
 // The numbers of the tables' slots.
 ghost use mathlib.Core.Path.{_≡_};
 ghost use Rattle.area.specs.Tables.{lastSlot, cutSlot, lowSlot, commitsSlot, seenSlot};
-ghost use Rattle.area.specs.Tables.{loadStretchSlot, loadSourceSlot};
+ghost use Rattle.area.specs.Tables.{loadLastSlot, loadSourceSlot};
 
 // The last store committed at location x.
 pub fn last(x: u16) -> usize
@@ -38,9 +38,9 @@ pub fn seen(t: u16, u: u16) -> usize
     432 + (8 * (t as usize) + (u as usize))
 }
 
-// The stretch of the last counted load at location x.
-pub fn load_stretch(x: u16) -> usize
-    ensures { λ r. ⌜ r ≡ loadStretchSlot x ⌝ }
+// Of the last counted load at location x, the last store committed there before it.
+pub fn load_last(x: u16) -> usize
+    ensures { λ r. ⌜ r ≡ loadLastSlot x ⌝ }
 {
     496 + (x as usize)
 }

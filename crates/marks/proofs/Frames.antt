@@ -14,12 +14,12 @@ use Rattle.record.specs.declared.events.Event.{Event}
 use Rattle.model.specs.Stores.{landed}
 use Rattle.model.proofs.Searching.{less?}
 use Rattle.area.specs.Cells.{getRow, putRow, cell, putCell}
-use Rattle.area.specs.Tables.{lastSlot, cutSlot, commitsSlot, loadStretchSlot, loadSourceSlot}
+use Rattle.area.specs.Tables.{lastSlot, cutSlot, commitsSlot, loadLastSlot, loadSourceSlot}
 use Rattle.area.specs.Rows.{Linked, StoreRow, Rows, JudgingSlot, ButJudging}
 use Rattle.area.proofs.ReadBack.{length-put, put-other}
 use Rattle.marks.specs.Marking.{observe, lower, putMark, ownIn, lowIn, marked, walked, raised}
 use Rattle.marks.specs.Marking.{seenFrom, loaded}
-use Rattle.marks.specs.Judged.{repeated, noted, judged}
+use Rattle.marks.specs.Judged.{lastIn, repeated, noted, judged}
 
 -- ---- the frames
 
@@ -171,9 +171,9 @@ seen-leaves w s =
     let flagged = putRow w s 12 (observe (getRow w s 12)) in
     then (flag-leaves w s (observe (getRow w s 12))) (raised-leaves 8 flagged s (getRow w s 10))
 
-pub loaded-leaves : (w : List ℕ) (x s : ℕ) → ButMarks w (loaded w x s)
+pub loaded-leaves : (w : List ℕ) (h s : ℕ) → ButMarks w (loaded w h s)
 unfolding loaded
-loaded-leaves w x s = by-test (eqb s 0) (walked-leaves 2048 w (cell w (lastSlot x)) s)
+loaded-leaves w h s = by-test (eqb s 0) (walked-leaves 2048 w h s)
   where
     by-test : (none : Bool) {v : List ℕ} → ButMarks w v → ButMarks w (cond none v (seenFrom v s))
     by-test true walk = walk
@@ -183,51 +183,54 @@ loaded-leaves w x s = by-test (eqb s 0) (walked-leaves 2048 w (cell w (lastSlot 
 pub record ButLoad (x : ℕ) (w v : List ℕ) : Type 0 where
   pub size : length v ≡ length w
   pub columns : (e k : ℕ) → k ≢ 13 → getRow v e k ≡ getRow w e k
-  pub slots : (i : ℕ) → ((x < 256) × ((i ≡ loadStretchSlot x) ⊎ (i ≡ loadSourceSlot x)) → ⊥) → cell v i ≡ cell w i
+  pub slots : (i : ℕ) → ((x < 256) × ((i ≡ loadLastSlot x) ⊎ (i ≡ loadSourceSlot x)) → ⊥) → cell v i ≡ cell w i
 
-pub noted-leaves : (w : List ℕ) (j x s : ℕ) → ButLoad x w (noted w j x s)
+pub noted-leaves : (w : List ℕ) (h x s : ℕ) → ButLoad x w (noted w h x s)
 unfolding noted
-noted-leaves w j x s = by-test (ltb x 256) refl
+noted-leaves w h x s = by-test (ltb x 256) refl
   where
     by-test :
         (there : Bool) → ltb x 256 ≡ there
-        → ButLoad x w (cond there (putCell (putCell w (loadStretchSlot x) j) (loadSourceSlot x) s) w)
+        → ButLoad x w (cond there (putCell (putCell w (loadLastSlot x) h) (loadSourceSlot x) s) w)
     by-test false is-there = record { size = refl; columns = λ e k not-13. refl; slots = λ i other. refl }
     by-test true is-there = record {
       size = second .size ∙ first .size;
       columns = λ e k not-13. second .columns e k not-13 ∙ first .columns e k not-13;
       slots = λ i other.
           second .slots i (λ is-source. other (there, inr is-source))
-          ∙ first .slots i (λ is-stretch. other (there, inl is-stretch));
+          ∙ first .slots i (λ is-last. other (there, inl is-last));
     }
       where
         there : x < 256
         there = ltb-true x 256 is-there
 
-        first : ButSlot (loadStretchSlot x) w (putCell w (loadStretchSlot x) j)
-        first = slot-leaves w (loadStretchSlot x) j
+        first : ButSlot (loadLastSlot x) w (putCell w (loadLastSlot x) h)
+        first = slot-leaves w (loadLastSlot x) h
 
         second :
-            ButSlot (loadSourceSlot x) (putCell w (loadStretchSlot x) j)
-            (putCell (putCell w (loadStretchSlot x) j) (loadSourceSlot x) s)
-        second = slot-leaves (putCell w (loadStretchSlot x) j) (loadSourceSlot x) s
+            ButSlot (loadSourceSlot x) (putCell w (loadLastSlot x) h)
+            (putCell (putCell w (loadLastSlot x) h) (loadSourceSlot x) s)
+        second = slot-leaves (putCell w (loadLastSlot x) h) (loadSourceSlot x) s
 
 -- THE FRAME of judging a counted load, for every input
 pub judging-leaves : (w : List ℕ) (j x s : ℕ) → ButJudging w (judged w j x s)
 unfolding judged
-judging-leaves w j x s = by-test (repeated w j x s)
+judging-leaves w j x s = by-test (repeated w h x s)
   where
-    load : ButJudging w (loaded w x s)
-    load = within-judging (loaded-leaves w x s)
+    h : ℕ
+    h = lastIn w x
 
-    note : ButLoad x (loaded w x s) (noted (loaded w x s) j x s)
-    note = noted-leaves (loaded w x s) j x s
+    load : ButJudging w (loaded w h s)
+    load = within-judging (loaded-leaves w h s)
 
-    ours : (i : ℕ) → (x < 256) × ((i ≡ loadStretchSlot x) ⊎ (i ≡ loadSourceSlot x)) → JudgingSlot i
-    ours i (there, inl is-stretch) = record { in-range = inr (omega arith, omega arith) }
+    note : ButLoad x (loaded w h s) (noted (loaded w h s) h x s)
+    note = noted-leaves (loaded w h s) h x s
+
+    ours : (i : ℕ) → (x < 256) × ((i ≡ loadLastSlot x) ⊎ (i ≡ loadSourceSlot x)) → JudgingSlot i
+    ours i (there, inl is-last) = record { in-range = inr (omega arith, omega arith) }
     ours i (there, inr is-source) = record { in-range = inr (omega arith, omega arith) }
 
-    by-test : (again : Bool) → ButJudging w (cond again w (noted (loaded w x s) j x s))
+    by-test : (again : Bool) → ButJudging w (cond again w (noted (loaded w h s) h x s))
     by-test true = within-judging (no-change w)
     by-test false = record {
       size = note .size ∙ load .size;

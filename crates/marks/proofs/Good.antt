@@ -23,17 +23,17 @@ use Rattle.model.specs.Answers.{cutOf, shareOf}
 use Rattle.model.proofs.Searching.{false-true, test, same?}
 use Rattle.model.proofs.Counting.{count-skip, stretch-else}
 use Rattle.model.proofs.Roles.{load-no-crash, load-no-issue, load-no-commit}
-use Rattle.model.proofs.Acceptance.{prefix, event-bound, counted-crosses}
+use Rattle.model.proofs.Acceptance.{event-bound, counted-crosses}
 use Rattle.model.proofs.Ranges.{load-has-location, location-bound}
 use Rattle.model.proofs.RulingSteps.{marked?, uncounted-no-worse, robust-ruling, broken-ruling}
 use Rattle.model.proofs.Unchanged.{landed-away}
-use Rattle.model.proofs.RepeatedLoads.{Repeats}
+use Rattle.model.proofs.RepeatedLoads.{Repeats, no-pair-again}
 use Rattle.area.specs.Cells.{getRow, cell}
-use Rattle.area.specs.Tables.{cutSlot, lowSlot, lastSlot, commitsSlot, loadStretchSlot}
+use Rattle.area.specs.Tables.{cutSlot, lowSlot, lastSlot, commitsSlot}
 use Rattle.area.specs.Rows.{Rows, ButMachine}
 use Rattle.marks.specs.Marking.{loaded}
 use Rattle.marks.specs.Testing.{hits, missingBy, observedBy}
-use Rattle.marks.specs.Judged.{repeated, noted, judged, breaks}
+use Rattle.marks.specs.Judged.{lastIn, repeated, noted, judged, breaks}
 use Rattle.marks.specs.Ending.{copied, shareBy}
 use Rattle.marks.proofs.Frames.{ButMarks, loaded-leaves, judging-leaves, rows-leave}
 use Rattle.marks.proofs.Says.{says-there}
@@ -41,7 +41,8 @@ use Rattle.marks.proofs.Stepping.{Judging, quiet-step, again-step, load
 use Rattle.marks.proofs.Breaking.{hits-is-bad}
 use Rattle.marks.proofs.Finding.{missing-is, observed-is}
 use Rattle.marks.proofs.Closing.{cut-is, share-is}
-use Rattle.marks.proofs.Noting.{Loads, loads-later, repeats-noted, noted-says, noted-loads}
+use Rattle.marks.proofs.Noting.{Loads, loads-start, loads-later, last-is-head, repeats-noted}
+use Rattle.marks.proofs.Noting.{noted-says, noted-loads}
 
 module _ (ev : ℕ → Event) where
   -- ---- the invariant
@@ -71,7 +72,7 @@ module _ (ev : ℕ → Event) where
       lowest = λ j t from-1 to-7 there p in-f. false-true in-f;
     };
     no-pair = refl;
-    loads = λ x there some. absurd (some (empty (suc (loadStretchSlot x)) 13));
+    loads = loads-start ev w empty;
   }
 
   -- ---- a step of the machine: v is the work area after it
@@ -131,6 +132,9 @@ module _ (ev : ℕ → Event) where
     abbrev s : ℕ
     s = source ev n
 
+    abbrev h : ℕ
+    h = lastIn w x
+
     x-there : location ev n < 256
     x-there =
         location-bound ev (suc n) accepted n (omega arith) (load-has-location ev (counted-crosses ev n counts .loads))
@@ -156,24 +160,22 @@ module _ (ev : ℕ → Event) where
             let no-issue = load-no-issue ev (counted-crosses ev n counts .loads) in
             false-true (sym no-issue ∙ (rw is-n at store) .test)
 
-    -- the load that it repeats, if it repeats one
-    repeats-one : repeated w j x s ≡ true → (l : ℕ) × Repeats ev l n
-    repeats-one = repeats-noted ev n w (good .loads) counts x-there
+    -- with the last store and the source that are noted, it repeats a load
+    repeats-it : repeated w h x s ≡ true → Repeats ev n
+    repeats-it = repeats-noted ev n accepted counts x-there w (good .rows) (good .loads)
 
     -- the marks after it
     judged-judging : Judging ev (suc n) (judged w j x s)
     unfolding judged
-    judged-judging = by-test (test (repeated w j x s))
+    judged-judging = by-test (test (repeated w h x s))
       where
         by-test :
-            (repeated w j x s ≡ true) ⊎ (repeated w j x s ≡ false)
-            → Judging ev (suc n) (cond (repeated w j x s) w (noted (loaded w x s) j x s))
-        by-test (inl again) =
-            let (l, repeats) = repeats-one again in
-            rw again (again-step ev n accepted l w repeats (good .judging))
+            (repeated w h x s ≡ true) ⊎ (repeated w h x s ≡ false)
+            → Judging ev (suc n) (cond (repeated w h x s) w (noted (loaded w h s) h x s))
+        by-test (inl again) = rw again (again-step ev n accepted w (repeats-it again) (good .judging))
         by-test (inr new) =
             rw new
-            (noted-says ev (suc n) (loaded w x s) j x s (load-step ev n accepted counts w (good .rows) (good .judging)))
+            (noted-says ev (suc n) (loaded w h s) h x s (load-step ev n accepted counts w (good .rows) (good .judging)))
 
     judged-rows : Rows ev (suc n) (judged w j x s)
     judged-rows = rows-next (judged w j x s) (rows-leave (judging-leaves w j x s) (good .rows))
@@ -181,24 +183,25 @@ module _ (ev : ℕ → Event) where
     -- the loads noted after it
     judged-loads : Loads ev (suc n) (judged w j x s)
     unfolding judged
-    judged-loads = by-test (test (repeated w j x s))
+    judged-loads = by-test (test (repeated w h x s))
       where
-        load : ButMarks w (loaded w x s)
-        load = loaded-leaves w x s
+        load : ButMarks w (loaded w h s)
+        load = loaded-leaves w h s
 
-        kept : Loads ev n (loaded w x s)
+        kept : Loads ev n (loaded w h s)
         kept =
-            loads-later ev n n w (loaded w x s) (omega arith)
+            loads-later ev n n w (loaded w h s) (omega arith)
             (λ i from-496 below. load .slots i (inr (omega arith))) (good .loads)
 
         by-test :
-            (repeated w j x s ≡ true) ⊎ (repeated w j x s ≡ false)
-            → Loads ev (suc n) (cond (repeated w j x s) w (noted (loaded w x s) j x s))
+            (repeated w h x s ≡ true) ⊎ (repeated w h x s ≡ false)
+            → Loads ev (suc n) (cond (repeated w h x s) w (noted (loaded w h s) h x s))
         by-test (inl again) =
             rw again (loads-later ev n (suc n) w w (omega arith) (λ i from-496 below. refl) (good .loads))
         by-test (inr new) =
-            let room : 32768 ≤ length (loaded w x s) = omega (arith, load .size, good .rows .room) in
-            rw new (noted-loads ev n (loaded w x s) room counts x-there kept)
+            let room : 32768 ≤ length (loaded w h s) = omega (arith, load .size, good .rows .room) in
+            let is-head = last-is-head ev n w x (good .rows) x-there in
+            rw new (noted-loads ev n accepted counts x-there (loaded w h s) h room is-head kept)
 
     -- the test on the marks after it
     hits-after : hits (judged w j x s) j ≡ bad? ev (suc n)
@@ -206,24 +209,15 @@ module _ (ev : ℕ → Event) where
         let same = stretch-else ev n (load-no-crash ev (counted-crosses ev n counts .loads)) in
         hits-is-bad ev (suc n) accepted (judged w j x s) judged-judging j (omega (arith, same))
 
-    -- after a repeated load the marks are as before, and there was no pair
-    no-pair-again : repeated w j x s ≡ true → false ≡ bad? ev (suc n)
-    unfolding judged
-    no-pair-again again =
-        let (l, repeats) = repeats-one again in
-        let part = prefix ev (suc n) n accepted (omega (arith, repeats .before)) (omega arith) in
-        let before : hits w j ≡ bad? ev n = hits-is-bad ev n part w (good .judging) j (omega arith) in
-        sym (good .no-pair) ∙ (sym before ∙ (rw again at hits-after))
-
     -- the answer: with it there is a pair
     breaks-is-bad : breaks w j x s ≡ bad? ev (suc n)
     unfolding breaks
-    breaks-is-bad = by-test (test (repeated w j x s))
+    breaks-is-bad = by-test (test (repeated w h x s))
       where
         by-test :
-            (repeated w j x s ≡ true) ⊎ (repeated w j x s ≡ false)
-            → (not (repeated w j x s) && hits (judged w j x s) j) ≡ bad? ev (suc n)
-        by-test (inl again) = rw again (no-pair-again again)
+            (repeated w h x s ≡ true) ⊎ (repeated w h x s ≡ false)
+            → (not (repeated w h x s) && hits (judged w j x s) j) ≡ bad? ev (suc n)
+        by-test (inl again) = rw again (sym (no-pair-again ev n accepted (repeats-it again) (good .no-pair)))
         by-test (inr new) = rw new hits-after
 
     -- A COUNTED LOAD that does not break keeps the invariant

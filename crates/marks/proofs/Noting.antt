@@ -1,155 +1,191 @@
--- The last counted load of each location, in its two slots: `Loads` says that they name a counted load of the first
--- events, so a load that repeats it changes nothing; and noting a load keeps that.
+-- The last counted load of each location, in its two slots: `Loads` says that all it marks and observes is marked and
+-- observed, so a load that repeats it changes nothing; and noting a load keeps that. A load is noted by its location's
+-- last store, which names the whole chain.
 use Prim.Native.Nat.{ℕ, suc, _≤_, _<_}
 use native.Mathlib.Omega.{arith}
 use mathlib.Core.Path.{_≡_, refl, sym, _∙_}
 use mathlib.Core.Bool.{true}
 use mathlib.Core.Logic.{_⊎_, inl, inr, _≢_}
-use mathlib.Core.List.{List}
+use mathlib.Core.List.{List, [], _∷_}
 use lib.ListN.{length}
 use lib.Dec.{eqb}
 use borrow.Author.Tests.{eqb-true, lt-ltb}
 use Rattle.record.specs.declared.events.Event.{Event}
-use Rattle.model.specs.Trace.{location, source, stretch}
+use Rattle.model.specs.Trace.{location, source}
 use Rattle.model.specs.Machine.{counted}
-use Rattle.model.proofs.Searching.{same?, parts}
-use Rattle.model.proofs.StorePlaces.{stretch-some}
-use Rattle.model.proofs.RepeatedLoads.{Repeats}
-use Rattle.area.specs.Cells.{cell, putCell}
-use Rattle.area.specs.Tables.{loadStretchSlot, loadSourceSlot}
+use Rattle.model.specs.Stores.{landed}
+use Rattle.model.specs.Rules.{Accepted}
+use Rattle.model.specs.Verdict.{observed?}
+use Rattle.model.proofs.Searching.{false-true, same?, parts, or-left}
+use Rattle.model.proofs.Closure.{→observed}
+use Rattle.model.proofs.LoadRule.{headOf}
+use Rattle.model.proofs.RulingSteps.{marked?}
+use Rattle.model.proofs.ChainOrder.{passed, load-marks}
+use Rattle.model.proofs.RepeatedLoads.{same-chain, marked-later, observed-later, Repeats}
+use Rattle.area.specs.Cells.{getRow, cell, putCell}
+use Rattle.area.specs.Tables.{loadLastSlot, loadSourceSlot}
+use Rattle.area.specs.Rows.{Linked, Rows}
 use Rattle.area.proofs.ReadBack.{length-put, put-same, put-other}
-use Rattle.marks.specs.Judged.{repeated, noted}
+use Rattle.marks.specs.Judged.{lastIn, repeated, noted}
 use Rattle.marks.proofs.Frames.{ButLoad, noted-leaves}
 use Rattle.marks.proofs.Says.{says-there}
 use Rattle.marks.proofs.Stepping.{Judging}
 
 module _ (ev : ℕ → Event) where
-  -- the slots of location x name a counted load of the first n events
+  -- the slots of location x: the head of its chain when m events had been, and a source. What stands in that chain
+  -- before the source is marked, and the source is observed.
   pub record Noted (n : ℕ) (w : List ℕ) (x : ℕ) : Type 0 where
-    pub l : ℕ
-    pub early : l < n
-    pub counts : counted ev l ≡ true
-    pub there : location ev l ≡ x
-    pub in-stretch : stretch ev l ≡ cell w (loadStretchSlot x)
-    pub from : source ev l ≡ cell w (loadSourceSlot x)
+    pub m : ℕ
+    pub early : m ≤ n
+    pub last-is : cell w (loadLastSlot x) ≡ headOf ev (landed ev m x)
+    pub marked : (p : ℕ) → passed (cell w (loadSourceSlot x)) p (landed ev m x) ≡ true → marked? ev n p ≡ true
+    pub observed : cell w (loadSourceSlot x) ≢ 0 → observed? ev n (cell w (loadSourceSlot x)) ≡ true
 
-  -- those of each location that had one; stretches are numbered from 1
   abbrev pub Loads : ℕ → List ℕ → Type 0
-  Loads n w = (x : ℕ) → x < 256 → cell w (loadStretchSlot x) ≢ 0 → Noted n w x
+  Loads n w = (x : ℕ) → x < 256 → Noted n w x
+
+  -- in a cleared work area: the empty chain, and no source
+  pub loads-start : (w : List ℕ) → ((e k : ℕ) → getRow w e k ≡ 0) → Loads 0 w
+  unfolding landed passed
+  loads-start w empty x there = record {
+    m = 0;
+    early = omega arith;
+    last-is = empty (suc (loadLastSlot x)) 13;
+    marked = λ p passes. false-true passes;
+    observed = λ some. absurd (some (empty (suc (loadSourceSlot x)) 13));
+  }
 
   -- ---- events that note nothing
 
   noted-there :
-      (n m x : ℕ) (w v : List ℕ) → n ≤ m → cell v (loadStretchSlot x) ≡ cell w (loadStretchSlot x)
+      (n m x : ℕ) (w v : List ℕ) → n ≤ m → cell v (loadLastSlot x) ≡ cell w (loadLastSlot x)
       → cell v (loadSourceSlot x) ≡ cell w (loadSourceSlot x) → Noted n w x → Noted m v x
-  noted-there n m x w v within same-stretch same-source it = record {
-    l = it .l;
+  noted-there n m x w v within same-last same-source it = record {
+    m = it .m;
     early = omega (arith, it .early);
-    counts = it .counts;
-    there = it .there;
-    in-stretch = it .in-stretch ∙ sym same-stretch;
-    from = it .from ∙ sym same-source;
+    last-is = same-last ∙ it .last-is;
+    marked = λ p passes. marked-later ev n m p within (it .marked p (rw same-source at passes));
+    observed = λ some. rw same-source (observed-later ev n m _ within (it .observed (rw same-source at some)));
   }
 
   pub loads-later :
       (n m : ℕ) (w v : List ℕ) → n ≤ m → ((i : ℕ) → 496 ≤ i → i < 1008 → cell v i ≡ cell w i)
       → Loads n w → Loads m v
-  loads-later n m w v within same loads x there some =
-      let same-stretch = same (loadStretchSlot x) (omega arith) (omega arith) in
+  loads-later n m w v within same loads x there =
+      let same-last = same (loadLastSlot x) (omega arith) (omega arith) in
       let same-source = same (loadSourceSlot x) (omega arith) (omega arith) in
-      noted-there n m x w v within same-stretch same-source (loads x there (λ none. some (same-stretch ∙ none)))
+      noted-there n m x w v within same-last same-source (loads x there)
 
-  -- ---- a load that repeats the one noted
+  -- ---- the head of a chain
 
-  pub repeats-noted :
-      (n : ℕ) (w : List ℕ) → Loads n w → counted ev n ≡ true → location ev n < 256
-      → repeated w (stretch ev n) (location ev n) (source ev n) ≡ true → (l : ℕ) × Repeats ev l n
-  repeats-noted n w loads counts there again = (
-    it .l,
-    record {
-      before = it .early;
-      first = it .counts;
-      second = counts;
-      there = it .there;
-      in-stretch = it .in-stretch ∙ same-stretch;
-      from = it .from ∙ eqb-true _ _ (both-hold .1);
-    },
-  )
-    where
-      both-hold :
-          (eqb (cell w (loadStretchSlot (location ev n))) (stretch ev n) ≡ true)
-          × (eqb (cell w (loadSourceSlot (location ev n))) (source ev n) ≡ true)
-      both-hold = parts (eqb (cell w (loadStretchSlot (location ev n))) (stretch ev n)) _ again
+  head-is : (w : List ℕ) (h : ℕ) (ps : List ℕ) → Linked w h ps → h ≡ headOf ev ps
+  head-is w h [] links = links
+  head-is w h (p ∷ ps) links = links .0
 
-      same-stretch : cell w (loadStretchSlot (location ev n)) ≡ stretch ev n
-      same-stretch = eqb-true _ _ (both-hold .0)
-
-      it : Noted n w (location ev n)
-      it = loads (location ev n) there (λ none. omega (arith, same-stretch, stretch-some ev n))
+  pub last-is-head : (n : ℕ) (w : List ℕ) (x : ℕ) → Rows ev n w → x < 256 → lastIn w x ≡ headOf ev (landed ev n x)
+  last-is-head n w x rows there = head-is w (lastIn w x) (landed ev n x) (rows .chains x there)
 
   -- ---- noting a load
 
   -- it leaves the marks
-  pub noted-says : (n : ℕ) (w : List ℕ) (j x s : ℕ) → Judging ev n w → Judging ev n (noted w j x s)
-  noted-says n w j x s =
+  pub noted-says : (n : ℕ) (w : List ℕ) (h x s : ℕ) → Judging ev n w → Judging ev n (noted w h x s)
+  noted-says n w h x s =
       says-there ev (λ e. note .columns e 12 (omega arith))
       (λ i from-256 below. note .slots i (not-load i from-256 below))
     where
-      note : ButLoad x w (noted w j x s)
-      note = noted-leaves w j x s
+      note : ButLoad x w (noted w h x s)
+      note = noted-leaves w h x s
 
       not-load :
-          (i : ℕ) → 256 ≤ i → i < 368 → (x < 256) × ((i ≡ loadStretchSlot x) ⊎ (i ≡ loadSourceSlot x)) → ⊥
-      not-load i from-256 below (there, inl is-stretch) = omega arith
+          (i : ℕ) → 256 ≤ i → i < 368 → (x < 256) × ((i ≡ loadLastSlot x) ⊎ (i ≡ loadSourceSlot x)) → ⊥
+      not-load i from-256 below (there, inl is-last) = omega arith
       not-load i from-256 below (there, inr is-source) = omega arith
 
-  module _ (w : List ℕ) (room : 32768 ≤ length w) (j x s : ℕ) (x-there : x < 256) where
+  module _ (w : List ℕ) (room : 32768 ≤ length w) (h x s : ℕ) (x-there : x < 256) where
     abbrev stored : List ℕ
-    stored = putCell w (loadStretchSlot x) j
+    stored = putCell w (loadLastSlot x) h
 
-    stretch-noted : cell (noted w j x s) (loadStretchSlot x) ≡ j
+    last-noted : cell (noted w h x s) (loadLastSlot x) ≡ h
     unfolding noted
-    stretch-noted =
+    last-noted =
         rw (lt-ltb x 256 x-there)
-        (put-other stored (suc (loadSourceSlot x)) 13 s (suc (loadStretchSlot x)) 13
+        (put-other stored (suc (loadSourceSlot x)) 13 s (suc (loadLastSlot x)) 13
         (λ same-row same-column. omega arith)
-        ∙ put-same w (suc (loadStretchSlot x)) 13 j room (omega arith) (omega arith) (omega arith))
+        ∙ put-same w (suc (loadLastSlot x)) 13 h room (omega arith) (omega arith) (omega arith))
 
-    source-noted : cell (noted w j x s) (loadSourceSlot x) ≡ s
+    source-noted : cell (noted w h x s) (loadSourceSlot x) ≡ s
     unfolding noted
     source-noted =
-        let still : 32768 ≤ length stored = omega (arith, length-put w (suc (loadStretchSlot x)) 13 j) in
+        let still : 32768 ≤ length stored = omega (arith, length-put w (suc (loadLastSlot x)) 13 h) in
         rw (lt-ltb x 256 x-there)
         (put-same stored (suc (loadSourceSlot x)) 13 s still (omega arith) (omega arith) (omega arith))
 
-    other-noted : (i : ℕ) → i ≢ loadStretchSlot x → i ≢ loadSourceSlot x → cell (noted w j x s) i ≡ cell w i
-    other-noted i not-stretch not-source = noted-leaves w j x s .slots i (λ it. by-slot (it .1))
+    other-noted : (i : ℕ) → i ≢ loadLastSlot x → i ≢ loadSourceSlot x → cell (noted w h x s) i ≡ cell w i
+    other-noted i not-last not-source = noted-leaves w h x s .slots i (λ it. by-slot (it .1))
       where
-        by-slot : (i ≡ loadStretchSlot x) ⊎ (i ≡ loadSourceSlot x) → ⊥
-        by-slot (inl is-stretch) = not-stretch is-stretch
+        by-slot : (i ≡ loadLastSlot x) ⊎ (i ≡ loadSourceSlot x) → ⊥
+        by-slot (inl is-last) = not-last is-last
         by-slot (inr is-source) = not-source is-source
 
-  pub noted-loads :
-      (n : ℕ) (w : List ℕ) → 32768 ≤ length w → counted ev n ≡ true → location ev n < 256 → Loads n w
-      → Loads (suc n) (noted w (stretch ev n) (location ev n) (source ev n))
-  noted-loads n w room counts x-there loads y there = by-location (same? y (location ev n))
-    where
-      after : List ℕ
-      after = noted w (stretch ev n) (location ev n) (source ev n)
+  module _
+      (n : ℕ) (accepted : Accepted ev (suc n)) (counts : counted ev n ≡ true) (x-there : location ev n < 256) where
+    abbrev x : ℕ
+    x = location ev n
 
-      by-location :
-          (y ≡ location ev n) ⊎ (y ≢ location ev n) → cell after (loadStretchSlot y) ≢ 0 → Noted (suc n) after y
-      by-location (inl is-x) some = rw is-x (record {
-        l = n;
-        early = omega arith;
-        counts = counts;
-        there = refl;
-        in-stretch = sym (stretch-noted w room (stretch ev n) (location ev n) (source ev n) x-there);
-        from = sym (source-noted w room (stretch ev n) (location ev n) (source ev n) x-there);
-      })
-      by-location (inr differs) some =
-          let others = other-noted w room (stretch ev n) (location ev n) (source ev n) x-there in
-          let same-stretch = others (loadStretchSlot y) (λ same. differs (omega arith)) (λ same. omega arith) in
-          let same-source = others (loadSourceSlot y) (λ same. omega arith) (λ same. differs (omega arith)) in
-          noted-there n (suc n) y w after (omega arith) same-stretch same-source
-          (loads y there (λ none. some (same-stretch ∙ none)))
+    abbrev s : ℕ
+    s = source ev n
+
+    -- ---- a load that repeats the one noted
+
+    pub repeats-noted :
+        (w : List ℕ) → Rows ev n w → Loads n w → repeated w (lastIn w x) x s ≡ true → Repeats ev n
+    repeats-noted w rows loads again = record {
+      counts = counts;
+      marked = λ p passes. it .marked p (rw (same-source, chain) passes);
+      observed = λ some. rw same-source at (it .observed (rw same-source some));
+    }
+      where
+        both-hold : (eqb (cell w (loadLastSlot x)) (lastIn w x) ≡ true) × (eqb (cell w (loadSourceSlot x)) s ≡ true)
+        both-hold = parts (eqb (cell w (loadLastSlot x)) (lastIn w x)) _ again
+
+        same-source : cell w (loadSourceSlot x) ≡ s
+        same-source = eqb-true _ _ (both-hold .1)
+
+        it : Noted n w x
+        it = loads x x-there
+
+        chain : landed ev (it .m) x ≡ landed ev n x
+        chain =
+            same-chain ev (suc n) (it .m) n x accepted (it .early) (omega arith)
+            (sym (it .last-is) ∙ (eqb-true _ _ (both-hold .0) ∙ last-is-head n w x rows x-there))
+
+    -- ---- the load is noted
+
+    pub noted-loads :
+        (w : List ℕ) (h : ℕ) → 32768 ≤ length w → h ≡ headOf ev (landed ev n x) → Loads n w
+        → Loads (suc n) (noted w h x s)
+    noted-loads w h room is-head loads y there = by-location (same? y x)
+      where
+        source-is : cell (noted w h x s) (loadSourceSlot x) ≡ s
+        source-is = source-noted w room h x s x-there
+
+        marks : (p : ℕ) → passed s p (landed ev n x) ≡ true → marked? ev (suc n) p ≡ true
+        marks p passes = sym (load-marks ev (suc n) accepted n (omega arith) counts p) ∙ or-left _ _ passes
+
+        observes : s ≢ 0 → observed? ev (suc n) s ≡ true
+        observes some =
+            →observed ev (suc n) s (n, omega arith, record { here = counts; from = refl; some-store = some })
+
+        by-location : (y ≡ x) ⊎ (y ≢ x) → Noted (suc n) (noted w h x s) y
+        by-location (inl is-x) = rw is-x (record {
+          m = n;
+          early = omega arith;
+          last-is = last-noted w room h x s x-there ∙ is-head;
+          marked = λ p passes. marks p (rw source-is at passes);
+          observed = λ some. rw source-is (observes (rw source-is at some));
+        })
+        by-location (inr differs) =
+            let others = other-noted w room h x s x-there in
+            let same-last = others (loadLastSlot y) (λ same. differs (omega arith)) (λ same. omega arith) in
+            let same-source = others (loadSourceSlot y) (λ same. omega arith) (λ same. differs (omega arith)) in
+            noted-there n (suc n) y w (noted w h x s) (omega arith) same-last same-source (loads y there)

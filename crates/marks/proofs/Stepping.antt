@@ -24,10 +24,9 @@ use Rattle.model.proofs.Effects.{Effect, effect}
 use Rattle.model.proofs.RulingSteps.{observed-step, closure-step, committed?, marked?, marked-step, Over}
 use Rattle.model.proofs.ChainOrder.{landed-length, chain-earlier, load-marks}
 use Rattle.model.proofs.RepeatedLoads.{Repeats, marked-again, observed-again, closure-again}
-use Rattle.area.specs.Cells.{cell}
-use Rattle.area.specs.Tables.{lastSlot}
 use Rattle.area.specs.Rows.{Rows}
 use Rattle.marks.specs.Marking.{walked, seenFrom, loaded}
+use Rattle.marks.specs.Judged.{lastIn}
 use Rattle.marks.proofs.Frames.{within-judging, walked-leaves, rows-leave}
 use Rattle.marks.proofs.Says.{Fit, fits, Says, says-same}
 use Rattle.marks.proofs.Walking.{AllFit, walk-says, see-says}
@@ -54,12 +53,12 @@ module _ (ev : ℕ → Event) where
 
     -- ---- a repeated load
 
-    pub again-step : (l : ℕ) (w : List ℕ) → Repeats ev l n → Judging n w → Judging (suc n) w
-    again-step l w again =
+    pub again-step : (w : List ℕ) → Repeats ev n → Judging n w → Judging (suc n) w
+    again-step w again =
         says-same ev
-        (λ p. sym (marked-again ev l n accepted again p))
-        (λ q. sym (observed-again ev l n accepted again q))
-        (λ j t there. sym (closure-again ev l n accepted again j t))
+        (λ p. sym (marked-again ev n accepted again p))
+        (λ q. sym (observed-again ev n accepted again q))
+        (λ j t there. sym (closure-again ev n accepted again j t))
 
     -- ---- a counted load
 
@@ -133,7 +132,7 @@ module _ (ev : ℕ → Event) where
 
       module _ (w : List ℕ) (rows : Rows ev n w) (judging : Judging n w) where
         abbrev after-walk : List ℕ
-        after-walk = walked 2048 w (cell w (lastSlot (location ev n))) (source ev n)
+        after-walk = walked 2048 w (lastIn w (location ev n)) (source ev n)
 
         walk-marks : Says ev (marked? ev (suc n)) (observed? ev n) (closure ev n) after-walk
         walk-marks =
@@ -142,7 +141,7 @@ module _ (ev : ℕ → Event) where
             let few = landed-length ev n (location ev n) in
             let early = event-bound ev (suc n) accepted n (omega arith) in
             says-same ev (load-marks ev (suc n) accepted n (omega arith) counts) (λ q. refl) (λ j t there. refl)
-            (walk-says ev (landed ev n (location ev n)) 2048 n w (cell w (lastSlot (location ev n))) (source ev n)
+            (walk-says ev (landed ev n (location ev n)) 2048 n w (lastIn w (location ev n)) (source ev n)
             (marked? ev n) (observed? ev n) (closure ev n) rows (rows .chains (location ev n) there)
             (all-fit n (omega arith)) (omega arith) judging)
 
@@ -156,7 +155,7 @@ module _ (ev : ℕ → Event) where
               over = from .earlier;
             })
 
-        pub load-step : Judging (suc n) (loaded w (location ev n) (source ev n))
+        pub load-step : Judging (suc n) (loaded w (lastIn w (location ev n)) (source ev n))
         unfolding loaded
         load-step = by-source (same? (source ev n) 0)
           where
@@ -167,7 +166,7 @@ module _ (ev : ℕ → Event) where
                 rw (eq-eqb (source ev n) 0 none)
                 (says-same ev (λ p. refl) (observes-none none) (keeps-cut none) walk-marks)
             by-source (inr some) =
-                let walk = walked-leaves 2048 w (cell w (lastSlot (location ev n))) (source ev n) in
+                let walk = walked-leaves 2048 w (lastIn w (location ev n)) (source ev n) in
                 rw (ne-eqb (source ev n) 0 some)
                 (says-same ev (λ p. refl) (observes-source some) (raises-cut some)
                 (see-says ev n (source ev n) (source-fits some) after-walk (rows-leave (within-judging walk) rows)

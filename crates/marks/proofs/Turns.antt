@@ -14,11 +14,11 @@ use Rattle.model.specs.Search.{some, firstFrom}
 use Rattle.model.specs.Answers.{tabulate, sum, percent}
 use Rattle.model.proofs.Searching.{or-left}
 use Rattle.area.specs.Cells.{getRow, putRow, cell, putCell}
-use Rattle.area.specs.Tables.{cutSlot, lowSlot, lastSlot, loadStretchSlot, loadSourceSlot}
+use Rattle.area.specs.Tables.{cutSlot, lowSlot, lastSlot, loadLastSlot, loadSourceSlot}
 use Rattle.marks.specs.Marking.{forbid, observe, lower, putMark, marked, walked}
 use Rattle.marks.specs.Marking.{raisedAt, raised, seenFrom, loaded}
 use Rattle.marks.specs.Testing.{hits}
-use Rattle.marks.specs.Judged.{repeated, noted, judged, breaks}
+use Rattle.marks.specs.Judged.{lastIn, repeated, noted, judged, breaks}
 use Rattle.marks.specs.Ending.{cutAt, copied, doneAt}
 
 -- ---- marking and the walk
@@ -74,17 +74,15 @@ see-steps w w₁ w₂ s j f f′ j-is f-is f′-is put-flag all-raised = all-rai
 
 -- ---- a counted load
 
-pub loaded-none :
-    (w w₁ : List ℕ) (x s i h : ℕ)
-    → s ≡ 0 → i ≡ lastSlot x → h ≡ cell w i → w₁ ≡ walked 2048 w h s → w₁ ≡ loaded w x s
+pub loaded-none : (w w₁ : List ℕ) (h s : ℕ) → s ≡ 0 → w₁ ≡ walked 2048 w h s → w₁ ≡ loaded w h s
 unfolding loaded
-loaded-none w w₁ x s i h none i-is h-is walk-is = rw (eq-eqb s 0 none) (walk-is ∙ rw (h-is, i-is))
+loaded-none w w₁ h s none walk-is = rw (eq-eqb s 0 none) walk-is
 
 pub loaded-from :
-    (w w₁ w₂ : List ℕ) (x s i h : ℕ)
-    → (s ≡ 0 → ⊥) → i ≡ lastSlot x → h ≡ cell w i → w₁ ≡ walked 2048 w h s → w₂ ≡ seenFrom w₁ s → w₂ ≡ loaded w x s
+    (w w₁ w₂ : List ℕ) (h s : ℕ)
+    → (s ≡ 0 → ⊥) → w₁ ≡ walked 2048 w h s → w₂ ≡ seenFrom w₁ s → w₂ ≡ loaded w h s
 unfolding loaded
-loaded-from w w₁ w₂ x s i h store i-is h-is walk-is seen = rw (ne-eqb s 0 store) (seen ∙ rw (walk-is, h-is, i-is))
+loaded-from w w₁ w₂ h s store walk-is seen = rw (ne-eqb s 0 store) (seen ∙ rw walk-is)
 
 -- ---- the searches
 
@@ -136,29 +134,34 @@ module _ (p n : ℕ) (f : ℕ → Bool) where
 -- ---- the judged load
 
 pub noted-steps :
-    (w w₁ w₂ : List ℕ) (j x s i k : ℕ)
-    → x < 256 → i ≡ loadStretchSlot x → w₁ ≡ putCell w i j → k ≡ loadSourceSlot x → w₂ ≡ putCell w₁ k s
-    → w₂ ≡ noted w j x s
+    (w w₁ w₂ : List ℕ) (h x s i k : ℕ)
+    → x < 256 → i ≡ loadLastSlot x → w₁ ≡ putCell w i h → k ≡ loadSourceSlot x → w₂ ≡ putCell w₁ k s
+    → w₂ ≡ noted w h x s
 unfolding noted
-noted-steps w w₁ w₂ j x s i k there i-is put-stretch k-is put-source =
-    rw (lt-ltb x 256 there) (put-source ∙ rw (put-stretch, i-is, k-is))
+noted-steps w w₁ w₂ h x s i k there i-is put-last k-is put-source =
+    rw (lt-ltb x 256 there) (put-source ∙ rw (put-last, i-is, k-is))
 
-pub not-noted : (w : List ℕ) (j x s : ℕ) → 256 ≤ x → w ≡ noted w j x s
+pub not-noted : (w : List ℕ) (h x s : ℕ) → 256 ≤ x → w ≡ noted w h x s
 unfolding noted
-not-noted w j x s none = rw (le-ltb x 256 none)
+not-noted w h x s none = rw (le-ltb x 256 none)
 
-module _ (w : List ℕ) (j x s : ℕ) (again : Bool) (again-is : again ≡ repeated w j x s) where
+module _
+    (w : List ℕ) (j x s i h : ℕ) (again : Bool)
+    (i-is : i ≡ lastSlot x) (h-is : h ≡ cell w i) (again-is : again ≡ repeated w h x s) where
+  head-is : h ≡ lastIn w x
+  head-is = rw (← i-is) h-is
+
   pub judged-again : again ≡ true → (false ≡ breaks w j x s) × (w ≡ judged w j x s)
   unfolding judged breaks
-  judged-again repeats = rw (← again-is, repeats) (refl, refl)
+  judged-again repeats = rw (← head-is, ← again-is, repeats) (refl, refl)
 
   pub judged-steps :
       (w₁ w₂ : List ℕ) (bad : Bool)
-      → again ≡ false → w₁ ≡ loaded w x s → w₂ ≡ noted w₁ j x s → bad ≡ hits w₂ j
+      → again ≡ false → w₁ ≡ loaded w h s → w₂ ≡ noted w₁ h x s → bad ≡ hits w₂ j
       → (bad ≡ breaks w j x s) × (w₂ ≡ judged w j x s)
   unfolding judged breaks
   judged-steps w₁ w₂ bad new load-is note-is bad-is =
-      rw (← again-is, new, bad-is, note-is, load-is) (refl, refl)
+      rw (← head-is, ← again-is, new, bad-is, note-is, load-is) (refl, refl)
 
 -- ---- the end
 

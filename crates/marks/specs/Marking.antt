@@ -6,7 +6,7 @@ use mathlib.Core.Bool.{cond}
 use mathlib.Core.List.{List}
 use lib.Dec.{eqb, ltb}
 use Rattle.area.specs.Cells.{getRow, putRow, cell, putCell}
-use Rattle.area.specs.Tables.{lastSlot, cutSlot, lowSlot}
+use Rattle.area.specs.Tables.{cutSlot, lowSlot}
 
 -- ---- flags and the lowest places
 
@@ -61,9 +61,9 @@ raised (suc u) w s j = raisedAt (raised u w s j) s j u
 unfoldable pub seenFrom : List ℕ → ℕ → List ℕ
 seenFrom w s = raised 8 (putRow w s 12 (observe (getRow w s 12))) s (getRow w s 10)
 
--- ---- a counted load of location x from s
+-- ---- a counted load from s of the location whose chain begins with h
 
 unfoldable pub loaded : List ℕ → ℕ → ℕ → List ℕ
-loaded w x s =
-    let v = walked 2048 w (cell w (lastSlot x)) s in
+loaded w h s =
+    let v = walked 2048 w h s in
     cond (eqb s 0) v (seenFrom v s)

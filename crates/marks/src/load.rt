@@ -28,11 +28,10 @@ fn see(work: &mut [u16], s: u16)
     }
 }
 
-// A counted load of location x from s.
-pub fn load(work: &mut [u16], x: u16, s: u16)
-    ensures { λ _. ⌜ now (work .exit) ≡ loaded (now (work .entry)) x s ⌝ }
+// A counted load from s of the location whose chain begins with store h.
+pub fn load(work: &mut [u16], h: u16, s: u16)
+    ensures { λ _. ⌜ now (work .exit) ≡ loaded (now (work .entry)) h s ⌝ }
 {
-    let h = area::slot_get(work, area::slots::last(x));
     walk::walk(work, h, s);
     if s == 0 {
         return;

@@ -32,7 +32,7 @@ module _ (ev : ℕ → Event) where
 
   -- ---- the observed stores, as a test
 
-  observes→ : (l q : ℕ) → observes? ev l q ≡ true → Observes ev l q
+  pub observes→ : (l q : ℕ) → observes? ev l q ≡ true → Observes ev l q
   unfolding observes?
   observes→ l q passes =
       let outer = parts (counted ev l && eqb (source ev l) q) _ passes in

@@ -1,122 +1,109 @@
--- A counted load that repeats an earlier one of its stretch, with the same location and source, changes nothing: it
--- forbids and observes what the earlier one does, since the stores that it could forbid were committed before their
--- stretch began. So a program need not walk again.
-use Prim.Native.Nat.{ℕ, suc, _≤_, _<_, max}
+-- A counted load that repeats an earlier one, over the same chain and with the same source, changes nothing: what
+-- stands in the chain before the source is marked already, and the source observed. A store is committed once, so a
+-- location's chain is the same while its head is. So a program need not walk again.
+-- In order: a chain by its head; what stays marked and observed; `Repeats`, and what such a load leaves as it was.
+use Prim.Native.Nat.{ℕ, zero, suc, _≤_, _<_, max}
 use native.Mathlib.Omega.{arith}
-use mathlib.Core.Path.{_≡_, sym, _∙_}
-use mathlib.Core.Bool.{true, false, cond, _&&_, not}
+use mathlib.Core.Path.{_≡_, refl, sym, _∙_, ap}
+use mathlib.Core.Bool.{Bool, true, false, cond, _&&_, _||_, not}
 use mathlib.Core.Logic.{_⊎_, inl, inr, _≢_}
+use mathlib.Core.List.{List, [], _∷_}
 use lib.Dec.{eqb}
-use borrow.Author.Tests.{eqb-true, eqb-false, not-true}
+use borrow.Author.Tests.{eqb-true, eqb-false, ltb-true, lt-ltb, not-true}
 use Rattle.record.specs.declared.events.Event.{Event}
-use Rattle.model.specs.Trace.{thread, location, source, commit?, stretch}
-use Rattle.model.specs.Machine.{counted, commitOf}
+use Rattle.model.specs.Trace.{thread, location, source, commit?, Commit, stretch, commits, place}
+use Rattle.model.specs.Machine.{committed, counted}
+use Rattle.model.specs.Stores.{landsAt, landed}
 use Rattle.model.specs.Rules.{Accepted}
-use Rattle.model.specs.Choice.{Newer, Forbids, Observes, Observed}
+use Rattle.model.specs.Choice.{In}
 use Rattle.model.specs.Clocks.{vc}
-use Rattle.model.specs.Verdict.{forbids?, forbidden?, observed?, closure}
-use Rattle.model.proofs.Searching.{test, same?, less?, parts, or-cases, or-right, same-test}
-use Rattle.model.proofs.Counting.{earlier-stretch, count-skip}
-use Rattle.model.proofs.Roles.{load-no-commit}
-use Rattle.model.proofs.Acceptance.{prefix, counted-crosses, counted-source}
-use Rattle.model.proofs.Committed.{CommitOf, commit-of, commit-found, is-commit-of}
-use Rattle.model.proofs.Closure.{observed→, →observed, clock-in-closure}
-use Rattle.model.proofs.Pairs.{forbids→, →forbidden}
-use Rattle.model.proofs.RulingSteps.{forbidden-step, raises, closure-step, marked?}
+use Rattle.model.specs.Verdict.{forbidden?, observes?, observed?, bad?, closure}
+use Rattle.model.proofs.Searching.{false-true, test, same?, less?, both, parts}
+use Rattle.model.proofs.Counting.{count-mono}
+use Rattle.model.proofs.Acceptance.{prefix, store-not-0}
+use Rattle.model.proofs.Unchanged.{Lacks, landed-once}
+use Rattle.model.proofs.LoadRule.{headOf}
+use Rattle.model.proofs.Effects.{effect}
+use Rattle.model.proofs.Closure.{observes→, observed→, →observed, clock-in-closure}
+use Rattle.model.proofs.Pairs.{forbidden→, →forbidden}
+use Rattle.model.proofs.RulingSteps.{observed-step, raises, closure-step, marked?, marked-over}
+use Rattle.model.proofs.RulingSteps.{hit→, →hit, hit-is-bad, bad-has-hit}
+use Rattle.model.proofs.ChainOrder.{passed, load-marks}
 
 module _ (ev : ℕ → Event) where
-  -- the counted loads l and n of one stretch have the same location and source
-  pub record Repeats (l n : ℕ) : Type 0 where
-    pub before : l < n
-    pub first : counted ev l ≡ true
-    pub second : counted ev n ≡ true
-    pub there : location ev l ≡ location ev n
-    pub in-stretch : stretch ev l ≡ stretch ev n
-    pub from : source ev l ≡ source ev n
+  -- ---- a chain by its head
 
-  module _ (l n : ℕ) (accepted : Accepted ev (suc n)) (again : Repeats l n) where
-    -- the commit of a store of an earlier stretch is the same for both
-    same-commit : (p e : ℕ) → stretch ev p < stretch ev n → CommitOf ev n p e → commitOf ev l p ≡ e
-    same-commit p e earlier commit =
-        is-commit-of ev l p e
-        (record {
-          inside = earlier-stretch ev e l (omega (arith, commit .in-stretch, again .in-stretch));
-          commits-it = commit .commits-it;
-          in-stretch = commit .in-stretch;
-          by-thread = commit .by-thread;
-          at-place = commit .at-place;
-        })
+  not-its-head : (p : ℕ) (ps : List ℕ) → p ≢ 0 → Lacks ev p ps → headOf ev ps ≢ p
+  not-its-head p [] some lacks is-p = some (sym is-p)
+  not-its-head p (q ∷ qs) some lacks is-p = lacks .0 is-p
 
-    newer-again : (p : ℕ) → Forbids ev n p → Newer ev n p → Newer ev l p
-    newer-again p forbids (inl none) = inl (again .from ∙ none)
-    newer-again p forbids (inr (inl later)) = inr (inl (rw (again .from) later))
-    newer-again p forbids (inr (inr committed-later)) = by-source (same? (source ev n) 0)
-      where
-        s : ℕ
-        s = source ev n
+  pub same-chain :
+      (N m n x : ℕ) → Accepted ev N → m ≤ n → n ≤ N → headOf ev (landed ev m x) ≡ headOf ev (landed ev n x)
+      → landed ev m x ≡ landed ev n x
+  unfolding landed
+  same-chain N m zero x accepted early within same =
+      let none : m ≡ 0 = omega arith in ap (λ (k : ℕ). landed ev k x) none
+  same-chain N m (suc n) x accepted early within same =
+      by-event (same? m (suc n)) (test (landsAt ev x n)) (same-chain N m n x accepted) same
+    where
+      -- the store that event n commits is not in the earlier chain
+      new-head : m ≤ n → landsAt ev x n ≡ true → headOf ev (landed ev m x) ≢ committed ev n
+      new-head before lands =
+          let commits : Commit ev n = record { test = parts (commit? ev n) _ lands .0 } in
+          let store = effect ev N n accepted (omega arith) commits .own .store in
+          not-its-head (committed ev n) (landed ev m x) (store-not-0 ev N accepted store)
+          (landed-once ev N n accepted (omega arith) commits m x before)
 
-        by-source : (s ≡ 0) ⊎ (s ≢ 0) → Newer ev l p
-        by-source (inl none) = inl (again .from ∙ none)
-        by-source (inr some) = inr (inr (rw (again .from) (committed-later .0, in-order)))
-          where
-            s-commit : CommitOf ev n s (commitOf ev n s)
-            s-commit = commit-of ev n s (counted-source ev (suc n) accepted n (omega arith) (again .second) some .kept)
+      by-event :
+          (m ≡ suc n) ⊎ (m ≢ suc n) → (landsAt ev x n ≡ true) ⊎ (landsAt ev x n ≡ false)
+          → (m ≤ n → n ≤ N → headOf ev (landed ev m x) ≡ headOf ev (landed ev n x) → landed ev m x ≡ landed ev n x)
+          → headOf ev (landed ev m x) ≡ headOf ev (landed ev (suc n) x) → landed ev m x ≡ landed ev (suc n) x
+      by-event (inl is-it) lands before same = ap (λ (k : ℕ). landed ev k x) is-it
+      by-event (inr differs) (inr fails) before same =
+          rw fails (before (omega arith) (omega arith) (rw fails at same))
+      by-event (inr differs) (inl lands) before same =
+          absurd (new-head (omega arith) lands (rw lands at same))
 
-            p-commit : CommitOf ev n p (commitOf ev n p)
-            p-commit = commit-found ev n p (λ none. omega (arith, committed-later .1))
+  -- ---- what is marked or observed stays so
 
-            s-earlier : stretch ev s < stretch ev n
-            s-earlier = counted-source ev (suc n) accepted n (omega arith) (again .second) some .earlier
+  pub marked-later : (n m p : ℕ) → n ≤ m → marked? ev n p ≡ true → marked? ev m p ≡ true
+  unfolding marked?
+  marked-later n m p within passes =
+      let both-hold = parts (forbidden? ev n p) _ passes in
+      let (l, inside, forbids) = forbidden→ ev n p (both-hold .0) in
+      let before : place ev p < commits ev n (stretch ev p) (thread ev p) = ltb-true _ _ (both-hold .1) in
+      let more = count-mono ev (commit? ev) n m (stretch ev p) (thread ev p) within in
+      let still : place ev p < commits ev m (stretch ev p) (thread ev p) = omega arith in
+      both _ _ (→forbidden ev m p (l, omega arith, forbids)) (lt-ltb _ _ still)
 
-            in-order : commitOf ev l s < commitOf ev l p
-            in-order =
-                rw (same-commit s (commitOf ev n s) s-earlier s-commit)
-                (rw (same-commit p (commitOf ev n p) (forbids .earlier) p-commit) (committed-later .1))
+  pub observed-later : (n m q : ℕ) → n ≤ m → observed? ev n q ≡ true → observed? ev m q ≡ true
+  observed-later n m q within passes =
+      let (l, inside, observes) = observed→ ev n q passes in →observed ev m q (l, omega arith, observes)
 
-    forbids-again : (p : ℕ) → Forbids ev n p → Forbids ev l p
-    forbids-again p forbids = record {
-      here = again .first;
-      store = forbids .store;
-      to-it = forbids .to-it ∙ sym (again .there);
-      earlier = omega (arith, forbids .earlier, again .in-stretch);
-      newer = newer-again p forbids (forbids .newer);
-    }
+  -- ---- a repeated load
 
-    forbidden-again : (p : ℕ) → forbidden? ev (suc n) p ≡ forbidden? ev n p
-    forbidden-again p =
-        rw (forbidden-step ev n p)
-        (same-test _ _ (λ passes. by-load (or-cases (forbids? ev n p) _ passes)) (or-right (forbids? ev n p) _))
-      where
-        by-load : (forbids? ev n p ≡ true) ⊎ (forbidden? ev n p ≡ true) → forbidden? ev n p ≡ true
-        by-load (inr before) = before
-        by-load (inl now-too) =
-            →forbidden ev n p (l, again .before, forbids-again p (forbids→ ev n p now-too))
+  -- the counted load n finds its source observed, and in its chain before the source marked stores only
+  pub record Repeats (n : ℕ) : Type 0 where
+    pub counts : counted ev n ≡ true
+    pub marked : (p : ℕ) → passed (source ev n) p (landed ev n (location ev n)) ≡ true → marked? ev n p ≡ true
+    pub observed : source ev n ≢ 0 → observed? ev n (source ev n) ≡ true
 
-    -- nothing is marked, observed or taken in that was not before
+  absorbed : (a b : Bool) → (a ≡ true → b ≡ true) → (a || b) ≡ b
+  absorbed true b within = sym (within refl)
+  absorbed false b within = refl
 
+  module _ (n : ℕ) (accepted : Accepted ev (suc n)) (again : Repeats n) where
     pub marked-again : (p : ℕ) → marked? ev (suc n) p ≡ marked? ev n p
-    unfolding marked?
     marked-again p =
-        let no-commit = load-no-commit ev (counted-crosses ev n (again .second) .loads) in
-        let same-commits = count-skip ev (commit? ev) n (stretch ev p) (thread ev p) no-commit in
-        rw (forbidden-again p, same-commits)
-
-    observes-again : (q : ℕ) → Observes ev n q → Observes ev l q
-    observes-again q it = record { here = again .first; from = again .from ∙ it .from; some-store = it .some-store }
+        sym (load-marks ev (suc n) accepted n (omega arith) (again .counts) p) ∙ absorbed _ _ (again .marked p)
 
     pub observed-again : (q : ℕ) → observed? ev (suc n) q ≡ observed? ev n q
-    observed-again q =
-        same-test _ _ (λ passes. by-load (observed→ ev (suc n) q passes)) (λ passes. longer (observed→ ev n q passes))
+    observed-again q = observed-step ev n q ∙ absorbed (observes? ev n q) _ before
       where
-        longer : Observed ev n q → observed? ev (suc n) q ≡ true
-        longer (k, inside, it) = →observed ev (suc n) q (k, omega arith, it)
-
-        by-load : Observed ev (suc n) q → observed? ev n q ≡ true
-        by-load (k, inside, it) = by-equality (same? k n)
-          where
-            by-equality : (k ≡ n) ⊎ (k ≢ n) → observed? ev n q ≡ true
-            by-equality (inr differs) = →observed ev n q (k, omega arith, it)
-            by-equality (inl is-n) = →observed ev n q (l, again .before, observes-again q (rw is-n at it))
+        before : observes? ev n q ≡ true → observed? ev n q ≡ true
+        before passes =
+            let it = observes→ ev n q passes in
+            rw (it .from) at (again .observed (λ none. it .some-store (sym (it .from) ∙ none)))
 
     pub closure-again : (j t : ℕ) → closure ev (suc n) j t ≡ closure ev n j t
     closure-again j t = rw (closure-step ev n j t accepted) (by-test (test (raises ev n j)))
@@ -131,19 +118,35 @@ module _ (ev : ℕ → Event) where
             outer : ((counted ev n && not (eqb (source ev n) 0)) ≡ true) × (eqb (stretch ev (source ev n)) j ≡ true)
             outer = parts (counted ev n && not (eqb (source ev n) 0)) _ passes
 
-            observed : Observed ev n (source ev n)
-            observed =
-                let some = eqb-false (source ev n) 0 (not-true _ (parts (counted ev n) _ (outer .0) .1)) in
-                (l, again .before, record { here = again .first; from = again .from; some-store = some })
+            some-store : source ev n ≢ 0
+            some-store = eqb-false (source ev n) 0 (not-true _ (parts (counted ev n) _ (outer .0) .1))
 
             by-order :
                 (closure ev n j t < vc ev (source ev n) t) ⊎ (vc ev (source ev n) t ≤ closure ev n j t)
                 → max (closure ev n j t) (vc ev (source ev n) t) ≡ closure ev n j t
             by-order (inr covered) = omega arith
             by-order (inl above) =
-                let part = prefix ev (suc n) n accepted (omega (arith, again .before)) (omega arith) in
+                let (l, inside, observes) = observed→ ev n (source ev n) (again .observed some-store) in
+                let part = prefix ev (suc n) n accepted (omega arith) (omega arith) in
                 let in-j : stretch ev (source ev n) ≡ j = eqb-true _ _ (outer .1) in
                 let covered : closure ev n j t < closure ev n j t =
-                rw in-j at (clock-in-closure ev n part (source ev n) t (closure ev n j t) observed above)
+                rw in-j
+                at (clock-in-closure ev n part (source ev n) t (closure ev n j t) (l, inside, observes) above)
                 in
                 absurd (omega arith)
+
+    -- with it there is no pair, if there was none
+    pub no-pair-again : bad? ev n ≡ false → bad? ev (suc n) ≡ false
+    no-pair-again fine = by-test (test (bad? ev (suc n)))
+      where
+        by-test : (bad? ev (suc n) ≡ true) ⊎ (bad? ev (suc n) ≡ false) → bad? ev (suc n) ≡ false
+        by-test (inr still-fine) = still-fine
+        by-test (inl bad) =
+            let (p, hit) = bad-has-hit ev (suc n) accepted bad in
+            let (marked-now, inside-now) = hit→ ev (suc n) accepted p hit in
+            let marked : marked? ev n p ≡ true = sym (marked-again p) ∙ marked-now in
+            let inside : In ev (closure ev n) p =
+            omega (arith, inside-now, closure-again (stretch ev p) (thread ev p))
+            in
+            let part = prefix ev (suc n) n accepted (omega (arith, marked-over ev n p marked .early)) (omega arith) in
+            false-true (sym fine ∙ hit-is-bad ev n part p (→hit ev n part p marked inside))

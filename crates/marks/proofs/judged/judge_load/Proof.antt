@@ -4,6 +4,12 @@ use borrow.Author.Needs.{needs}
 use Rattle.marks.proofs.judged.judge_load.Statement.{statement}
 use Rattle.marks.proofs.judged.judge_load.Tie as tie
 
+last-requires : tie.Need-last-requires
+last-requires c κs = search needs
+
+slot-get-requires : tie.Need-slot-get-requires
+slot-get-requires c κs = search needs
+
 repeats-requires : tie.Need-repeats-requires
 repeats-requires c κs = search needs
 
@@ -11,7 +17,12 @@ same-length : tie.Need-same-length
 same-length c = search needs
 
 returns : tie.Need-returns
-returns c = judged-again _ _ _ _ _ (c .before .repeats .ensures) (c .if1 .taken)
+returns c =
+    let at-repeats = c .before in
+    let at-slot-get = at-repeats .before .before in
+    let at-last = at-slot-get .before in
+    judged-again _ _ _ _ _ _ _
+    (at-last .last .ensures) (at-slot-get .slot-get .ensures) (at-repeats .repeats .ensures) (c .if1 .taken)
 
 load-requires : tie.Need-load-requires
 load-requires c κs = search needs
@@ -33,13 +44,18 @@ returns-2 c =
     let at-load = at-work .before in
     let at-if1 = at-load .before .before in
     let at-repeats = at-if1 .before in
-    judged-steps _ _ _ _ _ (at-repeats .repeats .ensures) _ _ _
+    let at-slot-get = at-repeats .before .before in
+    let at-last = at-slot-get .before in
+    judged-steps _ _ _ _ _ _ _
+    (at-last .last .ensures) (at-slot-get .slot-get .ensures) (at-repeats .repeats .ensures) _ _ _
     (at-if1 .if1 .left) (at-load .load .ensures) (at-note .note .ensures) (c .hits .ensures)
 
 pub judge-load-spec : {M : Type 1} → statement M
 judge-load-spec =
     tie.close
     (tie.spec
+    last-requires
+    slot-get-requires
     repeats-requires
     same-length
     returns

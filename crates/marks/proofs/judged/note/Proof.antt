@@ -7,8 +7,8 @@ use Rattle.marks.proofs.judged.note.Tie as tie
 returns : tie.Need-returns
 returns c = not-noted _ _ _ _ (c .if1 .taken)
 
-load-stretch-requires : tie.Need-load-stretch-requires
-load-stretch-requires c κs = search needs
+load-last-requires : tie.Need-load-last-requires
+load-last-requires c κs = search needs
 
 slot-put-requires : tie.Need-slot-put-requires
 slot-put-requires c κs = search needs
@@ -28,10 +28,10 @@ returns-2 c =
     let at-load-source = at-slot-put2 .before in
     let at-work = at-load-source .before .before .before in
     let at-slot-put = at-work .before in
-    let at-load-stretch = at-slot-put .before in
-    let at-if1 = at-load-stretch .before .before in
+    let at-load-last = at-slot-put .before in
+    let at-if1 = at-load-last .before .before in
     noted-steps _ _ _ _ _ _ _ _
-    (at-if1 .if1 .left) (at-load-stretch .load-stretch .ensures) (at-slot-put .slot-put .ensures)
+    (at-if1 .if1 .left) (at-load-last .load-last .ensures) (at-slot-put .slot-put .ensures)
     (at-load-source .load-source .ensures) (at-slot-put2 .slot-put2 .ensures)
 
 pub note-spec : {M : Type 1} → statement M
@@ -39,7 +39,7 @@ note-spec =
     tie.close
     (tie.spec
     returns
-    load-stretch-requires
+    load-last-requires
     slot-put-requires
     load-source-requires
     slot-put-requires-2

@@ -4,12 +4,6 @@ use borrow.Author.Needs.{needs}
 use Rattle.marks.proofs.load.load.Statement.{statement}
 use Rattle.marks.proofs.load.load.Tie as tie
 
-last-requires : tie.Need-last-requires
-last-requires c κs = search needs
-
-slot-get-requires : tie.Need-slot-get-requires
-slot-get-requires c κs = search needs
-
 walk-requires : tie.Need-walk-requires
 walk-requires c κs = search needs
 
@@ -19,10 +13,7 @@ same-length c = search needs
 returns : tie.Need-returns
 returns c =
     let at-walk = c .before .before .before in
-    let at-slot-get = at-walk .before .before in
-    let at-last = at-slot-get .before in
-    loaded-none _ _ _ _ _ _
-    (c .if1 .taken) (at-last .last .ensures) (at-slot-get .slot-get .ensures) (at-walk .walk .ensures)
+    loaded-none _ _ _ _ (c .if1 .taken) (at-walk .walk .ensures)
 
 see-requires : tie.Need-see-requires
 see-requires c κs = search needs
@@ -35,18 +26,12 @@ returns-2 c =
     let at-see = c .before .before in
     let at-if1 = at-see .before .before in
     let at-walk = at-if1 .before .before .before in
-    let at-slot-get = at-walk .before .before in
-    let at-last = at-slot-get .before in
-    loaded-from _ _ _ _ _ _ _
-    (at-if1 .if1 .left) (at-last .last .ensures) (at-slot-get .slot-get .ensures) (at-walk .walk .ensures)
-    (at-see .see .ensures)
+    loaded-from _ _ _ _ _ (at-if1 .if1 .left) (at-walk .walk .ensures) (at-see .see .ensures)
 
 pub load-spec : {M : Type 1} → statement M
 load-spec =
     tie.close
     (tie.spec
-    last-requires
-    slot-get-requires
     walk-requires
     same-length
     returns
