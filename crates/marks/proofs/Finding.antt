@@ -6,24 +6,23 @@ use mathlib.Core.Path.{_≡_, refl, sym, _∙_, ap}
 use mathlib.Core.Bool.{Bool, true, false, _&&_}
 use mathlib.Core.Logic.{_⊎_, inl, inr, _≢_}
 use mathlib.Core.List.{List}
-use lib.Dec.{eqb, leb}
+use lib.Dec.{eqb}
 use borrow.Author.Tests.{eqb-true, eq-eqb, ltb-true, lt-ltb, leb-true, le-leb}
 use Rattle.record.specs.declared.events.Event.{Event}
 use Rattle.model.specs.Search.{bit, first, firstFrom}
 use Rattle.model.specs.Trace.{thread, stretch, place}
 use Rattle.model.specs.Rules.{Accepted}
 use Rattle.model.specs.Clocks.{vc}
-use Rattle.model.specs.Verdict.{forbidden?, observed?, pair?, missing?, bad?, closure, missingOf, observedOf}
+use Rattle.model.specs.Verdict.{forbidden?, observed?, pair?, missing?, bad?, missingOf, observedOf}
 use Rattle.model.proofs.Searching.{false-true, same?, both, parts, same-test, first-is}
 use Rattle.model.proofs.Closure.{observed→, observed-is-kept}
 use Rattle.model.proofs.RulingSteps.{hit?, hit→, →hit, hit-is-missing, marked?}
-use Rattle.area.specs.Cells.{getRow, cell}
-use Rattle.area.specs.Tables.{cutSlot}
+use Rattle.area.specs.Cells.{getRow}
 use Rattle.area.specs.Rows.{StoreRow, Rows}
 use Rattle.area.proofs.ReadBack.{row-zero}
 use Rattle.marks.specs.Marking.{ownIn}
-use Rattle.marks.specs.Testing.{isForbidden, isObserved, missingIn, observedIn, missingBy, observedBy}
-use Rattle.marks.proofs.Says.{Fit, own-is}
+use Rattle.marks.specs.Testing.{inCut, isForbidden, isObserved, missingIn, observedIn, missingBy, observedBy}
+use Rattle.marks.proofs.Says.{Fit, own-is, in-cut→, →in-cut}
 use Rattle.marks.proofs.Stepping.{Judging}
 use Rattle.marks.proofs.Breaking.{marked-fits}
 
@@ -64,42 +63,25 @@ module _
 
   -- ---- missing
 
-  -- the slot that a store is compared with
-  cut-is :
-      (p : ℕ) → Fit ev N p
-      → cell w (cutSlot (getRow w p 10) (getRow w p 8)) ≡ closure ev N (stretch ev p) (thread ev p)
-  cut-is p fit =
-      let row = rows .stores p (fit .early) (fit .store) in
-      rw (row .stretch-is, row .thread-is)
-      (judging .cuts (stretch ev p) (thread ev p) (fit .stretch-from-1) (fit .stretch-to-7) (fit .thread-below-8))
-
   missing-is-hit : (p : ℕ) → p ≤ 2048 → missingIn w p ≡ hit? ev N p
   missing-is-hit p to-2048 =
       same-test _ _ (λ passes. to-hit (same? p 0) (parts (isForbidden (getRow w p 12)) _ passes)) from-hit
     where
-      own : ℕ
-      own = ownIn w p
-
-      cut : ℕ
-      cut = cell w (cutSlot (getRow w p 10) (getRow w p 8))
-
       to-hit :
-          (p ≡ 0) ⊎ (p ≢ 0) → (isForbidden (getRow w p 12) ≡ true) × (leb own cut ≡ true) → hit? ev N p ≡ true
-      to-hit (inl is-0) (forbidden, below) =
+          (p ≡ 0) ⊎ (p ≢ 0) → (isForbidden (getRow w p 12) ≡ true) × (inCut w p ≡ true) → hit? ev N p ≡ true
+      to-hit (inl is-0) (forbidden, in-cut) =
           let no-flag : getRow w p 12 ≡ 0 = ap (λ (e : ℕ). getRow w e 12) is-0 ∙ row-zero w 12 in
           false-true (sym (ap isForbidden no-flag) ∙ forbidden)
-      to-hit (inr some) (forbidden, below) =
+      to-hit (inr some) (forbidden, in-cut) =
           let marked : marked? ev N p ≡ true = sym (flag-forbidden p (omega arith) to-2048) ∙ forbidden in
-          let fit = marked-fits ev N accepted p marked in
-          let in-cut : own ≤ cut = leb-true own cut below in
-          →hit ev N accepted p marked (omega (arith, own-is ev N w rows p fit, cut-is p fit))
+          →hit ev N accepted p marked (in-cut→ ev N w rows p (marked-fits ev N accepted p marked) judging in-cut)
 
       from-hit : hit? ev N p ≡ true → missingIn w p ≡ true
       from-hit hit =
           let (marked, inside) = hit→ ev N accepted p hit in
           let fit = marked-fits ev N accepted p marked in
           both _ _ (flag-forbidden p (fit .from-1) (fit .to-2048) ∙ marked)
-          (le-leb own cut (omega (arith, own-is ev N w rows p fit, cut-is p fit)))
+          (→in-cut ev N w rows p fit judging inside)
 
   pub missing-is : missingBy w N ≡ missingOf ev N
   unfolding missingBy missingOf

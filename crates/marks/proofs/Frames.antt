@@ -19,6 +19,7 @@ use Rattle.area.specs.Rows.{Linked, StoreRow, Rows, JudgingSlot, ButJudging}
 use Rattle.area.proofs.ReadBack.{length-put, put-other}
 use Rattle.marks.specs.Marking.{observe, lower, putMark, ownIn, lowIn, marked, walked, raised}
 use Rattle.marks.specs.Marking.{seenFrom, loaded}
+use Rattle.marks.specs.Testing.{cutIn}
 use Rattle.marks.specs.Judged.{lastIn, repeated, noted, judged}
 
 -- ---- the frames
@@ -142,6 +143,22 @@ put-mark-leaves w i v = by-tests (ltb i 256) refl (ltb 367 i) refl
         not-there : (k : ℕ) → k ≡ i → (k < 256) ⊎ (368 ≤ k) → ⊥
         not-there k same (inl low) = omega (arith, ltb-false i 256 is-low)
         not-there k same (inr high) = omega (arith, ltb-false 367 i is-high)
+
+put-mark-other : (w : List ℕ) (i v k : ℕ) → k ≢ i → cell (putMark w i v) k ≡ cell w k
+unfolding putMark
+put-mark-other w i v k differs = by-tests (ltb i 256) (ltb 367 i)
+  where
+    by-tests : (low high : Bool) → cell (cond low w (cond high w (putCell w i v))) k ≡ cell w k
+    by-tests true high = refl
+    by-tests false true = refl
+    by-tests false false = slot-leaves w i v .slots k differs
+
+-- marking a store leaves the cut of its stretch and thread
+pub marked-keeps-cut : (w : List ℕ) (p : ℕ) → cell (marked w p) (cutIn w p) ≡ cell w (cutIn w p)
+unfolding marked
+marked-keeps-cut w p =
+    put-other (putMark w (lowIn w p) _) p 12 _ (suc (cutIn w p)) 13 (λ same-row same-column. omega arith)
+    ∙ put-mark-other w (lowIn w p) _ (cutIn w p) (λ same. omega arith)
 
 pub marked-leaves : (w : List ℕ) (p : ℕ) → ButMarks w (marked w p)
 unfolding marked

@@ -21,8 +21,8 @@ use Rattle.model.specs.Verdict.{forbidden?, observed?, bad?, closure}
 use Rattle.model.specs.Verdict.{missingOf, observedOf, rulingOf}
 use Rattle.model.specs.Answers.{cutOf, shareOf}
 use Rattle.model.proofs.Searching.{false-true, test, same?}
-use Rattle.model.proofs.Counting.{count-skip, stretch-else}
-use Rattle.model.proofs.Roles.{load-no-crash, load-no-issue, load-no-commit}
+use Rattle.model.proofs.Counting.{count-skip}
+use Rattle.model.proofs.Roles.{load-no-issue, load-no-commit}
 use Rattle.model.proofs.Acceptance.{event-bound, counted-crosses}
 use Rattle.model.proofs.Ranges.{load-has-location, location-bound}
 use Rattle.model.proofs.RulingSteps.{marked?, uncounted-no-worse, robust-ruling, broken-ruling}
@@ -32,13 +32,13 @@ use Rattle.area.specs.Cells.{getRow, cell}
 use Rattle.area.specs.Tables.{cutSlot, lowSlot, lastSlot, commitsSlot}
 use Rattle.area.specs.Rows.{Rows, ButMachine}
 use Rattle.marks.specs.Marking.{loaded}
-use Rattle.marks.specs.Testing.{hits, missingBy, observedBy}
+use Rattle.marks.specs.Testing.{loadHits, missingBy, observedBy}
 use Rattle.marks.specs.Judged.{lastIn, repeated, noted, judged, breaks}
 use Rattle.marks.specs.Ending.{copied, shareBy}
 use Rattle.marks.proofs.Frames.{ButMarks, loaded-leaves, judging-leaves, rows-leave}
 use Rattle.marks.proofs.Says.{says-there}
 use Rattle.marks.proofs.Stepping.{Judging, quiet-step, again-step, load-step}
-use Rattle.marks.proofs.Breaking.{hits-is-bad}
+use Rattle.marks.proofs.Breaking.{load-hits-is-bad}
 use Rattle.marks.proofs.Finding.{missing-is, observed-is}
 use Rattle.marks.proofs.Closing.{cut-is, share-is}
 use Rattle.marks.proofs.Noting.{Loads, loads-start, loads-later, last-is-head, repeats-noted}
@@ -203,12 +203,6 @@ module _ (ev : ℕ → Event) where
             let is-head = last-is-head ev n w x (good .rows) x-there in
             rw new (noted-loads ev n accepted counts x-there (loaded w h s) h room is-head kept)
 
-    -- the test on the marks after it
-    hits-after : hits (judged w j x s) j ≡ bad? ev (suc n)
-    hits-after =
-        let same = stretch-else ev n (load-no-crash ev (counted-crosses ev n counts .loads)) in
-        hits-is-bad ev (suc n) accepted (judged w j x s) judged-judging j (omega (arith, same))
-
     -- the answer: with it there is a pair
     breaks-is-bad : breaks w j x s ≡ bad? ev (suc n)
     unfolding breaks
@@ -216,9 +210,10 @@ module _ (ev : ℕ → Event) where
       where
         by-test :
             (repeated w h x s ≡ true) ⊎ (repeated w h x s ≡ false)
-            → (not (repeated w h x s) && hits (judged w j x s) j) ≡ bad? ev (suc n)
+            → (not (repeated w h x s) && loadHits w h s) ≡ bad? ev (suc n)
         by-test (inl again) = rw again (sym (no-pair-again ev n accepted (repeats-it again) (good .no-pair)))
-        by-test (inr new) = rw new hits-after
+        by-test (inr new) =
+            rw new (load-hits-is-bad ev n accepted counts w (good .rows) (good .judging) (good .no-pair))
 
     -- A COUNTED LOAD that does not break keeps the invariant
     pub good-load : breaksThere n w ≡ false → Good (suc n) (afterLoad n w)

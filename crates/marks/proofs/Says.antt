@@ -1,6 +1,7 @@
 -- What the marks say: the flags which stores are forbidden (F) and observed (O), the cut a choice (C), and the lowest
 -- places those of F. Marking a store, and raising the cut, each change one of the three.
--- In order: flags and the lower of two places; a store whose row and slots are there; `Says`; marking a store.
+-- In order: flags and the lower of two places; a store whose row and slots are there; `Says`; a store in the cut, and
+-- marking a store.
 use Prim.Native.Nat.{ℕ, suc, _+_, _*_, _≤_, _<_}
 use native.Mathlib.Omega.{arith}
 use mathlib.Core.Path.{_≡_, refl, sym, _∙_, ap, ap₂}
@@ -8,12 +9,12 @@ use mathlib.Core.Bool.{Bool, true, false, _||_}
 use mathlib.Core.Logic.{_⊎_, inl, inr, _≢_}
 use mathlib.Core.List.{List}
 use lib.Dec.{eqb}
-use borrow.Author.Tests.{eqb-true, eq-eqb, ne-eqb, lt-ltb, le-ltb}
+use borrow.Author.Tests.{eqb-true, eq-eqb, ne-eqb, lt-ltb, le-ltb, leb-true, le-leb}
 use Rattle.record.specs.declared.events.Event.{Event}
 use Rattle.model.specs.Search.{bit}
 use Rattle.model.specs.Trace.{thread, Issue, stretch, place}
 use Rattle.model.specs.Rules.{Accepted}
-use Rattle.model.specs.Choice.{Choice}
+use Rattle.model.specs.Choice.{Choice, In}
 use Rattle.model.proofs.Searching.{same?, less?, or-cases, or-left, or-right, eqb-same}
 use Rattle.model.proofs.ClockSteps.{vc-own}
 use Rattle.model.proofs.Acceptance.{store-not-0, event-bound}
@@ -26,6 +27,7 @@ use Rattle.area.specs.Tables.{cutSlot, lowSlot}
 use Rattle.area.specs.Rows.{StoreRow, Rows}
 use Rattle.area.proofs.ReadBack.{length-put, put-same, put-other}
 use Rattle.marks.specs.Marking.{forbid, observe, lower, putMark, ownIn, marked}
+use Rattle.marks.specs.Testing.{cutIn, inCut}
 
 -- ---- flags, and the lower of two places
 
@@ -159,7 +161,7 @@ module _ (ev : ℕ → Event) where
       same-low : (j t : ℕ) → 1 ≤ j → j ≤ 7 → t < 8 → cell v (lowSlot j t) ≡ cell w (lowSlot j t)
       same-low j t from-1 to-7 there = same-slots (lowSlot j t) (omega arith) (omega arith)
 
-  -- ---- marking a store
+  -- ---- a store in the cut, and marking a store
 
   module _ (n : ℕ) (w : List ℕ) (rows : Rows ev n w) (q : ℕ) (fit : Fit n q) where
     row : StoreRow ev w q
@@ -171,6 +173,23 @@ module _ (ev : ℕ → Event) where
         rw (row .thread-is)
         (row .clock-is (thread ev q) (fit .thread-below-8) ∙ vc-own ev q (thread ev q) (fit .store) refl)
 
+    -- it is in the cut exactly if it is in the choice that the cut says
+    module _ {F O : ℕ → Bool} {C : Choice} (says : Says F O C w) where
+      abbrev cut : ℕ
+      cut = cell w (cutIn w q)
+
+      cut-is : cut ≡ C (stretch ev q) (thread ev q)
+      cut-is =
+          rw (row .stretch-is, row .thread-is)
+          (says .cuts (stretch ev q) (thread ev q) (fit .stretch-from-1) (fit .stretch-to-7) (fit .thread-below-8))
+
+      pub in-cut→ : inCut w q ≡ true → In ev C q
+      in-cut→ passes = let below : ownIn w q ≤ cut = leb-true _ _ passes in omega (arith, own-is, cut-is)
+
+      pub →in-cut : In ev C q → inCut w q ≡ true
+      →in-cut inside = le-leb (ownIn w q) cut (omega (arith, own-is, cut-is))
+
+    -- marking it
     abbrev slot : ℕ
     slot = lowSlot (stretch ev q) (thread ev q)
 

@@ -7,6 +7,7 @@ use mathlib.Core.Path.{_≡_, refl, sym, _∙_}
 use mathlib.Core.Bool.{Bool, true, false, cond, _&&_, _||_, not}
 use mathlib.Core.Logic.{_⊎_, inl, inr, _≢_}
 use mathlib.Core.List.{List, _∷_}
+use lib.ListN.{length}
 use lib.Dec.{eqb}
 use borrow.Author.Tests.{eqb-true, eq-eqb, ne-eqb}
 use Rattle.record.specs.declared.events.Event.{Event}
@@ -24,7 +25,7 @@ use Rattle.model.proofs.Effects.{Effect, effect}
 use Rattle.model.proofs.RulingSteps.{observed-step, closure-step, committed?, marked?, marked-step, Over}
 use Rattle.model.proofs.ChainOrder.{landed-length, chain-earlier, load-marks}
 use Rattle.model.proofs.RepeatedLoads.{Repeats, marked-again, observed-again, closure-again}
-use Rattle.area.specs.Rows.{Rows}
+use Rattle.area.specs.Rows.{Linked, Rows}
 use Rattle.marks.specs.Marking.{walked, seenFrom, loaded}
 use Rattle.marks.specs.Judged.{lastIn}
 use Rattle.marks.proofs.Frames.{within-judging, walked-leaves, rows-leave}
@@ -64,7 +65,7 @@ module _ (ev : ℕ → Event) where
 
     module _ (counts : counted ev n ≡ true) where
       -- each store of the chain of its location has its row and slots
-      all-fit : (m : ℕ) → m ≤ n → AllFit ev n (landed ev m (location ev n))
+      pub all-fit : (m : ℕ) → m ≤ n → AllFit ev n (landed ev m (location ev n))
       unfolding landed
       all-fit zero within = tt
       all-fit (suc m) within = by-test (test (landsAt ev (location ev n) m)) (all-fit m (omega arith))
@@ -131,21 +132,32 @@ module _ (ev : ℕ → Event) where
       keeps-cut none j t there = rw (closure-step ev n j t accepted, counts, eq-eqb (source ev n) 0 none) refl
 
       module _ (w : List ℕ) (rows : Rows ev n w) (judging : Judging n w) where
+        -- the chain has at most 2,048 stores, and the links spell it
+        pub chain-short : length (landed ev n (location ev n)) ≤ 2048
+        chain-short =
+            omega (
+              arith,
+              landed-length ev n (location ev n),
+              event-bound ev (suc n) accepted n (omega arith),
+            )
+
+        pub chain-linked : Linked w (lastIn w (location ev n)) (landed ev n (location ev n))
+        chain-linked =
+            let loads = counted-crosses ev n counts .loads in
+            let there = location-bound ev (suc n) accepted n (omega arith) (load-has-location ev loads) in
+            rows .chains (location ev n) there
+
         abbrev after-walk : List ℕ
         after-walk = walked 2048 w (lastIn w (location ev n)) (source ev n)
 
         walk-marks : Says ev (marked? ev (suc n)) (observed? ev n) (closure ev n) after-walk
         walk-marks =
-            let loads = counted-crosses ev n counts .loads in
-            let there = location-bound ev (suc n) accepted n (omega arith) (load-has-location ev loads) in
-            let few = landed-length ev n (location ev n) in
-            let early = event-bound ev (suc n) accepted n (omega arith) in
             says-same ev (load-marks ev (suc n) accepted n (omega arith) counts) (λ q. refl) (λ j t there. refl)
             (walk-says ev (landed ev n (location ev n)) 2048 n w (lastIn w (location ev n)) (source ev n)
-            (marked? ev n) (observed? ev n) (closure ev n) rows (rows .chains (location ev n) there)
-            (all-fit n (omega arith)) (omega arith) judging)
+            (marked? ev n) (observed? ev n) (closure ev n) rows chain-linked (all-fit n (omega arith)) chain-short
+            judging)
 
-        source-fits : source ev n ≢ 0 → Fit ev n (source ev n)
+        pub source-fits : source ev n ≢ 0 → Fit ev n (source ev n)
         source-fits some =
             let from = counted-source ev (suc n) accepted n (omega arith) counts some in
             fits ev (suc n) n (source ev n) accepted (omega arith)

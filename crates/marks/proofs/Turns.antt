@@ -7,8 +7,9 @@ use native.Mathlib.Numerals.{sub-one, add-one}
 use native.Mathlib.Omega.{arith}
 use mathlib.Core.Path.{_≡_, refl, sym, _∙_, ap}
 use mathlib.Core.List.{List, [], _∷_, _++_}
-use mathlib.Core.Bool.{Bool, true, false}
+use mathlib.Core.Bool.{Bool, true, false, cond, _&&_, _||_, not}
 use lib.ListN.{set}
+use lib.Dec.{eqb, leb}
 use borrow.Author.Tests.{eq-eqb, ne-eqb, lt-ltb, le-ltb}
 use Rattle.model.specs.Search.{some, firstFrom}
 use Rattle.model.specs.Answers.{tabulate, sum, percent}
@@ -17,9 +18,10 @@ use Rattle.area.specs.Cells.{getRow, putRow, cell, putCell}
 use Rattle.area.specs.Tables.{cutSlot, lowSlot, lastSlot, loadLastSlot, loadSourceSlot}
 use Rattle.marks.specs.Marking.{forbid, observe, lower, putMark, marked, walked}
 use Rattle.marks.specs.Marking.{raisedAt, raised, seenFrom, loaded}
-use Rattle.marks.specs.Testing.{hits}
+use Rattle.marks.specs.Testing.{inCut, walkHits, hits, loadHits}
 use Rattle.marks.specs.Judged.{lastIn, repeated, noted, judged, breaks}
 use Rattle.marks.specs.Ending.{cutAt, copied, doneAt}
+use Rattle.marks.proofs.Frames.{marked-keeps-cut}
 
 -- ---- marking and the walk
 
@@ -31,6 +33,13 @@ pub mark-steps :
 unfolding marked
 mark-steps w w₁ w₂ p j t own f i old low f′ j-is t-is own-is f-is i-is old-is low-is put-low f′-is put-flag =
     put-flag ∙ rw (put-low, f′-is, low-is, old-is, own-is, f-is, i-is, t-is, j-is)
+
+pub mark-tests :
+    (w v : List ℕ) (p j t own i cut : ℕ)
+    → j ≡ getRow w p 10 → t ≡ getRow w p 8 → own ≡ getRow w p t → v ≡ marked w p → i ≡ cutSlot j t → cut ≡ cell v i
+    → leb own cut ≡ inCut w p
+mark-tests w v p j t own i cut j-is t-is own-is v-is i-is cut-is =
+    rw (cut-is, i-is, v-is, own-is, t-is, j-is, marked-keeps-cut w p)
 
 pub walk-end : (n : ℕ) (w : List ℕ) (p stop : ℕ) → p ≡ 0 → w ≡ walked n w p stop
 unfolding walked
@@ -52,6 +61,46 @@ walk-more (suc n) w p stop some store not-stop = rw (ne-eqb p 0 store, ne-eqb p 
 pub walk-none : (n : ℕ) (w : List ℕ) (p stop : ℕ) → n ≡ 0 → w ≡ walked n w p stop
 unfolding walked
 walk-none n w p stop none = rw none
+
+-- what has been found on the way, and what is found from here on
+pub hits-end : (n : ℕ) (w : List ℕ) (p stop : ℕ) → p ≡ 0 → walkHits n w p stop ≡ false
+unfolding walkHits
+hits-end zero w p stop end = refl
+hits-end (suc n) w p stop end = rw (eq-eqb p 0 end)
+
+pub hits-turn :
+    (n : ℕ) (w : List ℕ) (p stop : ℕ) → (p ≡ 0 → ⊥)
+    → walkHits (suc n) w p stop ≡ (not (eqb p stop) && (inCut w p || walkHits n (marked w p) (getRow w p 14) stop))
+unfolding walkHits
+hits-turn n w p stop store = rw (ne-eqb p 0 store) (by-test (eqb p stop) _)
+  where
+    by-test : (stops further : Bool) → cond stops false further ≡ (not stops && further)
+    by-test true further = refl
+    by-test false further = refl
+
+pub hits-stop : (n : ℕ) (w : List ℕ) (p stop : ℕ) → (p ≡ 0 → ⊥) → p ≡ stop → walkHits n w p stop ≡ false
+unfolding walkHits
+hits-stop zero w p stop store at-stop = refl
+hits-stop (suc n) w p stop store at-stop = rw (ne-eqb p 0 store, eq-eqb p stop at-stop)
+
+pub hits-none : (n : ℕ) (w : List ℕ) (p stop : ℕ) → n ≡ 0 → walkHits n w p stop ≡ false
+unfolding walkHits
+hits-none n w p stop none = rw none
+
+pub hits-more :
+    (n : ℕ) (w : List ℕ) (p stop : ℕ) (hit : Bool) → 0 < n → (p ≡ 0 → ⊥) → (p ≡ stop → ⊥)
+    → ((hit || inCut w p) || walkHits (n - 1) (marked w p) (getRow w p 14) stop) ≡ (hit || walkHits n w p stop)
+hits-more zero w p stop hit some store not-stop = absurd (not-suc-le-zero some)
+hits-more (suc n) w p stop hit some store not-stop =
+    rw (hits-turn n w p stop store, ne-eqb p stop not-stop, sub-one) (regroup hit (inCut w p) _)
+  where
+    regroup : (a b c : Bool) → ((a || b) || c) ≡ (a || (not false && (b || c)))
+    regroup true b c = refl
+    regroup false b c = refl
+
+pub hits-done : (hit further whole : Bool) → further ≡ false → (hit || further) ≡ whole → hit ≡ whole
+hits-done true further whole none is-whole = is-whole
+hits-done false further whole none is-whole = sym none ∙ is-whole
 
 -- ---- observing
 
@@ -83,6 +132,23 @@ pub loaded-from :
     → (s ≡ 0 → ⊥) → w₁ ≡ walked 2048 w h s → w₂ ≡ seenFrom w₁ s → w₂ ≡ loaded w h s
 unfolding loaded
 loaded-from w w₁ w₂ h s store walk-is seen = rw (ne-eqb s 0 store) (seen ∙ rw walk-is)
+
+pub load-tests-none :
+    (w : List ℕ) (h s : ℕ) (walks : Bool) → s ≡ 0 → walks ≡ walkHits 2048 w h s → walks ≡ loadHits w h s
+unfolding loadHits
+load-tests-none w h s walks none walks-is = rw (eq-eqb s 0 none) (walks-is ∙ or-none _)
+  where
+    or-none : (b : Bool) → b ≡ (b || (not true && hits (loaded w h s) (getRow (loaded w h s) s 10)))
+    or-none true = refl
+    or-none false = refl
+
+pub load-tests-from :
+    (w v : List ℕ) (h s j : ℕ) (walks raises bad : Bool)
+    → (s ≡ 0 → ⊥) → walks ≡ walkHits 2048 w h s → v ≡ loaded w h s → j ≡ getRow v s 10 → raises ≡ hits v j
+    → bad ≡ (walks || raises) → bad ≡ loadHits w h s
+unfolding loadHits
+load-tests-from w v h s j walks raises bad store walks-is v-is j-is raises-is bad-is =
+    rw (ne-eqb s 0 store) (bad-is ∙ rw (raises-is, j-is, v-is, walks-is))
 
 -- ---- the searches
 
@@ -157,10 +223,10 @@ module _
 
   pub judged-steps :
       (w₁ w₂ : List ℕ) (bad : Bool)
-      → again ≡ false → w₁ ≡ loaded w h s → w₂ ≡ noted w₁ h x s → bad ≡ hits w₂ j
+      → again ≡ false → (bad ≡ loadHits w h s) × (w₁ ≡ loaded w h s) → w₂ ≡ noted w₁ h x s
       → (bad ≡ breaks w j x s) × (w₂ ≡ judged w j x s)
   unfolding judged breaks
-  judged-steps w₁ w₂ bad new load-is note-is bad-is =
+  judged-steps w₁ w₂ bad new (bad-is, load-is) note-is =
       rw (← head-is, ← again-is, new, bad-is, note-is, load-is) (refl, refl)
 
 -- ---- the end

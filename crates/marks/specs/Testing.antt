@@ -1,24 +1,46 @@
 -- The test for broken, and the searches for the evidence. A pair is a forbidden store in the cut: missing is the
--- smallest such store, observed the smallest observed store that is it or happens after it.
-use Prim.Native.Nat.{ℕ, _+_, _*_, _-_, min}
-use mathlib.Core.Bool.{Bool, true, cond, _&&_, not}
+-- smallest such store, observed the smallest observed store that is it or happens after it. While there is none, a load
+-- makes one with a store that it forbids, or with one of the stretch whose cut its source raises: the test looks there.
+use Prim.Native.Nat.{ℕ, zero, suc}
+use mathlib.Core.Bool.{Bool, true, false, cond, _&&_, _||_, not}
 use mathlib.Core.List.{List}
 use lib.Dec.{eqb, leb}
 use Rattle.model.specs.Search.{some, first}
 use Rattle.area.specs.Cells.{getRow, cell}
-use Rattle.area.specs.Tables.{cutSlot}
-use Rattle.marks.specs.Marking.{ownIn}
+use Rattle.area.specs.Tables.{cutSlot, lowSlot}
+use Rattle.marks.specs.Marking.{ownIn, marked, loaded}
 
--- place i of the cut buffer, from 0 to 55: a forbidden store of that stretch and thread is in the cut
-abbrev pub hitAt : List ℕ → ℕ → Bool
-hitAt w i = not (eqb (cell w (312 + i)) 0) && leb (cell w (312 + i)) (cell w (256 + i))
+-- ---- the test for broken
 
--- the places of the stretches before stretch j
-abbrev pub placesBefore : ℕ → ℕ
-placesBefore j = min (8 * (j - 1)) 56
+-- the slot of the cut of p's stretch and thread
+abbrev pub cutIn : List ℕ → ℕ → ℕ
+cutIn w p = cutSlot (getRow w p 10) (getRow w p 8)
 
+-- store p is in the cut
+abbrev pub inCut : List ℕ → ℕ → Bool
+inCut w p = leb (ownIn w p) (cell w (cutIn w p))
+
+-- one of the stores that `walked` makes forbidden is in the cut
+unfoldable pub walkHits : ℕ → List ℕ → ℕ → ℕ → Bool
+walkHits zero w h s = false
+walkHits (suc n) w h s =
+    cond (eqb h 0) false (cond (eqb h s) false (inCut w h || walkHits n (marked w h) (getRow w h 14) s))
+
+-- a forbidden store of stretch j and thread t is in the cut
+abbrev pub hitAt : List ℕ → ℕ → ℕ → Bool
+hitAt w j t = not (eqb (cell w (lowSlot j t)) 0) && leb (cell w (lowSlot j t)) (cell w (cutSlot j t))
+
+-- one of stretch j is, of whichever thread
 unfoldable pub hits : List ℕ → ℕ → Bool
-hits w j = some (placesBefore j) (hitAt w)
+hits w j = some 8 (hitAt w j)
+
+-- with a counted load from s of the location whose chain begins with h there is a pair, if there was none
+unfoldable pub loadHits : List ℕ → ℕ → ℕ → Bool
+loadHits w h s =
+    let v = loaded w h s in
+    walkHits 2048 w h s || (not (eqb s 0) && hits v (getRow v s 10))
+
+-- ---- the searches for the evidence
 
 -- the flags 1 and 2, read
 abbrev pub isForbidden : ℕ → Bool
@@ -29,7 +51,7 @@ isObserved f = leb 2 f
 
 -- store p is forbidden and in the cut
 abbrev pub missingIn : List ℕ → ℕ → Bool
-missingIn w p = isForbidden (getRow w p 12) && leb (ownIn w p) (cell w (cutSlot (getRow w p 10) (getRow w p 8)))
+missingIn w p = isForbidden (getRow w p 12) && inCut w p
 
 -- store q is observed, and is m or happens after it
 abbrev pub observedIn : List ℕ → ℕ → ℕ → Bool

@@ -1,4 +1,6 @@
-// Flags of a store's row, 1 forbidden and 2 observed, and stores into the tables of cuts and lowest places.
+// Flags of a store's row, 1 forbidden and 2 observed; two tests joined; stores into the tables of cuts and of lowest
+// places.
+ghost use mathlib.Core.Bool.{_||_};
 ghost use mathlib.Core.Path.{_≡_};
 ghost use Rattle.marks.specs.Marking.{forbid, observe, lower, putMark};
 
@@ -31,6 +33,13 @@ pub fn lower(old: u16, new: u16) -> u16
     } else {
         old
     }
+}
+
+// One of the two tests passes.
+pub fn either(a: bool, b: bool) -> bool
+    ensures { λ r. ⌜ r ≡ (a || b) ⌝ }
+{
+    if a { true } else { b }
 }
 
 // Into slots 256 to 367, and no other: so judging leaves the machine's tables, whatever the rows hold.

@@ -2,7 +2,6 @@
 // there since and with its source, changes nothing, so it does not walk its location's chain again.
 ghost use mathlib.Core.Path.{_≡_};
 ghost use Rattle.marks.specs.Judged.{repeated, noted, judged, breaks};
-use crate::hits;
 use crate::load;
 
 // The load noted at location x has the last store h and the source s.
@@ -29,7 +28,7 @@ fn note(work: &mut [u16], h: u16, x: u16, s: u16)
     area::slot_put(work, area::slots::load_source(x), s);
 }
 
-// A counted load of stretch j and location x from s: whether with it there is a pair.
+// A counted load of stretch j and location x from s: whether with it there is a pair, if there was none.
 pub fn judge_load(work: &mut [u16], j: u16, x: u16, s: u16) -> bool
     ensures { λ r. ⌜ r ≡ breaks (now (work .entry)) j x s ⌝ }
     ensures { λ _. ⌜ now (work .exit) ≡ judged (now (work .entry)) j x s ⌝ }
@@ -38,7 +37,7 @@ pub fn judge_load(work: &mut [u16], j: u16, x: u16, s: u16) -> bool
     if repeats(work, h, x, s) {
         return false;
     }
-    load::load(work, h, s);
+    let bad = load::load(work, h, s);
     note(work, h, x, s);
-    hits::hits(work, j)
+    bad
 }

@@ -1,7 +1,9 @@
 // A counted load: the walk along its location's chain, and the observation of its source.
 ghost use mathlib.Core.Path.{_≡_};
 ghost use Rattle.marks.specs.Marking.{raisedAt, seenFrom, loaded};
+ghost use Rattle.marks.specs.Testing.{loadHits};
 use crate::flags;
+use crate::hits;
 use crate::walk;
 
 // The cut of stretch j and thread u becomes at least store s's clock for u.
@@ -28,13 +30,18 @@ fn see(work: &mut [u16], s: u16)
     }
 }
 
-// A counted load from s of the location whose chain begins with store h.
-pub fn load(work: &mut [u16], h: u16, s: u16)
+// A counted load from s of the location whose chain begins with store h. It answers whether with it there is a pair, if
+// there was none.
+pub fn load(work: &mut [u16], h: u16, s: u16) -> bool
+    ensures { λ r. ⌜ r ≡ loadHits (now (work .entry)) h s ⌝ }
     ensures { λ _. ⌜ now (work .exit) ≡ loaded (now (work .entry)) h s ⌝ }
 {
-    walk::walk(work, h, s);
+    let walk_hits = walk::walk(work, h, s);
     if s == 0 {
-        return;
+        return walk_hits;
     }
     see(work, s);
+    let j = area::row_get(work, s, 10);
+    let source_hits = hits::hits(work, j);
+    flags::either(walk_hits, source_hits)
 }

@@ -4,30 +4,36 @@ use borrow.Author.Needs.{needs}
 use Rattle.marks.proofs.hits.hit_at.Statement.{statement}
 use Rattle.marks.proofs.hits.hit_at.Tie as tie
 
-add-slot-get : tie.Need-add-slot-get
-add-slot-get c = search needs
+low-requires : tie.Need-low-requires
+low-requires c κs = search needs
 
 slot-get-requires : tie.Need-slot-get-requires
 slot-get-requires c κs = search needs
 
-add-slot-get-2 : tie.Need-add-slot-get-2
-add-slot-get-2 c = search needs
+cut-requires : tie.Need-cut-requires
+cut-requires c κs = search needs
 
 slot-get-requires-2 : tie.Need-slot-get-requires-2
 slot-get-requires-2 c κs = search needs
 
 returns : tie.Need-returns
-returns c = simp (← (c .before .before .slot-get .ensures), eq-eqb _ _ (c .if1 .taken))
+returns c =
+    let at-slot-get = c .before .before .before in
+    simp (← (at-slot-get .before .low .ensures), ← (at-slot-get .slot-get .ensures), eq-eqb _ _ (c .if1 .taken))
 
 returns-2 : tie.Need-returns-2
 returns-2 c =
+    let at-slot-get2 = c .before in
+    let at-slot-get = at-slot-get2 .before .before in
     simp (
-      ← (c .before .before .slot-get .ensures),
-      ← (c .before .slot-get2 .ensures),
+      ← (at-slot-get .before .low .ensures),
+      ← (at-slot-get .slot-get .ensures),
+      ← (at-slot-get2 .before .cut .ensures),
+      ← (at-slot-get2 .slot-get2 .ensures),
       ne-eqb _ _ (c .if1 .left),
     )
 
 pub hit-at-spec : {M : Type 1} → statement M
 hit-at-spec =
     tie.close
-    (tie.spec add-slot-get slot-get-requires add-slot-get-2 slot-get-requires-2 returns returns-2)
+    (tie.spec low-requires slot-get-requires cut-requires slot-get-requires-2 returns returns-2)

@@ -1,32 +1,25 @@
--- Invariant: the search over the places below i decides. Measure: i. Assumes nothing.
+-- Invariant: the search over the threads below t decides. Measure: t. Assumes nothing.
 use native.Mathlib.Omega.{arith}
-use mathlib.Core.List.{List}
-use Prim.Native.Nat.{ℕ, _≤_}
-use mathlib.Core.Path.{_≡_, ap, _∙_}
+use Prim.Native.Nat.{_≤_}
+use mathlib.Core.Path.{_≡_, refl, _∙_}
 use Rattle.model.specs.Search.{some}
-use Rattle.marks.specs.Testing.{hitAt, placesBefore, hits}
+use Rattle.marks.specs.Testing.{hitAt, hits}
 use Rattle.marks.proofs.Turns.{some-here, some-on, some-done}
 use borrow.Author.Needs.{needs}
 use Rattle.marks.proofs.hits.hits.Statement.{statement}
 use Rattle.marks.proofs.hits.hits.Tie as tie
 
 abbrev Inv-loop : tie.InvT-loop
-Inv-loop work j i₀ i = (some i (hitAt work) ≡ some (placesBefore j) (hitAt work)) × (i ≤ 56)
+Inv-loop work j t₀ t = (some t (hitAt work j) ≡ some 8 (hitAt work j)) × (t ≤ 8)
 
 abbrev μ-loop : tie.MeasureT-loop
-μ-loop work j i₀ i = i
+μ-loop work j t₀ t = t
 
 loop-holds : tie.Need-loop-holds Inv-loop μ-loop
-loop-holds c =
-    let is = c .places-before .ensures in
-    let work : List ℕ = c .before .before .args .work .now in
-    (ap (λ (n : ℕ). some n (hitAt work)) is, omega (arith, is))
+loop-holds c = (refl, omega arith)
 
-places-before-requires : tie.Need-places-before-requires Inv-loop μ-loop
-places-before-requires c κs = search needs
-
-sub-i : tie.Need-sub-i Inv-loop μ-loop
-sub-i c = search needs
+sub-t : tie.Need-sub-t Inv-loop μ-loop
+sub-t c = search needs
 
 hit-at-requires : tie.Need-hit-at-requires Inv-loop μ-loop
 hit-at-requires c κs = search needs
@@ -57,9 +50,8 @@ hits-spec =
     (tie.spec
     Inv-loop
     μ-loop
-    places-before-requires
     loop-holds
-    sub-i
+    sub-t
     hit-at-requires
     returns
     loop-less

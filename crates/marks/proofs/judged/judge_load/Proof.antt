@@ -30,25 +30,20 @@ load-requires c κs = search needs
 note-requires : tie.Need-note-requires
 note-requires c κs = search needs
 
-hits-requires : tie.Need-hits-requires
-hits-requires c κs = search needs
-
 same-length-2 : tie.Need-same-length-2
 same-length-2 c = search needs
 
 returns-2 : tie.Need-returns-2
 returns-2 c =
-    let at-work2 = c .before .before .before in
-    let at-note = at-work2 .before in
-    let at-work = at-note .before .before .before in
-    let at-load = at-work .before in
+    let at-note = c .before .before in
+    let at-load = at-note .before .before .before .before in
     let at-if1 = at-load .before .before in
     let at-repeats = at-if1 .before in
     let at-slot-get = at-repeats .before .before in
     let at-last = at-slot-get .before in
     judged-steps _ _ _ _ _ _ _
     (at-last .last .ensures) (at-slot-get .slot-get .ensures) (at-repeats .repeats .ensures) _ _ _
-    (at-if1 .if1 .left) (at-load .load .ensures) (at-note .note .ensures) (c .hits .ensures)
+    (at-if1 .if1 .left) (at-load .load .ensures) (at-note .note .ensures)
 
 pub judge-load-spec : {M : Type 1} → statement M
 judge-load-spec =
@@ -61,6 +56,5 @@ judge-load-spec =
     returns
     load-requires
     note-requires
-    hits-requires
     same-length-2
     returns-2)

@@ -1,5 +1,5 @@
 -- The calls in their order are the definition's steps. Assumes nothing.
-use Rattle.marks.proofs.Turns.{mark-steps}
+use Rattle.marks.proofs.Turns.{mark-steps, mark-tests}
 use borrow.Author.Needs.{needs}
 use Rattle.marks.proofs.walk.mark.Statement.{statement}
 use Rattle.marks.proofs.walk.mark.Tie as tie
@@ -34,15 +34,21 @@ forbid-requires c κs = search needs
 row-put-requires : tie.Need-row-put-requires
 row-put-requires c κs = search needs
 
+cut-requires : tie.Need-cut-requires
+cut-requires c κs = search needs
+
+slot-get-requires-2 : tie.Need-slot-get-requires-2
+slot-get-requires-2 c κs = search needs
+
 same-length : tie.Need-same-length
 same-length c = search needs
 
 returns : tie.Need-returns
 returns c =
-    let at-row-put = c .before .before in
+    let at-cut = c .before in
+    let at-row-put = at-cut .before .before .before .before in
     let at-forbid = at-row-put .before in
-    let at-work = at-forbid .before .before .before in
-    let at-put-mark = at-work .before in
+    let at-put-mark = at-forbid .before .before .before .before in
     let at-lower = at-put-mark .before in
     let at-slot-get = at-lower .before .before in
     let at-low = at-slot-get .before .before in
@@ -50,11 +56,18 @@ returns c =
     let at-row-get3 = at-row-get4 .before .before in
     let at-row-get2 = at-row-get3 .before .before in
     let at-row-get = at-row-get2 .before .before in
+    let marked-is =
     mark-steps _ _ _ _ _ _ _ _ _ _ _ _
     (at-row-get .row-get .ensures) (at-row-get2 .row-get2 .ensures) (at-row-get3 .row-get3 .ensures)
     (at-row-get4 .row-get4 .ensures) (at-low .low .ensures)
     (at-slot-get .slot-get .ensures) (at-lower .lower .ensures) (at-put-mark .put-mark .ensures)
     (at-forbid .forbid .ensures) (at-row-put .row-put .ensures)
+    in (
+      mark-tests _ _ _ _ _ _ _ _
+          (at-row-get .row-get .ensures) (at-row-get2 .row-get2 .ensures) (at-row-get3 .row-get3 .ensures) marked-is
+          (at-cut .cut .ensures) (c .slot-get2 .ensures),
+      marked-is,
+    )
 
 pub mark-spec : {M : Type 1} → statement M
 mark-spec =
@@ -70,5 +83,7 @@ mark-spec =
     put-mark-requires
     forbid-requires
     row-put-requires
+    cut-requires
+    slot-get-requires-2
     same-length
     returns)
