@@ -19,7 +19,7 @@ pub(crate) const LOCATIONS: usize = 7;
 
 // A row for each kind, at its number: kind, length, and the offsets in the record of its thread, location and source,
 // then of a begin's version, threads and locations. Offset 0: the kind has no such field. Length 0: no such kind.
-const KINDS: [[u16; 8]; 12] = [
+pub(crate) const KINDS: [[u16; 8]; 12] = [
     [0, 0, 0, 0, 0, 0, 0, 0],
     [1, 8, 0, 0, 0, 4, 6, 8],
     [2, 6, 4, 6, 0, 0, 0, 0],

@@ -2,7 +2,7 @@
 // their bytes, and every other position goes by the table.
 ghost use mathlib.Core.Path.{_≡_};
 ghost use Prim.Native.Nat.{_+_, _≤_};
-ghost use lib.ListN.{length, drop};
+ghost use lib.ListN.{length, getD, drop};
 ghost use Rattle.record.specs.Reading.{readAt};
 ghost use Rattle.record.specs.Scanning.{scanOf, laterLength, laterField, laterFields};
 use crate::bytes::wide;
@@ -10,6 +10,8 @@ use crate::bytes::word_at;
 use crate::events::Fields;
 use crate::events::fields_of;
 use crate::events::kind_of;
+use crate::kinds::KINDS;
+use crate::kinds::LENGTH;
 use crate::reading::Read;
 use crate::reading::step_at;
 
@@ -49,22 +51,28 @@ fn scan_slowly(trace: &[u8], at: usize) -> Scan
     }
 }
 
-// The length of a later record, one that is no begin, by its kind; 0 for a begin and where there is no such kind. By
-// constants: a row of the table would be copied.
+// The length in a row of the table.
+fn length_in(row: [u16; 8]) -> u16
+    ensures { λ r. ⌜ r ≡ getD row 1 0 ⌝ }
+{
+    row[LENGTH]
+}
+
+// The length of a later record, one that is no begin, by its kind; 0 for a begin and where there is no such kind.
 fn length_of(kind: u16) -> u16
     ensures { λ r. ⌜ r ≡ laterLength kind ⌝ }
 {
     match kind {
-        2 => 6,
-        3 => 4,
-        4 => 8,
-        5 => 6,
-        6 => 6,
-        7 => 4,
-        8 => 4,
-        9 => 2,
-        10 => 4,
-        11 => 4,
+        2 => length_in(KINDS[2]),
+        3 => length_in(KINDS[3]),
+        4 => length_in(KINDS[4]),
+        5 => length_in(KINDS[5]),
+        6 => length_in(KINDS[6]),
+        7 => length_in(KINDS[7]),
+        8 => length_in(KINDS[8]),
+        9 => length_in(KINDS[9]),
+        10 => length_in(KINDS[10]),
+        11 => length_in(KINDS[11]),
         _ => 0,
     }
 }
@@ -98,10 +106,10 @@ fn later_fields(trace: &[u8], at: usize, len: u16) -> Fields
 pub fn scan_at(trace: &[u8], at: usize) -> Scan
     ensures { λ r. ⌜ r ≡ scanOf (readAt (now (trace .entry)) at) ⌝ }
 {
-    if trace.len() < 10 {
+    if trace.len() < at {
         return scan_slowly(trace, at);
     }
-    if trace.len() - 10 < at {
+    if trace.len() - at < 10 {
         return scan_slowly(trace, at);
     }
     let len = word_at(trace, at);
