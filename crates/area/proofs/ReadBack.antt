@@ -3,13 +3,14 @@
 use mathlib.Core.Path.{_≡_, refl}
 use mathlib.Core.Bool.{Bool, true, false, cond}
 use mathlib.Core.List.{List}
-use Prim.Native.Nat.{ℕ, suc, _+_, _-_, _*_, _≤_, _<_}
+use Prim.Native.Nat.{ℕ, zero, suc, _+_, _-_, _*_, _≤_, _<_}
 use native.Mathlib.Omega.{arith}
-use borrow.Author.Tests.{eqb-false, ne-eqb, ltb-false, lt-ltb, le-ltb}
-use lib.Dec.{eqb, ltb}
-use lib.ListN.{length, set, getD, length-set}
+use borrow.Author.Tests.{eqb-false, ne-eqb, ltb-false, lt-ltb, le-ltb, leb-true, le-leb}
+use lib.Dec.{eqb, leb, ltb}
+use lib.ListN.{length, set, getD, replicate, length-set}
 use lib.Seq.{getD-set-same, getD-set-other}
-use Rattle.area.specs.Cells.{getRow, putRow, cell, putCell}
+use Rattle.model.proofs.Searching.{false-true}
+use Rattle.area.specs.Cells.{getRow, putRow, hasRow, cell, putCell}
 
 pub length-put : (l : List ℕ) (e k v : ℕ) → length (putRow l e k v) ≡ length l
 unfolding putRow
@@ -23,12 +24,26 @@ length-put l e k v = by-tests (eqb e 0) (ltb 2048 e) (ltb 15 k)
     by-tests false false true = refl
     by-tests false false false = length-set l (16 * (e - 1) + k) v
 
+-- a row that is there
+pub get-there : (l : List ℕ) (e k : ℕ) → 1 ≤ e → e ≤ 2048 → k < 16 → getRow l e k ≡ getD l (16 * (e - 1) + k) 0
+unfolding getRow
+get-there l e k from-one to-last column =
+    rw (ne-eqb e 0 (λ z. omega arith), le-ltb 2048 e to-last, le-ltb 15 k (omega arith)) refl
+
+pub put-there : (l : List ℕ) (e k v : ℕ) → 1 ≤ e → e ≤ 2048 → k < 16 → putRow l e k v ≡ set l (16 * (e - 1) + k) v
+unfolding putRow
+put-there l e k v from-one to-last column =
+    rw (ne-eqb e 0 (λ z. omega arith), le-ltb 2048 e to-last, le-ltb 15 k (omega arith)) refl
+
+pub put-in-row :
+    (l : List ℕ) (e k v : ℕ) → 16 * e ≤ length l → 1 ≤ e → e ≤ 2048 → k < 16 → getRow (putRow l e k v) e k ≡ v
+put-in-row l e k v room from-one to-last column =
+    rw (put-there l e k v from-one to-last column, get-there (set l (16 * (e - 1) + k) v) e k from-one to-last column)
+    (getD-set-same l (16 * (e - 1) + k) v 0 (omega arith))
+
 pub put-same :
     (l : List ℕ) (e k v : ℕ) → 32768 ≤ length l → 1 ≤ e → e ≤ 2048 → k < 16 → getRow (putRow l e k v) e k ≡ v
-unfolding getRow putRow
-put-same l e k v room from-one to-last column =
-    rw (ne-eqb e 0 (λ z. omega arith), le-ltb 2048 e to-last, le-ltb 15 k (omega arith))
-    (getD-set-same l (16 * (e - 1) + k) v 0 (omega arith))
+put-same l e k v room from-one to-last column = put-in-row l e k v (omega arith) from-one to-last column
 
 pub put-other :
     (l : List ℕ) (e k v e′ k′ : ℕ) → (e ≡ e′ → k ≡ k′ → ⊥) → getRow (putRow l e k v) e′ k′ ≡ getRow l e′ k′
@@ -70,3 +85,42 @@ no-slot l i past = rw (ne-eqb (suc i) 0 (λ z. omega arith), lt-ltb 2048 (suc i)
 pub put-no-slot : (l : List ℕ) (i v : ℕ) → 2048 ≤ i → putCell l i v ≡ l
 unfolding putRow
 put-no-slot l i v past = rw (ne-eqb (suc i) 0 (λ z. omega arith), lt-ltb 2048 (suc i) (omega arith))
+
+-- what `hasRow` says, and what it needs
+pub has-row→ : (l : List ℕ) (e : ℕ) → hasRow l e ≡ true → (1 ≤ e) × (e ≤ 2048) × (16 * e ≤ length l)
+unfolding hasRow
+has-row→ l e = by-tests (eqb e 0) refl (ltb 2048 e) refl
+  where
+    by-tests :
+        (none : Bool) → eqb e 0 ≡ none → (high : Bool) → ltb 2048 e ≡ high
+        → cond none false (cond high false (leb (16 * e) (length l))) ≡ true
+        → (1 ≤ e) × (e ≤ 2048) × (16 * e ≤ length l)
+    by-tests true p high q has = absurd (false-true has)
+    by-tests false p true q has = absurd (false-true has)
+    by-tests false p false q has =
+        let some = eqb-false e 0 p in
+        let low = ltb-false 2048 e q in
+        (omega arith, omega arith, leb-true _ _ has)
+
+pub →has-row : (l : List ℕ) (e : ℕ) → 1 ≤ e → e ≤ 2048 → 16 * e ≤ length l → hasRow l e ≡ true
+unfolding hasRow
+→has-row l e from-one to-last room =
+    rw (ne-eqb e 0 (λ z. omega arith), le-ltb 2048 e to-last) (le-leb (16 * e) (length l) room)
+
+replicate-at : (n i : ℕ) → _≡_ {A = ℕ} (getD (replicate n 0) i 0) 0
+replicate-at zero i = refl
+replicate-at (suc n) zero = refl
+replicate-at (suc n) (suc i) = replicate-at n i
+
+-- every cell of a cleared list is 0
+pub cleared-cell : (n e k : ℕ) → getRow (replicate n 0) e k ≡ 0
+unfolding getRow
+cleared-cell n e k = by-tests (eqb e 0) (ltb 2048 e) (ltb 15 k)
+  where
+    by-tests :
+        (none high wide : Bool)
+        → _≡_ {A = ℕ} (cond none 0 (cond high 0 (cond wide 0 (getD (replicate n 0) (16 * (e - 1) + k) 0)))) 0
+    by-tests true high wide = refl
+    by-tests false true wide = refl
+    by-tests false false true = refl
+    by-tests false false false = replicate-at n (16 * (e - 1) + k)

@@ -19,10 +19,6 @@ lowSlot j t = 304 + (8 * j + t)
 abbrev pub commitsSlot : ℕ → ℕ → ℕ
 commitsSlot j t = 360 + (8 * j + t)
 
--- how many of u's first stores of the stretch thread t has seen by loads: slots 432 to 495
-abbrev pub seenSlot : ℕ → ℕ → ℕ
-seenSlot t u = 432 + (8 * t + u)
-
 -- of the last counted load at location x, the last store committed there before it: slots 496 to 751; its source:
 -- slots 752 to 1,007
 abbrev pub loadLastSlot : ℕ → ℕ

@@ -1,8 +1,9 @@
 // The lent work area as rows and tables. Reads and stores are total: a cell that is not there reads as 0 and takes no
 // store, so callers owe no bound, and the numbers from 32,768 on are never touched.
 ghost use mathlib.Core.Path.{_≡_};
-ghost use lib.ListN.{getD, set};
-ghost use Rattle.area.specs.Cells.{getRow, putRow, cell, putCell};
+ghost use Prim.Native.Nat.{suc};
+ghost use lib.ListN.{getD, set, length, replicate};
+ghost use Rattle.area.specs.Cells.{getRow, putRow, hasRow, cell, putCell};
 ghost use Rattle.area.specs.Tables.{newestRow};
 
 pub mod numbers;
@@ -20,6 +21,30 @@ pub fn put(work: &mut [u16], i: usize, v: u16)
     if i < work.len() {
         work[i] = v;
     }
+}
+
+// All numbers become 0.
+pub fn clear(numbers: &mut [u16])
+    ensures { λ _. ⌜ now (numbers .exit) ≡ replicate (length (now (numbers .entry))) 0 ⌝ }
+{
+    let mut i: usize = 0;
+    while i < numbers.len() {
+        numbers[i] = 0;
+        i += 1;
+    }
+}
+
+// Row e is there, whole.
+pub fn has_row(numbers: &[u16], e: usize) -> bool
+    ensures { λ r. ⌜ r ≡ hasRow (now (numbers .entry)) e ⌝ }
+{
+    if e == 0 {
+        return false;
+    }
+    if 2048 < e {
+        return false;
+    }
+    16 * e <= numbers.len()
 }
 
 // Column k of row e.
@@ -96,4 +121,17 @@ pub fn newest_put(work: &mut [u16], x: u16, t: u16, v: u16)
     ensures { λ _. ⌜ now (work .exit) ≡ putRow (now (work .entry)) (newestRow x t) 15 v ⌝ }
 {
     at_put(work, 1 + 8 * (x as usize) + (t as usize), 15, v);
+}
+
+// Column k of thread t's row: in a list of such rows alone, thread 0's is the first.
+pub fn thread_get(rows: &[u16], t: u16, k: u16) -> u16
+    ensures { λ r. ⌜ r ≡ getRow (now (rows .entry)) (suc t) k ⌝ }
+{
+    at_get(rows, (t as usize) + 1, k as usize)
+}
+
+pub fn thread_put(rows: &mut [u16], t: u16, k: u16, v: u16)
+    ensures { λ _. ⌜ now (rows .exit) ≡ putRow (now (rows .entry)) (suc t) k v ⌝ }
+{
+    at_put(rows, (t as usize) + 1, k as usize, v);
 }

@@ -1,6 +1,6 @@
 // The numbers of the tables' slots.
 ghost use mathlib.Core.Path.{_≡_};
-ghost use Rattle.area.specs.Tables.{lastSlot, cutSlot, lowSlot, commitsSlot, seenSlot};
+ghost use Rattle.area.specs.Tables.{lastSlot, cutSlot, lowSlot, commitsSlot};
 ghost use Rattle.area.specs.Tables.{loadLastSlot, loadSourceSlot};
 
 // The last store committed at location x.
@@ -29,13 +29,6 @@ pub fn commits(j: u16, t: u16) -> usize
     ensures { λ r. ⌜ r ≡ commitsSlot j t ⌝ }
 {
     360 + (8 * (j as usize) + (t as usize))
-}
-
-// How many of u's first stores of the stretch thread t has seen by loads.
-pub fn seen(t: u16, u: u16) -> usize
-    ensures { λ r. ⌜ r ≡ seenSlot t u ⌝ }
-{
-    432 + (8 * (t as usize) + (u as usize))
 }
 
 // Of the last counted load at location x, the last store committed there before it.

@@ -20,13 +20,12 @@ use Rattle.model.specs.Reading.{events, accepted, readingOf}
 use Rattle.model.specs.Judge.{readingAnswer, readingCut, store?, standing, readingStanding}
 use Rattle.model.proofs.Searching.{test, same?}
 use Rattle.model.proofs.TurnedAway.{accepted-exactly, turned-away-exactly}
-use Rattle.machine.specs.Twin.{world}
 use Rattle.machine.specs.Orders.{storeW, orderW}
 use Rattle.machine.specs.Sim.{Sim}
 use Rattle.machine.proofs.Standings.{store-is, order-is}
 use Rattle.marks.proofs.Good.{good-robust}
 use Rattle.judge.specs.declared.run.Turn.{Turn}
-use Rattle.judge.specs.Runs.{Reached, Turned, AllRead, Ran}
+use Rattle.judge.specs.Runs.{worldOf, Reached, Turned, AllRead, Ran}
 use Rattle.judge.specs.Standings.{standingAfter}
 use Rattle.judge.specs.Verdicts.{kindBy, verdictAfter, cutFrom}
 
@@ -43,26 +42,27 @@ kind-is missing observed = by-test (eqb missing observed)
 module _ (bytes : List ℕ) where
   -- a run is over where a record was turned away, or behind the last
   pub run-ends :
-      (n : ℕ) (t : Turn) (work : List ℕ) → Turned bytes n t work
+      (n : ℕ) (t : Turn) (rows work : List ℕ) → Turned bytes n t rows work
       → (t .refusal ≢ 0) ⊎ (length bytes ≤ t .at) → Ran bytes t work
-  run-ends n t work turned (inl some-number) = record {
+  run-ends n t rows work turned (inl some-number) = record {
     all-read = λ none. absurd (some-number none);
     turned-away = turned .turned-away;
   }
-  run-ends n t work turned (inr past) = record {
+  run-ends n t rows work turned (inr past) = record {
     all-read = λ none. all-read (turned .passes none);
     turned-away = turned .turned-away;
   }
     where
-      all-read : Reached bytes n t work → AllRead bytes (t .machine .event) t work
+      all-read : Reached bytes n t rows work → AllRead bytes (t .event) t work
       all-read reached =
-          let count-is : t .machine .event ≡ n = reached .state .numbers .event-is in
+          let count-is : t .event ≡ n = reached .state .numbers .event-is in
           subst (λ (N : ℕ). AllRead bytes N t work) (sym count-is) (record {
             accepted = record {
               some-record = reached .state .limits .accepted .some-record;
               all-pass = reached .all-pass;
               ends = omega (arith, start-inside bytes n, reached .position);
             };
+            rows = rows;
             state = reached .state;
             loads = reached .loads;
           })
@@ -78,13 +78,13 @@ module _ (bytes : List ℕ) where
         rw (ne-eqb (t .refusal) 0 some-number, is) refl
 
     -- of an accepted trace of N records: 16, or what the rows say
-    module _ (N : ℕ) (sim : Sim (events bytes) N (world (t .machine) work)) where
+    module _ (N : ℕ) (rows : List ℕ) (sim : Sim (events bytes) N (worldOf t rows work)) where
       by-stores :
           (p-store q-store : Bool) → store? (events bytes) N p ≡ p-store → store? (events bytes) N q ≡ q-store
           → answers.orderAnswer
           (p-store gives (q-store gives orderW work p q else Refused 16 0) else Refused 16 0)
           ≡ standing (events bytes) N p q
-      by-stores true true is-p is-q = order-is (events bytes) N (world (t .machine) work) sim p q is-p is-q
+      by-stores true true is-p is-q = order-is (events bytes) N (worldOf t rows work) sim p q is-p is-q
       by-stores true false is-p is-q = rw (is-p, is-q) refl
       by-stores false q-store is-p is-q = rw is-p refl
 
@@ -92,12 +92,13 @@ module _ (bytes : List ℕ) where
         t .refusal ≡ 0 → answers.orderAnswer (standingAfter t work p q) ≡ readingStanding bytes p q (readingOf bytes)
     unfolding standingAfter
     accepted-standing none =
-        let N : ℕ = t .machine .event in
+        let N : ℕ = t .event in
         let is = accepted-exactly bytes N .1 (ran .all-read none .accepted) in
+        let rows = ran .all-read none .rows in
         let sim = ran .all-read none .state in
-        let rows = store-is (events bytes) N (world (t .machine) work) sim in
+        let stores = store-is (events bytes) N (worldOf t rows work) sim in
         rw (eq-eqb (t .refusal) 0 none, is)
-        (by-stores N sim (storeW work p) (storeW work q) (sym (rows p)) (sym (rows q)))
+        (by-stores N rows sim (storeW work p) (storeW work q) (sym (stores p)) (sym (stores q)))
 
     -- THE ANSWER AFTER A RUN IS THE DEFINITIONS'
     pub standing-is : answers.orderAnswer (standingAfter t work p q) ≡ readingStanding bytes p q (readingOf bytes)
@@ -127,7 +128,7 @@ module _ (bytes : List ℕ) where
     -- of an accepted trace: the evidence of the load that broke it, or the marks
     module _ (none : t .refusal ≡ 0) where
       abbrev N : ℕ
-      N = t .machine .event
+      N = t .event
 
       all : AllRead bytes N t work
       all = ran .all-read none

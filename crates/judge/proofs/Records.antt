@@ -4,57 +4,78 @@ use mathlib.Core.Path.{_≡_, refl, sym, ap, _∙_, subst}
 use mathlib.Core.Bool.{Bool, true, false, cond, and-false}
 use mathlib.Core.Logic.{_⊎_, inl, inr, _≢_}
 use mathlib.Core.List.{List}
-use Prim.Native.Nat.{ℕ, suc, _≤_, _<_, _+_, _*_, _-_}
+use Prim.Native.Nat.{ℕ, suc, _≤_, _<_, _-_}
 use native.Mathlib.Omega.{arith}
 use native.Mathlib.Nat.{not-suc-le-zero}
-use borrow.Author.Tests.{ne-eqb, eqb-true, eqb-false}
+use borrow.Author.Tests.{eq-eqb, ne-eqb, eqb-true, eqb-false}
 use lib.Dec.{eqb, ltb}
-use lib.ListN.{length, getD, replicate, length-replicate}
+use lib.ListN.{length, replicate, length-replicate}
 use Rattle.record.specs.declared.events.Event.{Event}
 use Rattle.record.specs.declared.reading.Read.{Read}
 use Rattle.record.specs.declared.reading.Read.the-variants.{Record, Refused}
+use Rattle.record.specs.declared.scanning.Scan.{Scan}
+use Rattle.record.specs.Scanning.{scanOf}
 use Rattle.record.specs.Answers.{Answer, event, refused, readAnswer}
 use Rattle.record.specs.Reading.{readAt}
+use Rattle.record.specs.Tests.{_gives_else_}
 use Rattle.record.specs.Parts.{start}
 use Rattle.record.specs.Events.{kindOf}
 use Rattle.record.specs.Fields.{fieldsOf}
 use Rattle.record.proofs.Frames.{clash, Answers, an-event, a-refusal}
+use Rattle.record.proofs.Scans.{scan-read, scan-refused}
 use Rattle.record.proofs.Starts.{read-at-answers, read-next, read-grows}
 use Rattle.model.specs.Rules.{refusal}
 use Rattle.model.specs.Reading.{eventIn, refusalIn, events, refusalAt, endsAt}
-use Rattle.model.proofs.Searching.{test}
+use Rattle.model.proofs.Searching.{false-true, test}
 use Rattle.model.proofs.TurnedAway.{passed→}
-use Rattle.area.specs.Cells.{getRow}
+use Rattle.area.proofs.ReadBack.{cleared-cell}
 use Rattle.machine.specs.declared.state.Machine.{Machine}
-use Rattle.machine.specs.Twin.{World, world, started}
-use Rattle.machine.specs.Turning.{refusalW, beginRefusal}
+use Rattle.machine.specs.Twin.{State, World, stateOf, world, begun, started}
+use Rattle.machine.specs.Turning.{refusalW, countsW, beginRefusal}
 use Rattle.machine.specs.Effects.{stepW}
+use Rattle.machine.specs.declared.state.Step.{Step}
+use Rattle.machine.specs.Outcomes.{outcome, stepO}
 use Rattle.machine.specs.Sim.{Sim}
-use Rattle.machine.proofs.CellLaws.{replicate-at}
 use Rattle.machine.proofs.Refusals.{refusals, begin-refusals}
+use Rattle.machine.proofs.Taken.{refusal-told, counted-told, after-told}
 use Rattle.machine.proofs.Start.{sim-start}
 use Rattle.judge.specs.declared.run.Turn.{Turn}
+use Rattle.judge.specs.declared.run.Decoded.{Decoded}
+use Rattle.judge.specs.declared.run.Decoded.the-variants as run
 use Rattle.judge.specs.declared.loads.Evidence.{Evidence}
 use Rattle.judge.specs.Judging.{nothing, judgedWork, foundBy, Held}
-use Rattle.judge.specs.Runs.{startedAt, ended, Reached, Turned}
+use Rattle.judge.specs.Runs.{startedAt, ended, decoded, worldOf, Reached, Turned}
 use Rattle.judge.proofs.Judging.{sim-next, held-next, held-first}
 
 -- a turn that ends no run
-abbrev pub going : Machine → Evidence → ℕ → Turn
-going m found at = record { machine = m; found = found; at = at; refusal = 0; event = 0 }
+abbrev pub going : Machine → ℕ → Evidence → ℕ → Turn
+going m e found at = record { machine = m; event = e; found = found; at = at; refusal = 0 }
 
--- every cell of a cleared work area is 0
-cleared-cell : (e k : ℕ) → getRow (replicate 32768 0) e k ≡ 0
-unfolding getRow
-cleared-cell e k = by-tests (eqb e 0) (ltb 2048 e) (ltb 15 k)
+-- ---- a scanned record, decoded
+
+abbrev event? : Decoded → Bool
+event? (run.Event e) = true
+event? (run.Refused k) = false
+
+abbrev scanIn : Scan → Decoded → Scan
+scanIn other (run.Event e) = e
+scanIn other (run.Refused k) = other
+
+-- an event is the scan's, which is no refusal
+pub decoded-event : (r e : Scan) (d : Decoded) → d ≡ decoded r → d ≡ run.Event e → (e ≡ r) × (r .refusal ≡ 0)
+decoded-event r e d is told = by-test (eqb (r .refusal) 0) refl (sym told ∙ is)
   where
-    by-tests :
-        (none high wide : Bool)
-        → _≡_ {A = ℕ} (cond none 0 (cond high 0 (cond wide 0 (getD (replicate 32768 0) (16 * (e - 1) + k) 0)))) 0
-    by-tests true high wide = refl
-    by-tests false true wide = refl
-    by-tests false false true = refl
-    by-tests false false false = replicate-at 32768 0 (16 * (e - 1) + k)
+    by-test :
+        (none : Bool) → eqb (r .refusal) 0 ≡ none
+        → run.Event e ≡ (none gives run.Event r else run.Refused (r .refusal)) → (e ≡ r) × (r .refusal ≡ 0)
+    by-test true none same = (ap (scanIn r) same, eqb-true (r .refusal) 0 none)
+    by-test false none same = false-true (sym (ap event? same))
+
+-- a refusal is the scan's
+pub decoded-refused : (r : Scan) (k : ℕ) (d : Decoded) → d ≡ decoded r → d ≡ run.Refused k → r .refusal ≢ 0
+decoded-refused r k d is told none =
+    let same : run.Refused k ≡ run.Event r = sym told ∙ (is ∙ rw (eq-eqb (r .refusal) 0 none) refl) in
+    false-true (ap event? same)
 
 -- how much of a run is left: nothing where a record was turned away, else one more than the bytes
 abbrev pub left : List ℕ → Turn → ℕ
@@ -106,9 +127,9 @@ module _ (bytes : List ℕ) where
 
     module _ (all-pass : (e : ℕ) → e < n → refusalAt bytes e ≡ 0) (no-end : endsAt bytes n ≡ false) where
       turned-by :
-          (t : Turn) (k next : ℕ) (work : List ℕ) → refusalAt bytes n ≡ k → k ≢ 0
-          → Turned bytes next (ended t k n) work
-      turned-by t k next work is some-number = record {
+          (k next : ℕ) (rows work : List ℕ) → refusalAt bytes n ≡ k → k ≢ 0
+          → Turned bytes next (ended k n) rows work
+      turned-by k next rows work is some-number = record {
         passes = λ none. absurd (some-number none);
         turned-away = λ _. record {
           earlier-pass = all-pass;
@@ -119,25 +140,25 @@ module _ (bytes : List ℕ) where
       }
 
       pub unread-turn :
-          (t : Turn) (k e next : ℕ) (work : List ℕ) → readAt bytes (start bytes n) ≡ refused k e
-          → Turned bytes next (ended t k n) work
-      unread-turn t k e next work is = turned-by t k next work (unread-number k e is) (unread-some k e is)
+          (k e next : ℕ) (rows work : List ℕ) → readAt bytes (start bytes n) ≡ refused k e
+          → Turned bytes next (ended k n) rows work
+      unread-turn k e next rows work is = turned-by k next rows work (unread-number k e is) (unread-some k e is)
 
       pub forbidden-turn :
-          (t : Turn) (k next : ℕ) (work : List ℕ) (x : Event) (past : ℕ)
+          (k next : ℕ) (rows work : List ℕ) (x : Event) (past : ℕ)
           → readAt bytes (start bytes n) ≡ event x past → refusal (events bytes) n ≡ k → k ≢ 0
-          → Turned bytes next (ended t k n) work
-      forbidden-turn t k next work x past is-read is some-number =
-          turned-by t k next work (read-number x past is-read ∙ is) some-number
+          → Turned bytes next (ended k n) rows work
+      forbidden-turn k next rows work x past is-read is some-number =
+          turned-by k next rows work (read-number x past is-read ∙ is) some-number
 
     -- ---- a record that passes
 
     pub passing-turn :
-        (m : Machine) (found : Evidence) (work : List ℕ) (x : Event) (past : ℕ)
+        (m : Machine) (next : ℕ) (found : Evidence) (rows work : List ℕ) (x : Event) (past : ℕ)
         → ((e : ℕ) → e < n → refusalAt bytes e ≡ 0) → readAt bytes (start bytes n) ≡ event x past
-        → refusal (events bytes) n ≡ 0 → Sim (events bytes) (suc n) (world m work)
-        → Held (events bytes) (suc n) found work → Turned bytes (suc n) (going m found past) work
-    passing-turn m found work x past earlier is-read passes state loads = record {
+        → refusal (events bytes) n ≡ 0 → Sim (events bytes) (suc n) (world (stateOf m next rows) work)
+        → Held (events bytes) (suc n) found work → Turned bytes (suc n) (going m next found past) rows work
+    passing-turn m next found rows work x past earlier is-read passes state loads = record {
       passes = λ _. record {
         position = read-next bytes n x past is-read;
         all-pass = last-or-earlier;
@@ -159,29 +180,31 @@ module _ (bytes : List ℕ) where
   none-earlier : (e : ℕ) → e < 0 → refusalAt bytes e ≡ 0
   none-earlier e inside = absurd (not-suc-le-zero inside)
 
-  module _ (t : Turn) (k next : ℕ) (work : List ℕ) where
-    pub first-unread : (e : ℕ) → readAt bytes 0 ≡ refused k e → Turned bytes next (ended t k 0) work
+  module _ (k next : ℕ) (rows work : List ℕ) where
+    pub first-unread : (e : ℕ) → readAt bytes 0 ≡ refused k e → Turned bytes next (ended k 0) rows work
     unfolding start
-    first-unread e is = unread-turn 0 none-earlier refl t k e next work is
+    first-unread e is = unread-turn 0 none-earlier refl k e next rows work is
 
     pub first-forbidden :
         (x : Event) (past : ℕ) → readAt bytes 0 ≡ event x past → beginRefusal x ≡ k → k ≢ 0
-        → Turned bytes next (ended t k 0) work
+        → Turned bytes next (ended k 0) rows work
     unfolding start
     first-forbidden x past is-read is some-number =
-        forbidden-turn 0 none-earlier refl t k next work x past is-read
+        forbidden-turn 0 none-earlier refl k next rows work x past is-read
         (sym (begin-refusals (events bytes)) ∙ (ap beginRefusal (event-is 0 x past is-read) ∙ is)) some-number
 
   pub first-passes :
       (x : Event) (past : ℕ) → readAt bytes 0 ≡ event x past → beginRefusal x ≡ 0
-      → Turned bytes 1 (startedAt (fieldsOf x .threads) (fieldsOf x .locations) past) (replicate 32768 0)
+      → Turned bytes 1 (startedAt (fieldsOf x .threads) (fieldsOf x .locations) past) (replicate 128 0)
+      (replicate 32768 0)
   unfolding start
   first-passes x past is-read is =
-      passing-turn 0 begun nothing (replicate 32768 0) x past none-earlier is-read passes state
-      (held-first (events bytes) begun (replicate 32768 0) cleared-cell state)
+      passing-turn 0 (begun (fieldsOf x .threads) (fieldsOf x .locations)) 1 nothing (replicate 128 0)
+      (replicate 32768 0) x past none-earlier is-read passes state
+      (held-first (events bytes) first (replicate 32768 0) (cleared-cell 32768) state)
     where
-      begun : Machine
-      begun = started (fieldsOf x .threads) (fieldsOf x .locations)
+      first : State
+      first = started (fieldsOf x .threads) (fieldsOf x .locations)
 
       event-0 : events bytes 0 ≡ x
       event-0 = event-is 0 x past is-read
@@ -192,17 +215,17 @@ module _ (bytes : List ℕ) where
       room : 32768 ≤ length {A = ℕ} (replicate 32768 0)
       room = omega (arith, length-replicate {A = ℕ} 32768 0)
 
-      state : Sim (events bytes) 1 (world begun (replicate 32768 0))
-      state = rw (sym event-0) (sim-start (events bytes) passes (replicate 32768 0) room cleared-cell)
+      state : Sim (events bytes) 1 (world first (replicate 32768 0))
+      state = rw (sym event-0) (sim-start (events bytes) passes (replicate 32768 0) room (cleared-cell 32768))
 
   -- ---- a later record
 
-  module _ (n : ℕ) (t : Turn) (work : List ℕ) (reached : Reached bytes n t work) where
+  module _ (n : ℕ) (t : Turn) (rows work : List ℕ) (reached : Reached bytes n t rows work) where
     abbrev at : ℕ
     at = t .at
 
-    abbrev m : Machine
-    m = t .machine
+    abbrev w : World
+    w = worldOf t rows work
 
     read-there : (a : Answer) → readAt bytes at ≡ a → readAt bytes (start bytes n) ≡ a
     read-there a is = ap (readAt bytes) (sym (reached .position)) ∙ is
@@ -217,64 +240,112 @@ module _ (bytes : List ℕ) where
 
     -- the machine turns the event away as the rules do
     rule-is : (x : Event) (past : ℕ) → readAt bytes at ≡ event x past
-        → refusal (events bytes) n ≡ refusalW (world m work) x
+        → refusal (events bytes) n ≡ refusalW w x
     rule-is x past is-read =
-        sym (refusals (events bytes) n (world m work) (reached .state))
-        ∙ ap (refusalW (world m work)) (at-event x past is-read)
+        sym (refusals (events bytes) n w (reached .state))
+        ∙ ap (refusalW w) (at-event x past is-read)
 
-    module _ (inside : at < length bytes) (k next : ℕ) (after : List ℕ) where
-      pub later-unread : (e : ℕ) → readAt bytes at ≡ refused k e → Turned bytes next (ended t k n) after
+    module _ (inside : at < length bytes) (k next : ℕ) (rows' work' : List ℕ) where
+      later-unread : (e : ℕ) → readAt bytes at ≡ refused k e → Turned bytes next (ended k n) rows' work'
       later-unread e is =
-          unread-turn n (reached .all-pass) (still-inside inside) t k e next after (read-there (refused k e) is)
+          unread-turn n (reached .all-pass) (still-inside inside) k e next rows' work' (read-there (refused k e) is)
 
-      pub later-forbidden :
-          (x : Event) (past : ℕ) → readAt bytes at ≡ event x past → refusalW (world m work) x ≡ k → k ≢ 0
-          → Turned bytes next (ended t k n) after
+      later-forbidden :
+          (x : Event) (past : ℕ) → readAt bytes at ≡ event x past → refusalW w x ≡ k → k ≢ 0
+          → Turned bytes next (ended k n) rows' work'
       later-forbidden x past is-read is some-number =
-          forbidden-turn n (reached .all-pass) (still-inside inside) t k next after x past
+          forbidden-turn n (reached .all-pass) (still-inside inside) k next rows' work' x past
           (read-there (event x past) is-read) (rule-is x past is-read ∙ is) some-number
 
-    pub later-passes :
-        (x : Event) (past : ℕ) → readAt bytes at ≡ event x past → refusalW (world m work) x ≡ 0
-        → (m' : Machine) (found' : Evidence) (work' : List ℕ)
-        → found' ≡ foundBy (t .found) m work (kindOf x) (fieldsOf x)
-        → world m' work' ≡ stepW (world m (judgedWork (t .found) m work (kindOf x) (fieldsOf x))) x
-        → Turned bytes (suc n) (going m' found' past) work'
-    later-passes x past is-read is m' found' work' found-is stepped =
-        passing-turn n m' found' work' x past (reached .all-pass) (read-there (event x past) is-read) passes
-        (rw (stepped, sym event-n)
-        (sim-next (events bytes) n m (t .found) work (reached .state) (reached .loads) passes))
-        (rw (found-is, work-is, sym event-n)
-        (held-next (events bytes) n m (t .found) work (reached .state) (reached .loads) passes))
+    -- after the machine's step the turn's state, the rows and the work area `stepped`; then the load is judged
+    later-passes :
+        (x : Event) (past : ℕ) → readAt bytes at ≡ event x past → refusalW w x ≡ 0
+        → (m' : Machine) (e' : ℕ) (counted' : Bool) (found' : Evidence) (rows' stepped work' : List ℕ)
+        → counted' ≡ countsW w x
+        → world (stateOf m' e' rows') stepped ≡ stepW w x
+        → found' ≡ foundBy (t .found) counted' stepped n (fieldsOf x)
+        → work' ≡ judgedWork (t .found) counted' stepped (fieldsOf x)
+        → Turned bytes (suc n) (going m' e' found' past) rows' work'
+    later-passes x past is-read is m' e' counted' found' rows' stepped work' counted-is step-is found-is work-is =
+        passing-turn n m' e' found' rows' work' x past (reached .all-pass) (read-there (event x past) is-read) passes
+        (rw (work-is, counted-is, sym event-n)
+        (subst
+        (λ (v : World). Sim ev (suc n) (world (v .state) (judgedWork (t .found) counts (v .work) (fieldsOf (ev n)))))
+        (sym after-is) (sim-next ev n w (t .found) (reached .state) (reached .loads) passes)))
+        (rw (found-is, work-is, counted-is, sym event-n)
+        (subst
+        (λ (v : World).
+        Held ev (suc n) (foundBy (t .found) counts (v .work) n (fieldsOf (ev n)))
+        (judgedWork (t .found) counts (v .work) (fieldsOf (ev n))))
+        (sym after-is) (held-next ev n w (t .found) (reached .state) (reached .loads) passes)))
       where
-        passes : refusal (events bytes) n ≡ 0
+        ev : ℕ → Event
+        ev = events bytes
+
+        counts : Bool
+        counts = countsW w (ev n)
+
+        passes : refusal ev n ≡ 0
         passes = rule-is x past is-read ∙ is
 
-        event-n : events bytes n ≡ x
+        event-n : ev n ≡ x
         event-n = at-event x past is-read
 
-        work-is : work' ≡ stepW (world m (judgedWork (t .found) m work (kindOf x) (fieldsOf x))) x .work
-        work-is = ap (λ (w : World). w .work) stepped
+        after-is : world (stateOf m' e' rows') stepped ≡ stepW w (ev n)
+        after-is = step-is ∙ ap (stepW w) (sym event-n)
+
+    -- ---- by the record's scan
+
+    module _ (r : Scan) (is : r ≡ scanOf (readAt bytes at)) where
+      pub scanned-unread :
+          r .refusal ≢ 0 → at < length bytes → (next : ℕ) (rows' work' : List ℕ)
+          → Turned bytes next (ended (r .refusal) n) rows' work'
+      scanned-unread some inside next rows' work' =
+          later-unread inside (r .refusal) next rows' work' 0 (scan-refused bytes at r is some)
+
+      -- what the machine's step gave
+      module _ (none : r .refusal ≡ 0) (s : Step) (rows' stepped : List ℕ)
+          (step-is : outcome s rows' stepped ≡ stepO w (r .kind) (r .fields)) where
+        pub scanned-forbidden :
+            s .refusal ≢ 0 → at < length bytes → (next : ℕ) → Turned bytes next (ended (s .refusal) n) rows' stepped
+        scanned-forbidden some inside next =
+            let (x, (read-is, kind-is, fields-are)) = scan-read bytes at r is none in
+            later-forbidden inside (s .refusal) next rows' stepped x (r .next) read-is
+            (refusal-told w x (outcome s rows' stepped) (rw (← kind-is, ← fields-are) step-is)) some
+
+        pub scanned-passes :
+            s .refusal ≡ 0 → (found' : Evidence) (work' : List ℕ)
+            → found' ≡ foundBy (t .found) (s .counted) stepped n (r .fields)
+            → work' ≡ judgedWork (t .found) (s .counted) stepped (r .fields)
+            → Turned bytes (suc n) (going (s .machine) (s .event) found' (r .next)) rows' work'
+        scanned-passes passes found' work' found-is work-is =
+            let (x, (read-is, kind-is, fields-are)) = scan-read bytes at r is none in
+            let told : outcome s rows' stepped ≡ stepO w (kindOf x) (fieldsOf x) = rw (← kind-is, ← fields-are) step-is in
+            later-passes x (r .next) read-is (refusal-told w x (outcome s rows' stepped) told ∙ passes) (s .machine)
+            (s .event) (s .counted) found' rows' stepped work'
+            (counted-told w x (outcome s rows' stepped) told passes)
+            (after-told w x (outcome s rows' stepped) told passes) (rw fields-are at found-is)
+            (rw fields-are at work-is)
 
     -- the machine knows the record's number
-    pub reached-here : Reached bytes (m .event) t work
-    reached-here = subst (λ (e : ℕ). Reached bytes e t work) (sym (reached .state .numbers .event-is)) reached
+    pub reached-here : Reached bytes (t .event) t rows work
+    reached-here = subst (λ (e : ℕ). Reached bytes e t rows work) (sym (reached .state .numbers .event-is)) reached
 
     -- ---- the next record lies further on
 
-    further : (t' : Turn) (work' : List ℕ) → Reached bytes (suc n) t' work' → at < t' .at
-    further t' work' next =
+    further : (t' : Turn) (rows' work' : List ℕ) → Reached bytes (suc n) t' rows' work' → at < t' .at
+    further t' rows' work' next =
         let p = passed→ bytes n (next .all-pass n (omega arith)) in
         omega (arith, reached .position, next .position, read-grows bytes n (p .x) (p .next) (p .is-read))
 
     pub less-left :
-        (t' : Turn) (work' : List ℕ) → at < length bytes → Turned bytes (suc n) t' work'
+        (t' : Turn) (rows' work' : List ℕ) → at < length bytes → Turned bytes (suc n) t' rows' work'
         → left bytes t' < suc (length bytes - at)
-    less-left t' work' inside next = by-refusal (test (eqb (t' .refusal) 0))
+    less-left t' rows' work' inside next = by-refusal (test (eqb (t' .refusal) 0))
       where
         by-refusal :
             (eqb (t' .refusal) 0 ≡ true) ⊎ (eqb (t' .refusal) 0 ≡ false) → left bytes t' < suc (length bytes - at)
         by-refusal (inl none) =
-            let on = further t' work' (next .passes (eqb-true (t' .refusal) 0 none)) in
+            let on = further t' rows' work' (next .passes (eqb-true (t' .refusal) 0 none)) in
             rw none (omega arith)
         by-refusal (inr some) = rw some (omega arith)

@@ -12,9 +12,6 @@ use Rattle.model.specs.Choice.{broken}
 use Rattle.model.specs.Rules.{Accepted}
 use Rattle.model.specs.Verdict.{rulingOf}
 use Rattle.area.specs.Cells.{up}
-use Rattle.machine.specs.declared.state.Machine.{Machine}
-use Rattle.machine.specs.Twin.{world}
-use Rattle.machine.specs.Turning.{countsK}
 use Rattle.marks.specs.Testing.{missingBy, observedBy}
 use Rattle.marks.specs.Judged.{judged, breaks}
 use Rattle.marks.proofs.Good.{Good}
@@ -30,25 +27,19 @@ evidenceAt work load =
     let missing = missingBy work (up load) in
     record { load = load; missing = missing; observed = observedBy work (up load) missing }
 
--- the next event, of kind k with the fields f
-module _ (found : Evidence) (m : Machine) (work : List ℕ) (k : ℕ) (f : Fields) where
-  -- it is a load to judge: it counts, and none before it broke
-  abbrev pub judges : Bool
-  judges = eqb (found .load) 0 && countsK (world m work) k f
+-- event e, with the fields f, is a load to judge: it counts, and none before it broke
+abbrev pub judges : Evidence → Bool → Bool
+judges found counted = counted && eqb (found .load) 0
 
-  abbrev pub afterIt : List ℕ
-  afterIt = judged work (m .stretch) (f .location) (f .source)
+-- the work area after it is judged
+unfoldable pub judgedWork : Evidence → Bool → List ℕ → Fields → List ℕ
+judgedWork found counted work f = judges found counted gives judged work (f .location) (f .source) else work
 
-  abbrev pub breaksIt : Bool
-  breaksIt = breaks work (m .stretch) (f .location) (f .source)
-
-  -- the work area after it is judged
-  unfoldable pub judgedWork : List ℕ
-  judgedWork = judges gives afterIt else work
-
-  -- and what is found then
-  unfoldable pub foundBy : Evidence
-  foundBy = judges gives (breaksIt gives evidenceAt afterIt (m .event) else found) else found
+-- and what is found then
+unfoldable pub foundBy : Evidence → Bool → List ℕ → ℕ → Fields → Evidence
+foundBy found counted work e f =
+    let after = judged work (f .location) (f .source) in
+    judges found counted gives (breaks work (f .location) (f .source) gives evidenceAt after e else found) else found
 
 -- after n events: while nothing is found, the marks say what the definitions say; and what is found is the ruling of
 -- every accepted trace that begins with these events

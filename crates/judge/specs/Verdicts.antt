@@ -20,7 +20,7 @@ brokenBy events f = Broken events (f .load) (f .missing) (f .observed) (kindBy (
 
 unfoldable pub verdictAfter : Turn → List ℕ → Verdict
 verdictAfter t work =
-    let events = t .machine .event - 1 in
+    let events = t .event - 1 in
     eqb (t .refusal) 0 gives
     (eqb (t .found .load) 0 gives Robust events (shareBy work (t .machine .stretch)) else brokenBy events (t .found))
     else

@@ -11,7 +11,6 @@ ghost use Rattle.model.specs.Judge.{readingAnswer, readingCut, judgeOf, cutAfte
 ghost use Rattle.model.specs.Judge.{readingStanding, orderOf, orderWorkAfter, store?};
 ghost use Rattle.model.specs.Demand.{Claims, Stands};
 
-mod clearing;
 mod loads;
 mod run;
 mod standing;
@@ -31,10 +30,10 @@ fn judge_over(trace: &[u8], area: &mut [u16], cut: &mut [u16]) -> Verdict
         ≡ readingCut (now (trace .entry)) (now (cut .entry)) (readingOf (now (trace .entry)))) ⌝ }
     ensures { λ _. ⌜ now (area .exit) ≡ replicate 32768 0 ⌝ }
 {
-    clearing::clear(area);
+    area::clear(area);
     let t = run::run(trace, area);
     let r = verdict::verdict(t, area, cut);
-    clearing::clear(area);
+    area::clear(area);
     r
 }
 
@@ -76,10 +75,10 @@ fn order_over(trace: &[u8], area: &mut [u16], first: u16, second: u16) -> Order
         ≡ readingStanding (now (trace .entry)) first second (readingOf (now (trace .entry)))) ⌝ }
     ensures { λ _. ⌜ now (area .exit) ≡ replicate 32768 0 ⌝ }
 {
-    clearing::clear(area);
+    area::clear(area);
     let t = run::run(trace, area);
     let r = standing::standing(t, area, first, second);
-    clearing::clear(area);
+    area::clear(area);
     r
 }
 

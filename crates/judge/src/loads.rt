@@ -1,7 +1,6 @@
 // Counted loads, judged as they come. The first that breaks the trace leaves its evidence; none after it is judged.
 ghost use mathlib.Core.Path.{_≡_};
 ghost use Rattle.judge.specs.Judging.{evidenceAt, judgedWork, foundBy};
-use machine::Machine;
 use marks::evidence;
 use marks::judged;
 use record::Fields;
@@ -27,25 +26,25 @@ fn evidence_at(work: &[u16], load: u16) -> Evidence
     }
 }
 
-// The next event, which passes, by its kind and fields: what is found with it.
+// Event e, which passes, with the fields f, if it is a counted load: what is found with it.
 pub(crate) fn judge_event(
     found: Evidence,
-    m: Machine,
+    counted: bool,
     work: &mut [u16],
-    kind: u16,
+    e: u16,
     f: Fields,
 ) -> Evidence
-    ensures { λ r. ⌜ r ≡ foundBy found m (now (work .entry)) kind f ⌝ }
-    ensures { λ _. ⌜ now (work .exit) ≡ judgedWork found m (now (work .entry)) kind f ⌝ }
+    ensures { λ r. ⌜ r ≡ foundBy found counted (now (work .entry)) e f ⌝ }
+    ensures { λ _. ⌜ now (work .exit) ≡ judgedWork found counted (now (work .entry)) f ⌝ }
 {
+    if !counted {
+        return found;
+    }
     if found.load != 0 {
         return found;
     }
-    if !machine::counts(m, work, kind, f) {
+    if !judged::judge_load(work, f.location, f.source) {
         return found;
     }
-    if !judged::judge_load(work, m.stretch, f.location, f.source) {
-        return found;
-    }
-    evidence_at(work, m.event)
+    evidence_at(work, e)
 }

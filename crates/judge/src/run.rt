@@ -4,20 +4,21 @@ ghost use Prim.Native.Nat.{suc, _<_};
 ghost use lib.ListN.{length, replicate};
 ghost use Rattle.record.specs.Answers.{readAnswer};
 ghost use Rattle.model.specs.Reading.{refusalIn};
-ghost use Rattle.judge.specs.Runs.{startedAt, ended, Reached, Turned, Ran};
+ghost use Rattle.judge.specs.Runs.{startedAt, ended, decoded, Reached, Turned, Ran};
 use crate::loads;
 use crate::loads::Evidence;
 use machine::Machine;
 use record::Read;
+use record::Scan;
 
-// After a record: the machine's state, what the loads have shown, the position past it, and refusal 0. Or a refusal,
-// with its event number.
+// After a record: the machine's state, the number of the next event, what the loads have shown, the position past the
+// record, and refusal 0. Or a refusal, with its event number.
 pub struct Turn {
     pub machine: Machine,
+    pub event: u16,
     pub found: Evidence,
     pub at: usize,
     pub refusal: u16,
-    pub event: u16,
 }
 
 impl Turn {
@@ -33,20 +34,21 @@ impl Turn {
         };
         Turn {
             machine,
+            event: 1,
             found,
             at,
             refusal: 0,
-            event: 0,
         }
     }
 
-    // The turn that ends the run: the state and the position are as they were.
-    fn refuse(mut self, refusal: u16, event: u16) -> Turn
-        ensures { λ r. ⌜ r ≡ ended self refusal event ⌝ }
+    // The turn that ends the run. Nothing of the state is needed any more.
+    fn refuse(refusal: u16, event: u16) -> Turn
+        ensures { λ r. ⌜ r ≡ ended refusal event ⌝ }
     {
-        self.refusal = refusal;
-        self.event = event;
-        self
+        let mut t = Turn::start(0, 0, 0);
+        t.refusal = refusal;
+        t.event = event;
+        t
     }
 }
 
@@ -60,49 +62,64 @@ fn number_of(r: Read) -> u16
     }
 }
 
+// A scanned record's event, or the number of its refusal.
+pub enum Decoded {
+    Event(Scan),
+    Refused(u16),
+}
+
+fn event_or_refusal(r: Scan) -> Decoded
+    ensures { λ d. ⌜ d ≡ decoded r ⌝ }
+{
+    if r.refusal == 0 {
+        Decoded::Event(r)
+    } else {
+        Decoded::Refused(r.refusal)
+    }
+}
+
 // The first record, over a cleared work area, which it leaves as it is.
 fn begin(trace: &[u8]) -> Turn
-    ensures { λ r. ⌜ Turned (now (trace .entry)) 1 r (replicate 32768 0) ⌝ }
+    ensures { λ r. ⌜ Turned (now (trace .entry)) 1 r (replicate 128 0) (replicate 32768 0) ⌝ }
 {
-    let blank = Turn::start(0, 0, 0);
     let r = record::read_at(trace, 0);
     let Read::Record(e, next) = r else {
-        return blank.refuse(number_of(r), 0);
+        return Turn::refuse(number_of(r), 0);
     };
     let f = record::fields_of(e);
     let k = machine::begin_refusal(record::kind_of(e), f);
     if k != 0 {
-        return blank.refuse(k, 0);
+        return Turn::refuse(k, 0);
     }
     Turn::start(f.threads, f.locations, next)
 }
 
 // The judging step: a record that can't be read ends the judging there with its refusal, as does an event that a rule
-// forbids; any other is judged if it is a counted load, and the machine takes its step.
-fn judge_record(trace: &[u8], t: Turn, work: &mut [u16]) -> Turn
-    requires { ⌜ Reached (now trace) (t .machine .event) t (now work) ⌝ }
+// forbids; any other takes its step, and is judged if it is a counted load.
+fn judge_record(trace: &[u8], t: Turn, rows: &mut [u16], work: &mut [u16]) -> Turn
+    requires { ⌜ Reached (now trace) (t .event) t (now rows) (now work) ⌝ }
     requires { ⌜ t .at < length (now trace) ⌝ }
-    ensures { λ r. ⌜ Turned (now (trace .entry)) (suc (t .machine .event)) r (now (work .exit)) ⌝ }
+    ensures { λ r. ⌜ Turned (now (trace .entry)) (suc (t .event)) r (now (rows .exit)) (now (work .exit)) ⌝ }
 {
-    let m = t.machine;
-    let r = record::read_at(trace, t.at);
-    let Read::Record(e, next) = r else {
-        return t.refuse(number_of(r), m.event);
+    let n = t.event;
+    let r = record::scan_at(trace, t.at);
+    let d = event_or_refusal(r);
+    let Decoded::Event(e) = d else {
+        return Turn::refuse(r.refusal, n);
     };
-    let kind = record::kind_of(e);
-    let f = record::fields_of(e);
-    let k = machine::refusal_of(m, work, kind, f);
-    if k != 0 {
-        return t.refuse(k, m.event);
+    let f = e.fields;
+    let s = machine::step(t.machine, n, rows, work, e.kind, f);
+    if s.refusal != 0 {
+        return Turn::refuse(s.refusal, n);
     }
-    let found = loads::judge_event(t.found, m, work, kind, f);
-    let after = machine::step(m, work, kind, f);
+    let machine = s.machine;
+    let found = loads::judge_event(t.found, s.counted, work, n, f);
     Turn {
-        machine: after,
+        machine,
+        event: s.event,
         found,
-        at: next,
+        at: e.next,
         refusal: 0,
-        event: 0,
     }
 }
 
@@ -113,9 +130,10 @@ pub(crate) fn run(trace: &[u8], work: &mut [u16]) -> Turn
     ensures { λ r. ⌜ Ran (now (trace .entry)) r (now (work .exit)) ⌝ }
 {
     let size: usize = 32768;
+    let mut rows: [u16; 128] = [0; 128];
     let mut t = begin(trace);
     while t.refusal == 0 && t.at < trace.len() {
-        t = judge_record(trace, t, &mut work[..size]);
+        t = judge_record(trace, t, &mut rows, &mut work[..size]);
     }
     t
 }

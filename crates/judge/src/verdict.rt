@@ -49,7 +49,7 @@ pub(crate) fn verdict(t: Turn, work: &[u16], cut: &mut [u16]) -> Verdict
             event: t.event,
         };
     }
-    let events = preceding(t.machine.event);
+    let events = preceding(t.event);
     if t.found.load != 0 {
         return broken(events, t.found);
     }

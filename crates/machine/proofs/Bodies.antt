@@ -1,36 +1,47 @@
 -- The bodies of the two long steps, over plain variables: what their calls give, put together.
 use mathlib.Core.Path.{_≡_, refl}
+use mathlib.Core.Bool.{false}
 use mathlib.Core.List.{List}
 use Prim.Native.Nat.{ℕ}
-use Rattle.area.specs.Cells.{getRow, putRow, cell, putCell}
+use Rattle.area.specs.Cells.{getRow, putRow, cell, putCell, up}
 use Rattle.area.specs.Tables.{newestRow, lastSlot, commitsSlot}
 use Rattle.machine.specs.declared.threads.Thread.{Thread}
 use Rattle.machine.specs.declared.state.Machine.{Machine}
-use Rattle.machine.specs.Threads.{issuedT, committedT}
-use Rattle.machine.specs.Twin.{world, threadAt, withThread}
-use Rattle.machine.specs.Effects.{clocked, issueW, commitW}
+use Rattle.machine.specs.declared.state.Step.{Step}
+use Rattle.machine.specs.Threads.{issuedT, committedT, threadOf, putIssued, putCommitted}
+use Rattle.machine.specs.Twin.{stateOf, world, withRows}
+use Rattle.machine.specs.Effects.{stamped, issueW, commitW}
+use Rattle.machine.specs.Outcomes.{outcome, byRule}
+
+-- an event that passes
+abbrev pub passed : Machine → ℕ → Step
+passed m e = record { machine = m; event = up e; refusal = 0; counted = false }
 
 pub issue-body :
-    (m r : Machine) (l linked with-clock with-thread with-location with-stretch after : List ℕ) (t x : ℕ)
+    (m : Machine) (e : ℕ) (r : Step)
+    (rows rows′ l linked with-seen with-clock with-thread with-location with-stretch after : List ℕ) (t x : ℕ)
     (old new : Thread)
-    → old ≡ threadAt m t
-    → new ≡ issuedT old (m .event)
-    → linked ≡ putRow l (old .newest) 11 (m .event)
-    → with-clock ≡ clocked 8 (m .event) t (new .issued) linked
-    → with-thread ≡ putRow with-clock (m .event) 8 t
-    → with-location ≡ putRow with-thread (m .event) 9 x
-    → with-stretch ≡ putRow with-location (m .event) 10 (m .stretch)
-    → after ≡ putRow with-stretch (newestRow x t) 15 (m .event)
-    → r ≡ withThread m t new
-    → world r after ≡ issueW (world m l) t x
-unfolding issueW issuedT
-issue-body m r l linked with-clock with-thread with-location with-stretch after t x old new
-    old-is new-is links clocks threads locations stretches newest result =
-    rw (result, newest, stretches, locations, threads, clocks, links, new-is, old-is) refl
+    → old ≡ threadOf rows t
+    → new ≡ issuedT old e
+    → linked ≡ putRow l (old .newest) 11 e
+    → with-seen ≡ stamped rows t e linked
+    → with-clock ≡ putRow with-seen e t (new .issued)
+    → with-thread ≡ putRow with-clock e 8 t
+    → with-location ≡ putRow with-thread e 9 x
+    → with-stretch ≡ putRow with-location e 10 (m .stretch)
+    → after ≡ putRow with-stretch (newestRow x t) 15 e
+    → rows′ ≡ putIssued rows t new
+    → r ≡ passed m e
+    → outcome r rows′ after ≡ byRule 0 (world (stateOf m e rows) l) false (issueW (world (stateOf m e rows) l) t x)
+unfolding byRule issueW issuedT withRows
+issue-body m e r rows rows′ l linked with-seen with-clock with-thread with-location with-stretch after t x old new
+    old-is new-is links seen clocks threads locations stretches newest rows-are result =
+    rw (result, rows-are, newest, stretches, locations, threads, clocks, seen, links, new-is, old-is) refl
 
 pub commit-body :
-    (m r : Machine) (l chained headed after : List ℕ) (t : ℕ) (old new : Thread) (x next link last head commits : ℕ)
-    → old ≡ threadAt m t
+    (m : Machine) (e : ℕ) (r : Step) (rows rows′ l chained headed after : List ℕ) (t : ℕ) (old new : Thread)
+    (x next link last head commits : ℕ)
+    → old ≡ threadOf rows t
     → x ≡ getRow l (old .oldest) 9
     → next ≡ getRow l (old .oldest) 11
     → last ≡ lastSlot x
@@ -41,9 +52,25 @@ pub commit-body :
     → headed ≡ putCell chained head (old .oldest)
     → commits ≡ commitsSlot (m .stretch) t
     → after ≡ putCell headed commits (new .committed)
-    → r ≡ withThread m t new
-    → world r after ≡ commitW (world m l) t
-unfolding commitW committedT
-commit-body m r l chained headed after t old new x next link last head commits
-    old-is x-is next-is last-is link-is new-is chains head-is heads commits-is counts result =
-    rw (result, counts, commits-is, heads, head-is, chains, new-is, link-is, last-is, next-is, x-is, old-is) refl
+    → rows′ ≡ putCommitted rows t new
+    → r ≡ passed m e
+    → outcome r rows′ after ≡ byRule 0 (world (stateOf m e rows) l) false (commitW (world (stateOf m e rows) l) t)
+unfolding byRule commitW committedT withRows
+commit-body m e r rows rows′ l chained headed after t old new x next link last head commits
+    old-is x-is next-is last-is link-is new-is chains head-is heads commits-is counts rows-are result =
+    rw (
+      result,
+      rows-are,
+      counts,
+      commits-is,
+      heads,
+      head-is,
+      chains,
+      new-is,
+      link-is,
+      last-is,
+      next-is,
+      x-is,
+      old-is,
+    )
+    refl

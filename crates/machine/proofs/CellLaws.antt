@@ -1,19 +1,22 @@
--- What is read after the loops of specs/Effects.antt, and of the eight threads: each loop leaves its values in its own
--- cells and every other cell as it was.
--- In order: one store; a store's clock; what a thread has seen, joined; what the threads have seen, wiped; the threads.
-use mathlib.Core.Path.{_≡_, refl, sym, ap, _∙_}
+-- What is read after the loops of specs/Effects.antt, and of the threads' rows: each leaves its values in its own cells
+-- and every other cell as it was.
+-- In order: one store; a store's clock; what a thread has seen, joined; a thread's state.
+use mathlib.Core.Path.{_≡_, refl, sym, _∙_}
+use mathlib.Core.Bool.{Bool, true, false, _&&_, not}
 use mathlib.Core.List.{List}
 use mathlib.Core.Logic.{_⊎_, inl, inr, _≢_}
-use Prim.Native.Nat.{ℕ, zero, suc, _+_, _≤_, _<_, max}
+use Prim.Native.Nat.{ℕ, zero, suc, _*_, _≤_, _<_, max}
 use native.Mathlib.Omega.{arith}
 use lib.Dec.{eqb}
-use lib.ListN.{length, getD, replicate}
+use lib.ListN.{length, replicate}
 use Rattle.record.specs.Tests.{_gives_else_}
-use Rattle.model.proofs.Searching.{same?}
-use Rattle.area.specs.Cells.{getRow, putRow, cell, putCell, up}
-use Rattle.area.specs.Tables.{seenSlot}
-use Rattle.area.proofs.ReadBack.{length-put, put-same, put-other}
-use Rattle.machine.specs.Effects.{clocked, joined, wiped}
+use Rattle.model.proofs.Searching.{same?, both}
+use Rattle.area.specs.Cells.{getRow, putRow, hasRow, up}
+use Rattle.area.proofs.ReadBack.{length-put, put-other, put-in-row, →has-row, cleared-cell}
+use Rattle.machine.specs.declared.threads.Thread.{Thread}
+use Rattle.machine.specs.Threads.{fresh, bit, issuedT, committedT, skippedT, threadOf}
+use Rattle.machine.specs.Threads.{putIssued, putCommitted, putSkip}
+use Rattle.machine.specs.Effects.{clocked, stamped, joined, met}
 
 pub up-is : (x : ℕ) → x ≤ 2049 → up x ≡ suc x
 unfolding up
@@ -31,131 +34,288 @@ put-row l e k v e′ k′ differ = put-other l e k v e′ k′ (λ same _. diffe
 
 -- ---- the clock of a store
 
-pub length-clocked : (k e t n : ℕ) (l : List ℕ) → length (clocked k e t n l) ≡ length l
+length-clocked : (k : ℕ) (rows : List ℕ) (t e : ℕ) (l : List ℕ) → length (clocked k rows t e l) ≡ length l
 unfolding clocked
-length-clocked zero e t n l = refl
-length-clocked (suc u) e t n l = length-put (clocked u e t n l) e u _ ∙ length-clocked u e t n l
+length-clocked zero rows t e l = refl
+length-clocked (suc u) rows t e l = length-put (clocked u rows t e l) e u _ ∙ length-clocked u rows t e l
 
-pub clocked-other :
-    (k e t n : ℕ) (l : List ℕ) (e′ k′ : ℕ) → (e ≡ e′ → k ≤ k′) → getRow (clocked k e t n l) e′ k′ ≡ getRow l e′ k′
+clocked-other :
+    (k : ℕ) (rows : List ℕ) (t e : ℕ) (l : List ℕ) (e′ k′ : ℕ) → (e ≡ e′ → k ≤ k′)
+    → getRow (clocked k rows t e l) e′ k′ ≡ getRow l e′ k′
 unfolding clocked
-clocked-other zero e t n l e′ k′ past = refl
-clocked-other (suc u) e t n l e′ k′ past =
-    put-other (clocked u e t n l) e u _ e′ k′ (λ same-row same-column. omega (arith, past same-row))
-    ∙ clocked-other u e t n l e′ k′ (λ same-row. omega (arith, past same-row))
+clocked-other zero rows t e l e′ k′ past = refl
+clocked-other (suc u) rows t e l e′ k′ past =
+    put-other (clocked u rows t e l) e u _ e′ k′ (λ same-row same-column. omega (arith, past same-row))
+    ∙ clocked-other u rows t e l e′ k′ (λ same-row. omega (arith, past same-row))
 
-pub clocked-in :
-    (k e t n : ℕ) (l : List ℕ) (u : ℕ) → 32768 ≤ length l → 1 ≤ e → e ≤ 2048 → k ≤ 8 → u < k
-    → getRow (clocked k e t n l) e u ≡ (eqb u t gives n else cell l (seenSlot t u))
+clocked-in :
+    (k : ℕ) (rows : List ℕ) (t e : ℕ) (l : List ℕ) (u : ℕ) → 16 * e ≤ length l → 1 ≤ e → e ≤ 2048 → k ≤ 8 → u < k
+    → getRow (clocked k rows t e l) e u ≡ getRow rows (suc t) u
 unfolding clocked
-clocked-in zero e t n l u room from-one to-last few below = absurd (omega arith)
-clocked-in (suc i) e t n l u room from-one to-last few below =
-    last-or-earlier (same? u i) (clocked-in i e t n l u room from-one to-last (omega arith))
+clocked-in zero rows t e l u room from-one to-last few below = absurd (omega arith)
+clocked-in (suc i) rows t e l u room from-one to-last few below =
+    last-or-earlier (same? u i) (clocked-in i rows t e l u room from-one to-last (omega arith))
   where
     so-far : List ℕ
-    so-far = clocked i e t n l
+    so-far = clocked i rows t e l
 
     last-or-earlier :
-        (u ≡ i) ⊎ (u ≢ i) → (u < i → getRow so-far e u ≡ (eqb u t gives n else cell l (seenSlot t u)))
-        → getRow (putRow so-far e i (eqb i t gives n else cell so-far (seenSlot t i))) e u
-        ≡ (eqb u t gives n else cell l (seenSlot t u))
+        (u ≡ i) ⊎ (u ≢ i) → (u < i → getRow so-far e u ≡ getRow rows (suc t) u)
+        → getRow (putRow so-far e i (getRow rows (suc t) i)) e u ≡ getRow rows (suc t) u
     last-or-earlier (inl is) earlier =
-        rw is
-        (put-same so-far e i _ (rw (length-clocked i e t n l) room) from-one to-last (omega arith)
-        ∙ ap (λ (v : ℕ). eqb i t gives n else v) (clocked-other i e t n l (suc (seenSlot t i)) 13 (λ _. omega arith)))
+        rw is (put-in-row so-far e i _ (rw (length-clocked i rows t e l) room) from-one to-last (omega arith))
     last-or-earlier (inr differs) earlier =
         put-column so-far e i _ e u (λ same. differs (sym same)) ∙ earlier (omega arith)
 
+module _ (rows : List ℕ) (t e : ℕ) (l : List ℕ) where
+  pub length-stamped : length (stamped rows t e l) ≡ length l
+  unfolding stamped
+  length-stamped = by-test (hasRow rows (suc t) && hasRow l e)
+    where
+      by-test : (there : Bool) → length (there gives clocked 8 rows t e l else l) ≡ length l
+      by-test true = length-clocked 8 rows t e l
+      by-test false = refl
+
+  pub stamped-other : (e′ k′ : ℕ) → (e ≡ e′ → 8 ≤ k′) → getRow (stamped rows t e l) e′ k′ ≡ getRow l e′ k′
+  unfolding stamped
+  stamped-other e′ k′ past = by-test (hasRow rows (suc t) && hasRow l e)
+    where
+      by-test : (there : Bool) → getRow (there gives clocked 8 rows t e l else l) e′ k′ ≡ getRow l e′ k′
+      by-test true = clocked-other 8 rows t e l e′ k′ past
+      by-test false = refl
+
+  pub stamped-in :
+      (u : ℕ) → length rows ≡ 128 → t < 8 → 16 * e ≤ length l → 1 ≤ e → e ≤ 2048 → u < 8
+      → getRow (stamped rows t e l) e u ≡ getRow rows (suc t) u
+  unfolding stamped
+  stamped-in u eight some room from-one to-last few =
+      rw (both _ _ (→has-row rows (suc t) (omega arith) (omega arith) (omega arith))
+      (→has-row l e from-one to-last room))
+      (clocked-in 8 rows t e l u room from-one to-last (omega arith) few)
+
 -- ---- what a thread has seen, joined with a row's clock
 
-pub length-joined : (k t s : ℕ) (l : List ℕ) → length (joined k t s l) ≡ length l
+length-joined : (k : ℕ) (l : List ℕ) (t s : ℕ) (rows : List ℕ) → length (joined k l t s rows) ≡ length rows
 unfolding joined
-length-joined zero t s l = refl
-length-joined (suc u) t s l = length-put (joined u t s l) (suc (seenSlot t u)) 13 _ ∙ length-joined u t s l
+length-joined zero l t s rows = refl
+length-joined (suc u) l t s rows = length-put (joined u l t s rows) (suc t) u _ ∙ length-joined u l t s rows
 
-pub joined-column :
-    (k t s : ℕ) (l : List ℕ) (e′ k′ : ℕ) → k′ ≢ 13 → getRow (joined k t s l) e′ k′ ≡ getRow l e′ k′
+joined-other :
+    (k : ℕ) (l : List ℕ) (t s : ℕ) (rows : List ℕ) (e′ k′ : ℕ) → (suc t ≡ e′ → k ≤ k′)
+    → getRow (joined k l t s rows) e′ k′ ≡ getRow rows e′ k′
 unfolding joined
-joined-column zero t s l e′ k′ differ = refl
-joined-column (suc u) t s l e′ k′ differ =
-    put-column (joined u t s l) (suc (seenSlot t u)) 13 _ e′ k′ (λ same. differ (sym same))
-    ∙ joined-column u t s l e′ k′ differ
+joined-other zero l t s rows e′ k′ past = refl
+joined-other (suc u) l t s rows e′ k′ past =
+    put-other (joined u l t s rows) (suc t) u _ e′ k′ (λ same-row same-column. omega (arith, past same-row))
+    ∙ joined-other u l t s rows e′ k′ (λ same-row. omega (arith, past same-row))
 
-pub joined-other :
-    (k t s : ℕ) (l : List ℕ) (i : ℕ) → ((u : ℕ) → u < k → seenSlot t u ≢ i) → cell (joined k t s l) i ≡ cell l i
+joined-in :
+    (k : ℕ) (l : List ℕ) (t s : ℕ) (rows : List ℕ) (u : ℕ) → length rows ≡ 128 → t < 8 → k ≤ 8 → u < k
+    → getRow (joined k l t s rows) (suc t) u ≡ max (getRow rows (suc t) u) (getRow l s u)
 unfolding joined
-joined-other zero t s l i differ = refl
-joined-other (suc u) t s l i differ =
-    put-row (joined u t s l) (suc (seenSlot t u)) 13 _ (suc i) 13 (λ same. differ u (omega arith) (omega arith))
-    ∙ joined-other u t s l i (λ v below. differ v (omega arith))
-
-pub joined-in :
-    (k t s : ℕ) (l : List ℕ) (u : ℕ) → 32768 ≤ length l → t < 8 → k ≤ 8 → u < k
-    → cell (joined k t s l) (seenSlot t u) ≡ max (cell l (seenSlot t u)) (getRow l s u)
-unfolding joined
-joined-in zero t s l u room some few below = absurd (omega arith)
-joined-in (suc i) t s l u room some few below =
-    last-or-earlier (same? u i) (joined-in i t s l u room some (omega arith))
+joined-in zero l t s rows u eight some few below = absurd (omega arith)
+joined-in (suc i) l t s rows u eight some few below =
+    last-or-earlier (same? u i) (joined-in i l t s rows u eight some (omega arith))
   where
     so-far : List ℕ
-    so-far = joined i t s l
+    so-far = joined i l t s rows
 
     last-or-earlier :
-        (u ≡ i) ⊎ (u ≢ i) → (u < i → cell so-far (seenSlot t u) ≡ max (cell l (seenSlot t u)) (getRow l s u))
-        → cell (putCell so-far (seenSlot t i) (max (cell so-far (seenSlot t i)) (getRow so-far s i))) (seenSlot t u)
-        ≡ max (cell l (seenSlot t u)) (getRow l s u)
+        (u ≡ i) ⊎ (u ≢ i) → (u < i → getRow so-far (suc t) u ≡ max (getRow rows (suc t) u) (getRow l s u))
+        → getRow (putRow so-far (suc t) i (max (getRow so-far (suc t) i) (getRow l s i))) (suc t) u
+        ≡ max (getRow rows (suc t) u) (getRow l s u)
     last-or-earlier (inl is) earlier =
-        let own : cell so-far (seenSlot t i) ≡ cell l (seenSlot t i) =
-        joined-other i t s l (seenSlot t i) (λ v less same. omega arith)
+        let own : getRow so-far (suc t) i ≡ getRow rows (suc t) i =
+        joined-other i l t s rows (suc t) i (λ _. omega arith)
         in
-        let of-row : getRow so-far s i ≡ getRow l s i = joined-column i t s l s i (λ same. omega arith) in
         rw is
-        (put-same so-far (suc (seenSlot t i)) 13 _ (rw (length-joined i t s l) room) (omega arith) (omega arith)
+        (put-in-row so-far (suc t) i _ (omega (arith, length-joined i l t s rows)) (omega arith) (omega arith)
         (omega arith)
-        ∙ rw (own, of-row))
+        ∙ rw own)
     last-or-earlier (inr differs) earlier =
-        put-row so-far (suc (seenSlot t i)) 13 _ (suc (seenSlot t u)) 13 (λ same. differs (omega arith))
-        ∙ earlier (omega arith)
+        put-column so-far (suc t) i _ (suc t) u (λ same. differs (sym same)) ∙ earlier (omega arith)
 
--- ---- what the threads have seen, wiped
+module _ (l : List ℕ) (t s : ℕ) (rows : List ℕ) where
+  pub length-met : length (met l t s rows) ≡ length rows
+  unfolding met
+  length-met = by-test (hasRow rows (suc t) && hasRow l s)
+    where
+      by-test : (there : Bool) → length (there gives joined 8 l t s rows else rows) ≡ length rows
+      by-test true = length-joined 8 l t s rows
+      by-test false = refl
 
-pub length-wiped : (k : ℕ) (l : List ℕ) → length (wiped k l) ≡ length l
-unfolding wiped
-length-wiped zero l = refl
-length-wiped (suc i) l = length-put (wiped i l) (suc (432 + i)) 13 0 ∙ length-wiped i l
+  pub met-other : (e′ k′ : ℕ) → (suc t ≡ e′ → 8 ≤ k′) → getRow (met l t s rows) e′ k′ ≡ getRow rows e′ k′
+  unfolding met
+  met-other e′ k′ past = by-test (hasRow rows (suc t) && hasRow l s)
+    where
+      by-test : (there : Bool) → getRow (there gives joined 8 l t s rows else rows) e′ k′ ≡ getRow rows e′ k′
+      by-test true = joined-other 8 l t s rows e′ k′ past
+      by-test false = refl
 
-pub wiped-column : (k : ℕ) (l : List ℕ) (e′ k′ : ℕ) → k′ ≢ 13 → getRow (wiped k l) e′ k′ ≡ getRow l e′ k′
-unfolding wiped
-wiped-column zero l e′ k′ differ = refl
-wiped-column (suc i) l e′ k′ differ =
-    put-column (wiped i l) (suc (432 + i)) 13 0 e′ k′ (λ same. differ (sym same)) ∙ wiped-column i l e′ k′ differ
+  pub met-in :
+      (u : ℕ) → length rows ≡ 128 → t < 8 → 1 ≤ s → s ≤ 2048 → 16 * s ≤ length l → u < 8
+      → getRow (met l t s rows) (suc t) u ≡ max (getRow rows (suc t) u) (getRow l s u)
+  unfolding met
+  met-in u eight some from-one to-last room few =
+      rw (both _ _ (→has-row rows (suc t) (omega arith) (omega arith) (omega arith))
+      (→has-row l s from-one to-last room))
+      (joined-in 8 l t s rows u eight some (omega arith) few)
 
-pub wiped-other : (k : ℕ) (l : List ℕ) (i : ℕ) → (432 ≤ i → i < 432 + k → ⊥) → cell (wiped k l) i ≡ cell l i
-unfolding wiped
-wiped-other zero l i outside = refl
-wiped-other (suc j) l i outside =
-    put-row (wiped j l) (suc (432 + j)) 13 0 (suc i) 13 (λ same. outside (omega arith) (omega arith))
-    ∙ wiped-other j l i (λ low high. outside low (omega arith))
+-- ---- a thread's state
 
-pub wiped-in : (k : ℕ) (l : List ℕ) (i : ℕ) → 32768 ≤ length l → k ≤ 64 → i < k → cell (wiped k l) (432 + i) ≡ 0
-unfolding wiped
-wiped-in zero l i room few below = absurd (omega arith)
-wiped-in (suc j) l i room few below = last-or-earlier (same? i j) (wiped-in j l i room (omega arith))
-  where
-    last-or-earlier :
-        (i ≡ j) ⊎ (i ≢ j) → (i < j → cell (wiped j l) (432 + i) ≡ 0)
-        → cell (putCell (wiped j l) (432 + j) 0) (432 + i) ≡ 0
-    last-or-earlier (inl is) earlier =
-        rw is
-        (put-same (wiped j l) (suc (432 + j)) 13 0 (rw (length-wiped j l) room) (omega arith) (omega arith)
-        (omega arith))
-    last-or-earlier (inr differs) earlier =
-        put-row (wiped j l) (suc (432 + j)) 13 0 (suc (432 + i)) 13 (λ same. differs (omega arith))
-        ∙ earlier (omega arith)
+bit-back : (b : Bool) → not (eqb (bit b) 0) ≡ b
+bit-back true = refl
+bit-back false = refl
 
--- ---- the threads
+-- rows′ is the rows with thread t's state replaced by s
+pub record Replaced (rows rows′ : List ℕ) (t : ℕ) (s : Thread) : Type 0 where
+  pub size : length rows′ ≡ length rows
+  pub own : threadOf rows′ t ≡ s
+  -- the rows of other threads, and what the thread has seen
+  pub leaves : (e k : ℕ) → (suc t ≡ e → k < 8) → getRow rows′ e k ≡ getRow rows e k
 
-pub replicate-at : {A : Type 0} (n : ℕ) (a : A) (i : ℕ) → getD (replicate n a) i a ≡ a
-replicate-at zero a i = refl
-replicate-at (suc n) a zero = refl
-replicate-at (suc n) a (suc i) = replicate-at n a i
+pub thread-other :
+    (rows rows′ : List ℕ) (t : ℕ) (s : Thread) → Replaced rows rows′ t s → (u : ℕ) → t ≢ u
+    → threadOf rows′ u ≡ threadOf rows u
+unfolding threadOf
+thread-other rows rows′ t s replaced u other =
+    let same : (k : ℕ) → getRow rows′ (suc u) k ≡ getRow rows (suc u) k =
+    λ k. replaced .leaves (suc u) k (λ row. absurd (other (omega arith)))
+    in
+    rw (same 8, same 9, same 10, same 11, same 12) refl
+
+module _ (rows : List ℕ) (t : ℕ) (eight : length rows ≡ 128) (some : t < 8) where
+  -- one store into the thread's row: its column, and the others
+  stored : (l : List ℕ) (k v : ℕ) → length l ≡ length rows → k < 16 → getRow (putRow l (suc t) k v) (suc t) k ≡ v
+  stored l k v size column = put-in-row l (suc t) k v (omega (arith, size)) (omega arith) (omega arith) column
+
+  beside : (l : List ℕ) (k v i : ℕ) → k ≢ i → getRow (putRow l (suc t) k v) (suc t) i ≡ getRow l (suc t) i
+  beside l k v i differ = put-column l (suc t) k v (suc t) i differ
+
+  -- a column from 8 on leaves what `Replaced` leaves
+  outside :
+      (l : List ℕ) (k v : ℕ) → 8 ≤ k → (e i : ℕ) → (suc t ≡ e → i < 8)
+      → getRow (putRow l (suc t) k v) e i ≡ getRow l e i
+  outside l k v high e i low = put-other l (suc t) k v e i (λ row column. omega (arith, low row))
+
+  -- an issue of store e
+  module _ (e : ℕ) where
+    abbrev new-issued : Thread
+    new-issued = issuedT (threadOf rows t) e
+
+    abbrev with-oldest : List ℕ
+    with-oldest = putRow rows (suc t) 8 (new-issued .oldest)
+
+    abbrev with-newest : List ℕ
+    with-newest = putRow with-oldest (suc t) 9 (new-issued .newest)
+
+    oldest-size : length with-oldest ≡ length rows
+    oldest-size = length-put rows (suc t) 8 _
+
+    newest-size : length with-newest ≡ length rows
+    newest-size = length-put with-oldest (suc t) 9 _ ∙ oldest-size
+
+    issued-own : threadOf (putIssued rows t new-issued) t ≡ new-issued
+    unfolding threadOf putIssued issuedT
+    issued-own =
+        rw (
+          beside with-newest 10 (new-issued .issued) 8 (λ is. omega arith) ∙ beside with-oldest 9 (new-issued .newest) 8 (λ is. omega arith)
+              ∙ stored rows 8 (new-issued .oldest) refl (omega arith),
+          beside with-newest 10 (new-issued .issued) 9 (λ is. omega arith) ∙ stored with-oldest 9 (new-issued .newest) oldest-size (omega arith),
+          stored with-newest 10 (new-issued .issued) newest-size (omega arith),
+          beside with-newest 10 (new-issued .issued) 11 (λ is. omega arith) ∙ beside with-oldest 9 (new-issued .newest) 11 (λ is. omega arith)
+              ∙ beside rows 8 (new-issued .oldest) 11 (λ is. omega arith),
+          beside with-newest 10 (new-issued .issued) 12 (λ is. omega arith) ∙ beside with-oldest 9 (new-issued .newest) 12 (λ is. omega arith)
+              ∙ beside rows 8 (new-issued .oldest) 12 (λ is. omega arith),
+        )
+        refl
+
+    pub issued-replaced : Replaced rows (putIssued rows t new-issued) t new-issued
+    unfolding putIssued
+    issued-replaced = record {
+      size = length-put with-newest (suc t) 10 _ ∙ newest-size;
+      own = issued-own;
+      leaves = λ p k low.
+          outside with-newest 10 _ (omega arith) p k low ∙ outside with-oldest 9 _ (omega arith) p k low
+          ∙ outside rows 8 _ (omega arith) p k low;
+    }
+
+  -- a commit, after which `next` is the oldest store
+  module _ (next : ℕ) where
+    abbrev new-committed : Thread
+    new-committed = committedT (threadOf rows t) next
+
+    abbrev with-next : List ℕ
+    with-next = putRow rows (suc t) 8 (new-committed .oldest)
+
+    next-size : length with-next ≡ length rows
+    next-size = length-put rows (suc t) 8 _
+
+    committed-own : threadOf (putCommitted rows t new-committed) t ≡ new-committed
+    unfolding threadOf putCommitted committedT
+    committed-own =
+        rw (
+          beside with-next 11 (new-committed .committed) 8 (λ is. omega arith) ∙ stored rows 8 (new-committed .oldest) refl (omega arith),
+          beside with-next 11 (new-committed .committed) 9 (λ is. omega arith) ∙ beside rows 8 (new-committed .oldest) 9 (λ is. omega arith),
+          beside with-next 11 (new-committed .committed) 10 (λ is. omega arith) ∙ beside rows 8 (new-committed .oldest) 10 (λ is. omega arith),
+          stored with-next 11 (new-committed .committed) next-size (omega arith),
+          beside with-next 11 (new-committed .committed) 12 (λ is. omega arith) ∙ beside rows 8 (new-committed .oldest) 12 (λ is. omega arith),
+        )
+        refl
+
+    pub committed-replaced : Replaced rows (putCommitted rows t new-committed) t new-committed
+    unfolding putCommitted
+    committed-replaced = record {
+      size = length-put with-next (suc t) 11 _ ∙ next-size;
+      own = committed-own;
+      leaves = λ p k low. outside with-next 11 _ (omega arith) p k low ∙ outside rows 8 _ (omega arith) p k low;
+    }
+
+  -- a skip on or off
+  module _ (on : Bool) where
+    abbrev new-skip : Thread
+    new-skip = skippedT (threadOf rows t) on
+
+    skip-own : threadOf (putSkip rows t new-skip) t ≡ new-skip
+    unfolding threadOf putSkip skippedT
+    skip-own =
+        rw (
+          beside rows 12 (bit on) 8 (λ is. omega arith),
+          beside rows 12 (bit on) 9 (λ is. omega arith),
+          beside rows 12 (bit on) 10 (λ is. omega arith),
+          beside rows 12 (bit on) 11 (λ is. omega arith),
+          stored rows 12 (bit on) refl (omega arith),
+          bit-back on,
+        )
+        refl
+
+    pub skip-replaced : Replaced rows (putSkip rows t new-skip) t new-skip
+    unfolding putSkip
+    skip-replaced = record {
+      size = length-put rows (suc t) 12 _;
+      own = skip-own;
+      leaves = outside rows 12 _ (omega arith);
+    }
+
+-- the state of a thread stays where what the threads have seen changes
+pub thread-met : (l : List ℕ) (u s : ℕ) (rows : List ℕ) (t : ℕ) → threadOf (met l u s rows) t ≡ threadOf rows t
+unfolding threadOf
+thread-met l u s rows t =
+    let same : (k : ℕ) → 8 ≤ k → getRow (met l u s rows) (suc t) k ≡ getRow rows (suc t) k =
+    λ k high. met-other l u s rows (suc t) k (λ _. high)
+    in
+    rw (same 8 (omega arith), same 9 (omega arith), same 10 (omega arith), same 11 (omega arith), same 12 (omega arith))
+    refl
+
+-- a thread whose row is cleared
+pub thread-cleared : (n t : ℕ) → threadOf (replicate n 0) t ≡ fresh
+unfolding threadOf
+thread-cleared n t =
+    rw (
+      cleared-cell n (suc t) 8,
+      cleared-cell n (suc t) 9,
+      cleared-cell n (suc t) 10,
+      cleared-cell n (suc t) 11,
+      cleared-cell n (suc t) 12,
+    )
+    refl

@@ -25,18 +25,18 @@ use Rattle.model.proofs.StorePlaces.{count-most, stretch-some, Store, its-place
 use Rattle.model.proofs.Unchanged.{count-away, live-away, live-here, store-at-away, skipping-away, landed-away}
 use Rattle.model.proofs.Unchanged.{landed-here, landed-once}
 use Rattle.area.specs.Cells.{getRow, cell, up}
-use Rattle.area.specs.Tables.{lastSlot, commitsSlot, seenSlot}
+use Rattle.area.specs.Tables.{lastSlot, commitsSlot}
 use Rattle.area.specs.Rows.{Linked, Rows}
 use Rattle.machine.specs.declared.threads.Thread.{Thread}
-use Rattle.machine.specs.Threads.{committedT}
-use Rattle.machine.specs.Twin.{World, world, threadAt, withThread}
+use Rattle.machine.specs.Threads.{committedT, putCommitted}
+use Rattle.machine.specs.Twin.{World, world, threadAt, withRows}
 use Rattle.machine.specs.Effects.{committedWork, commitW}
 use Rattle.machine.specs.Sim.{issued, done, Queue, Sim}
-use Rattle.machine.proofs.CellLaws.{up-is}
+use Rattle.machine.proofs.CellLaws.{up-is, committed-replaced}
 use Rattle.machine.proofs.CommittedRows.{committed-size, committed-column, committed-slot}
 use Rattle.machine.proofs.CommittedRows.{committed-link-other, committed-link, committed-head, committed-count}
-use Rattle.machine.proofs.Keep.{linked-but, limits-next, in-time, thread-numbers, queues-with}
-use Rattle.machine.proofs.Keep.{stores-keep, others-keep, links-keep, newest-keep, seen-keep}
+use Rattle.machine.proofs.Keep.{linked-but, limits-next, in-time, rows-numbers, queues-with}
+use Rattle.machine.proofs.Keep.{seen-with, stores-keep, others-keep, links-keep, newest-keep}
 
 module _ (ev : ℕ → Event) (n : ℕ) (w : World) (sim : Sim ev n w) (passes : refusal ev n ≡ 0)
     (is-commit : Commit ev n) (few : thread ev n < 8) where
@@ -195,51 +195,50 @@ module _ (ev : ℕ → Event) (n : ℕ) (w : World) (sim : Sim ev n w) (passes :
       (p y was i c next : ℕ) → p ≡ taken → y ≡ x → was ≡ link → i ≡ j → c ≡ count-now
       → next ≡ storeAt ev n j t (suc (done ev n t))
       → Sim ev (suc n)
-      (world (withThread (w .machine) t (committedT (threadAt (w .machine) t) next)) (committedWork l p y was i t c))
+      (world (withRows (w .state) (putCommitted (w .state .rows) t (committedT (threadAt (w .state) t) next)))
+      (committedWork l p y was i t c))
   with-values p y was i c next p-is y-is was-is i-is c-is next-is =
       let is-3 = kind-is in
       let no-load = ne-eqb (kind ev n) 4 (λ is-4. omega arith) in
-      let new = committedT (threadAt (w .machine) t) next in
+      let new = committedT (threadAt (w .state) t) next in
+      let rows = putCommitted (w .state .rows) t new in
+      let replaced = committed-replaced (w .state .rows) t (sim .numbers .eight) few next in
       rw (p-is, y-is, was-is, i-is, c-is)
       (record {
-        numbers = thread-numbers ev n (w .machine) t new (sim .numbers) (in-time ev n (sim .limits) passes) no-crash;
+        numbers =
+            rows-numbers ev n (w .state) rows (sim .numbers) (in-time ev n (sim .limits) passes) no-crash
+            (replaced .size ∙ sim .numbers .eight);
         limits = limits-next ev n (sim .limits) passes;
         queues =
-            queues-with ev n (w .machine) new (sim .numbers .eight) few no-crash
-            (queue-next next (threadAt (w .machine) t) next-is (sim .queues t few)) (sim .queues);
+            queues-with ev n (w .state) rows new replaced no-crash
+            (queue-next next (threadAt (w .state) t) next-is (sim .queues t few)) (sim .queues);
+        seen-are = seen-with ev n (w .state) rows t new replaced no-crash no-load (sim .seen-are);
         rows = rows-next;
         links =
             links-keep ev n l after no-issue (λ p. column-stays p 11 (λ is-13. omega arith) (λ is-14. omega arith))
             (sim .links);
-        tables = record {
-          newest-are =
-              newest-keep ev n l after no-issue (λ p. column-stays p 15 (λ is-13. omega arith) (λ is-14. omega arith))
-              (sim .tables);
-          seen-are =
-              seen-keep ev n l after no-crash no-load
-              (λ v u few-v few-u.
-              slot-stays (seenSlot v u) (λ same. omega (arith, j-small)) (λ same. omega (arith, x-small)))
-              (sim .tables);
-        };
+        newest-are =
+            newest-keep ev n l after no-issue (λ p. column-stays p 15 (λ is-13. omega arith) (λ is-14. omega arith))
+            (sim .newest-are);
       })
 
   -- what the machine's state and rows say is what the store has
   record Values : Type 0 where
-    oldest-is : threadAt (w .machine) t .oldest ≡ taken
-    location-is : getRow l (threadAt (w .machine) t .oldest) 9 ≡ x
-    count-is : up (threadAt (w .machine) t .committed) ≡ count-now
-    next-is : getRow l (threadAt (w .machine) t .oldest) 11 ≡ storeAt ev n j t (suc (done ev n t))
+    oldest-is : threadAt (w .state) t .oldest ≡ taken
+    location-is : getRow l (threadAt (w .state) t .oldest) 9 ≡ x
+    count-is : up (threadAt (w .state) t .committed) ≡ count-now
+    next-is : getRow l (threadAt (w .state) t .oldest) 11 ≡ storeAt ev n j t (suc (done ev n t))
 
   values : Values
   values =
       let queue = sim .queues t few in
-      let is-taken : threadAt (w .machine) t .oldest ≡ taken = queue .oldest-is ∙ sym (committed-at ev n) in
+      let is-taken : threadAt (w .state) t .oldest ≡ taken = queue .oldest-is ∙ sym (committed-at ev n) in
       let row = sim .rows .stores taken (taken-store .early) (taken-store .store) in
       let its = its-place ev taken-store in
       record {
         oldest-is = is-taken;
         location-is = rw is-taken (row .location-is);
-        count-is = counted-up (threadAt (w .machine) t) queue;
+        count-is = counted-up (threadAt (w .state) t) queue;
         next-is =
             rw is-taken
             (sim .links .next-is taken (taken-store .early) (taken-store .store)
@@ -252,12 +251,12 @@ module _ (ev : ℕ → Event) (n : ℕ) (w : World) (sim : Sim ev n w) (passes :
       at-next i in-j by-t at-i = rw (in-j, by-t, at-i)
 
   -- the location that the oldest store's row has is in range
-  pub location-small : getRow l (threadAt (w .machine) t .oldest) 9 < 256
+  pub location-small : getRow l (threadAt (w .state) t .oldest) 9 < 256
   location-small = rw (values .location-is) x-small
 
   pub commit-next : Sim ev (suc n) (commitW w t)
   unfolding commitW
   commit-next =
-      with-values (threadAt (w .machine) t .oldest) _ _ (w .machine .stretch) _ _ (values .oldest-is)
+      with-values (threadAt (w .state) t .oldest) _ _ (w .state .stretch) _ _ (values .oldest-is)
       (values .location-is) (ap (λ (y : ℕ). cell l (lastSlot y)) (values .location-is)) (sim .numbers .stretch-is)
       (values .count-is) (values .next-is)

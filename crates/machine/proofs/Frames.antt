@@ -1,45 +1,40 @@
 -- The two halves of the judge keep out of each other's cells: the machine's steps leave the flags and the judging's
 -- slots (`step-leaves`), and judging may change those without disturbing the machine (`sim-but-judging`).
 use mathlib.Core.Path.{_≡_, refl, sym, ap, _∙_}
-use mathlib.Core.Bool.{Bool, true, false}
 use mathlib.Core.List.{List}
 use mathlib.Core.Logic.{_⊎_, inl, inr, _≢_}
 use Prim.Native.Nat.{ℕ, suc, _≤_, _<_}
 use native.Mathlib.Omega.{arith}
 use borrow.Author.Tests.{eq-eqb}
-use lib.Dec.{eqb}
 use Rattle.record.specs.declared.events.Event.{Event}
 use Rattle.record.specs.declared.events.Event.the-variants.{Begin, Issue, Commit, Load, Clflush, Clwb}
 use Rattle.record.specs.declared.events.Event.the-variants.{Sfence, Mfence, Crash, SkipOn, SkipOff}
 use Rattle.record.specs.Events.{kindOf}
 use Rattle.record.specs.Fields.{fieldsOf}
 use Rattle.record.specs.Table.{rowOf}
-use Rattle.record.specs.Tests.{_gives_else_}
 use Rattle.model.specs.Trace.{kind, thread}
 use Rattle.model.specs.Trace as trace
 use Rattle.model.specs.Rules.{refusal}
 use Rattle.model.specs.Stores.{landed}
 use Rattle.model.proofs.StorePlaces.{stretch-some}
 use Rattle.area.specs.Cells.{getRow, cell}
-use Rattle.area.specs.Tables.{newestRow, lastSlot, commitsSlot, seenSlot}
+use Rattle.area.specs.Tables.{newestRow, lastSlot, commitsSlot}
 use Rattle.area.specs.Rows.{Rows, JudgingSlot, ButJudging, ButMachine}
 use Rattle.machine.specs.Arms.{byKind}
 use Rattle.machine.specs.Twin.{World, world}
-use Rattle.machine.specs.Effects.{joined, wiped, committedWork, issueW, commitW, loadW, crashW, skipW}
+use Rattle.machine.specs.Effects.{committedWork, issueW, commitW, loadW, crashW, skipW}
 use Rattle.machine.specs.Effects.{passW, stepK, stepW}
-use Rattle.machine.specs.Sim.{Links, Tables, Sim}
-use Rattle.machine.proofs.CellLaws.{length-joined, joined-column, joined-other}
-use Rattle.machine.proofs.CellLaws.{length-wiped, wiped-column, wiped-other}
+use Rattle.machine.specs.Sim.{Links, Newest, Sim}
 use Rattle.machine.proofs.Keep.{linked-same, few-own, row-same}
 use Rattle.machine.proofs.IssuedRows.{issued-size, issued-column}
 use Rattle.machine.proofs.CommittedRows.{committed-size, committed-column, committed-slot}
 use Rattle.machine.proofs.Commits.{location-small}
 
--- the machine's slots, 0 to 255 and 368 to 495, are not the judging's
-machine-slot : (i k : ℕ) → JudgingSlot i → (k < 256) ⊎ ((368 ≤ k) × (k < 496)) → k ≢ i
+-- the machine's slots, 0 to 255 and 368 to 431, are not the judging's
+machine-slot : (i k : ℕ) → JudgingSlot i → (k < 256) ⊎ ((368 ≤ k) × (k < 432)) → k ≢ i
 machine-slot i k judging place same = by-range (judging .in-range) place
   where
-    by-range : ((256 ≤ i) × (i < 368)) ⊎ ((496 ≤ i) × (i < 1008)) → (k < 256) ⊎ ((368 ≤ k) × (k < 496)) → ⊥
+    by-range : ((256 ≤ i) × (i < 368)) ⊎ ((496 ≤ i) × (i < 1008)) → (k < 256) ⊎ ((368 ≤ k) × (k < 432)) → ⊥
     by-range (inl low) (inl last) = omega (arith, low .0)
     by-range (inl low) (inr counts) = omega (arith, low .1, counts .0)
     by-range (inr high) (inl last) = omega (arith, high .0)
@@ -49,22 +44,6 @@ machine-slot i k judging place same = by-range (judging .in-range) place
 
 leaves-all : (l : List ℕ) → ButMachine l l
 leaves-all l = record { size = refl; flags = λ e. refl; slots = λ i _. refl }
-
-wiped-leaves : (l : List ℕ) → ButMachine l (wiped 64 l)
-wiped-leaves l = record {
-  size = length-wiped 64 l;
-  flags = λ e. wiped-column 64 l e 12 (λ is-13. omega arith);
-  slots = λ i judging.
-      wiped-other 64 l i (λ low high. machine-slot i i judging (inr (omega arith, omega arith)) refl);
-}
-
-joined-leaves : (l : List ℕ) (t s : ℕ) → t < 8 → ButMachine l (joined 8 t s l)
-joined-leaves l t s few = record {
-  size = length-joined 8 t s l;
-  flags = λ e. joined-column 8 t s l e 12 (λ is-13. omega arith);
-  slots = λ i judging.
-      joined-other 8 t s l i (λ u below. machine-slot i (seenSlot t u) judging (inr (omega arith, omega arith)));
-}
 
 committed-leaves :
     (l : List ℕ) (p x link j t c : ℕ) → x < 256 → 1 ≤ j → j ≤ 8 → t < 8 → ButMachine l (committedWork l p x link j t c)
@@ -78,47 +57,40 @@ committed-leaves l p x link j t c small from-one to-eight few = record {
 }
 
 module _ (ev : ℕ → Event) (n : ℕ) (w : World) (sim : Sim ev n w) (passes : refusal ev n ≡ 0) where
-  issue-leaves : (t x : ℕ) → ButMachine (w .work) (issueW w t x .work)
+  issue-leaves : (t x : ℕ) → t < 8 → ButMachine (w .work) (issueW w t x .work)
   unfolding issueW
-  issue-leaves t x = record {
-    size = issued-size (w .work) _ _ t _ x _;
-    flags = λ e. issued-column (w .work) _ _ t _ x _ e 12 (omega arith) (λ is-15. omega arith);
-    slots = λ i _. issued-column (w .work) _ _ t _ x _ (suc i) 13 (omega arith) (λ is-15. omega arith);
+  issue-leaves t x few = record {
+    size = issued-size (w .state .rows) (w .work) _ _ t _ x _;
+    flags = λ e. issued-column (w .state .rows) (w .work) _ _ t _ x _ e 12 (omega arith) (λ is-15. omega arith) few;
+    slots = λ i _.
+        issued-column (w .state .rows) (w .work) _ _ t _ x _ (suc i) 13 (omega arith) (λ is-15. omega arith) few;
   }
 
   commit-leaves : trace.Commit ev n → thread ev n < 8 → ButMachine (w .work) (commitW w (thread ev n) .work)
   unfolding commitW
   commit-leaves commits few =
-      committed-leaves (w .work) _ _ _ (w .machine .stretch) (thread ev n) _
+      committed-leaves (w .work) _ _ _ (w .state .stretch) (thread ev n) _
       (location-small ev n w sim passes commits few)
       (omega (arith, stretch-some ev n, sim .numbers .stretch-is))
       (omega (arith, sim .limits .few-crashes, sim .numbers .stretch-is)) few
 
-  load-leaves : (t s : ℕ) → t < 8 → ButMachine (w .work) (loadW w t s .work)
-  unfolding loadW
-  load-leaves t s few = by-test (eqb (getRow (w .work) s 10) (w .machine .stretch))
-    where
-      by-test : (here : Bool) → ButMachine (w .work) (here gives joined 8 t s (w .work) else (w .work))
-      by-test true = joined-leaves (w .work) t s few
-      by-test false = leaves-all (w .work)
-
   leaves-is : (e : Event) → ev n ≡ e → ButMachine (w .work) (stepW w e .work)
-  unfolding stepK byKind passW skipW crashW rowOf
+  unfolding stepK byKind passW skipW crashW loadW rowOf
   leaves-is (Begin v a b) is = leaves-all (w .work)
-  leaves-is (Issue t x) is = issue-leaves t x
+  leaves-is (Issue t x) is =
+      let t-is : thread ev n ≡ t = ap (λ (e : Event). fieldsOf e .thread) is in
+      issue-leaves t x (rw t-is at (few-own ev n (sim .limits) passes 2 (ap kindOf is) refl))
   leaves-is (Commit t) is =
       let t-is : t ≡ thread ev n = sym (ap (λ (e : Event). fieldsOf e .thread) is) in
       let kind-is : kind ev n ≡ 3 = ap kindOf is in
       let commits : trace.Commit ev n = record { test = eq-eqb (kind ev n) 3 kind-is } in
       rw t-is (commit-leaves commits (few-own ev n (sim .limits) passes 3 kind-is refl))
-  leaves-is (Load t x s) is =
-      let t-is : thread ev n ≡ t = ap (λ (e : Event). fieldsOf e .thread) is in
-      load-leaves t s (rw t-is at (few-own ev n (sim .limits) passes 4 (ap kindOf is) refl))
+  leaves-is (Load t x s) is = leaves-all (w .work)
   leaves-is (Clflush t x) is = leaves-all (w .work)
   leaves-is (Clwb t x) is = leaves-all (w .work)
   leaves-is (Sfence t) is = leaves-all (w .work)
   leaves-is (Mfence t) is = leaves-all (w .work)
-  leaves-is Crash is = wiped-leaves (w .work)
+  leaves-is Crash is = leaves-all (w .work)
   leaves-is (SkipOn t) is = leaves-all (w .work)
   leaves-is (SkipOff t) is = leaves-all (w .work)
 
@@ -132,7 +104,7 @@ module _ (ev : ℕ → Event) (n : ℕ) (w : World) (v : List ℕ) (but : ButJud
   column-same : (p k : ℕ) → k < 12 → getRow v p k ≡ getRow (w .work) p k
   column-same p k low = but .columns p k (λ is-12. omega arith) (λ is-13. omega arith)
 
-  slot-same : (i : ℕ) → (i < 256) ⊎ ((368 ≤ i) × (i < 496)) → cell v i ≡ cell (w .work) i
+  slot-same : (i : ℕ) → (i < 256) ⊎ ((368 ≤ i) × (i < 432)) → cell v i ≡ cell (w .work) i
   slot-same i place = but .slots i (λ judging. machine-slot i i judging place refl)
 
   rows-but : Rows ev n (w .work) → Rows ev n v
@@ -155,22 +127,18 @@ module _ (ev : ℕ → Event) (n : ℕ) (w : World) (v : List ℕ) (but : ButJud
     free = λ p past. column-same p 11 (omega arith) ∙ links .free p past;
   }
 
-  tables-but : Tables ev n (w .work) → Tables ev n v
-  tables-but tables = record {
-    newest-are = λ x t few-x few-t.
-        but .columns (newestRow x t) 15 (λ is-12. omega arith) (λ is-13. omega arith)
-        ∙ tables .newest-are x t few-x few-t;
-    seen-are = λ t u few-t few-u.
-        slot-same (seenSlot t u) (inr (omega arith, omega arith)) ∙ tables .seen-are t u few-t few-u;
-  }
+  newest-but : Newest ev n (w .work) → Newest ev n v
+  newest-but newest-are x t few-x few-t =
+      but .columns (newestRow x t) 15 (λ is-12. omega arith) (λ is-13. omega arith) ∙ newest-are x t few-x few-t
 
   -- JUDGING DOES NOT DISTURB THE MACHINE
-  pub sim-but-judging : Sim ev n w → Sim ev n (world (w .machine) v)
+  pub sim-but-judging : Sim ev n w → Sim ev n (world (w .state) v)
   sim-but-judging sim = record {
     numbers = sim .numbers;
     limits = sim .limits;
     queues = sim .queues;
+    seen-are = sim .seen-are;
     rows = rows-but (sim .rows);
     links = links-but (sim .links);
-    tables = tables-but (sim .tables);
+    newest-are = newest-but (sim .newest-are);
   }

@@ -1,13 +1,13 @@
 -- Issues keep `Sim`: the store n joins its thread's queue behind the thread's newest store of the stretch, and its
 -- row holds its clock, which is what its thread has seen, and of its own thread one more than its place.
--- In order: the newest store so far; the thread; the rows; the links; the tables; the step.
+-- In order: the newest store so far; the thread; the rows; the links; the newest stores; the step.
 use mathlib.Core.Path.{_≡_, refl, sym, ap, _∙_}
 use mathlib.Core.Bool.{true, false}
 use mathlib.Core.List.{List}
 use mathlib.Core.Logic.{_⊎_, inl, inr, _≢_}
 use Prim.Native.Nat.{ℕ, suc, _-_, _≤_, _<_}
 use native.Mathlib.Omega.{arith}
-use borrow.Author.Tests.{eqb-true, eq-eqb, ne-eqb}
+use borrow.Author.Tests.{eqb-true, ne-eqb}
 use lib.Dec.{eqb}
 use Rattle.record.specs.declared.events.Event.{Event}
 use Rattle.record.specs.Tests.{_gives_else_}
@@ -25,20 +25,20 @@ use Rattle.model.proofs.StorePlaces.{count-most, Store, its-place, store-at-of,
 use Rattle.model.proofs.StorePlaces.{store-at-here, store-at-else}
 use Rattle.model.proofs.Unchanged.{live-away, live-here, skipping-away, newest-away, newest-here, seen-away}
 use Rattle.area.specs.Cells.{getRow, cell, up}
-use Rattle.area.specs.Tables.{newestRow, lastSlot, commitsSlot, seenSlot}
+use Rattle.area.specs.Tables.{newestRow, lastSlot, commitsSlot}
 use Rattle.area.specs.Rows.{StoreRow, Rows}
 use Rattle.area.proofs.ReadBack.{put-same}
 use Rattle.machine.specs.declared.threads.Thread.{Thread}
-use Rattle.machine.specs.Threads.{firstOf, issuedT}
-use Rattle.machine.specs.Twin.{World, world, threadAt, withThread}
+use Rattle.machine.specs.Threads.{firstOf, issuedT, putIssued}
+use Rattle.machine.specs.Twin.{World, world, threadAt, withRows}
 use Rattle.machine.specs.Effects.{issuedWork, issueW}
-use Rattle.machine.specs.Sim.{issued, done, Queue, Links, Tables, Sim}
-use Rattle.machine.proofs.CellLaws.{up-is, put-row}
-use Rattle.machine.proofs.Keep.{limits-next, in-time, thread-numbers, queues-with, row-same, chains-keep}
-use Rattle.machine.proofs.Keep.{commits-keep, seen-keep}
+use Rattle.machine.specs.Sim.{issued, done, Queue, Links, Newest, Sim}
+use Rattle.machine.proofs.CellLaws.{up-is, put-row, issued-replaced}
+use Rattle.machine.proofs.Keep.{limits-next, in-time, rows-numbers, queues-with, row-same, chains-keep}
+use Rattle.machine.proofs.Keep.{commits-keep, seen-with}
 use Rattle.machine.proofs.IssuedRows.{issued-size, issued-column, issued-other, issued-newest-other}
 use Rattle.machine.proofs.IssuedRows.{issued-link, issued-newest, issued-stretch, issued-location}
-use Rattle.machine.proofs.IssuedRows.{issued-thread, issued-clock}
+use Rattle.machine.proofs.IssuedRows.{issued-thread, issued-own, issued-clock}
 
 module _ (ev : ℕ → Event) (n : ℕ) (w : World) (sim : Sim ev n w) (passes : refusal ev n ≡ 0)
     (store : Issue ev n) (few : thread ev n < 8) (small : location ev n < 256) where
@@ -50,6 +50,9 @@ module _ (ev : ℕ → Event) (n : ℕ) (w : World) (sim : Sim ev n w) (passes :
 
   abbrev j : ℕ
   j = stretch ev n
+
+  abbrev rows : List ℕ
+  rows = w .state .rows
 
   abbrev l : List ℕ
   l = w .work
@@ -151,34 +154,35 @@ module _ (ev : ℕ → Event) (n : ℕ) (w : World) (sim : Sim ev n w) (passes :
   count-now = suc (issued ev n t)
 
   abbrev after : List ℕ
-  after = issuedWork l newest n t count-now x j
+  after = issuedWork rows l newest n t count-now x j
 
   new-row : StoreRow ev after n
   new-row = record {
-    clock-is = λ u few-u.
-        issued-clock l newest n t count-now x j (sim .rows .room) n-some n-small u few-u
-        ∙ clock-entry u few-u (same? u t);
-    thread-is = issued-thread l newest n t count-now x j (sim .rows .room) n-some n-small;
-    location-is = issued-location l newest n t count-now x j (sim .rows .room) n-some n-small;
-    stretch-is = issued-stretch l newest n t count-now x j (sim .rows .room) n-some n-small;
+    clock-is = λ u few-u. clock-entry u few-u (same? u t);
+    thread-is = issued-thread rows l newest n t count-now x j (sim .rows .room) n-some n-small;
+    location-is = issued-location rows l newest n t count-now x j (sim .rows .room) n-some n-small;
+    stretch-is = issued-stretch rows l newest n t count-now x j (sim .rows .room) n-some n-small;
   }
     where
-      clock-entry :
-          (u : ℕ) → u < 8 → (u ≡ t) ⊎ (u ≢ t) → (eqb u t gives count-now else cell l (seenSlot t u)) ≡ vc ev n u
-      clock-entry u few-u (inl own) = rw (eq-eqb u t own, vc-own ev n u store own) refl
+      no-load : Load ev n → thread ev n ≡ t → ⊥
+      no-load loads _ = omega (arith, kind-is, eqb-true (kind ev n) 4 (loads .test))
+
+      clock-entry : (u : ℕ) → u < 8 → (u ≡ t) ⊎ (u ≢ t) → getRow after n u ≡ vc ev n u
+      clock-entry u few-u (inl own) =
+          rw (own, vc-own ev n t store refl)
+          (issued-own rows l newest n t count-now x j (sim .rows .room) n-some n-small few)
       clock-entry u few-u (inr other) =
-          rw (ne-eqb u t other, vc-other ev n u store other)
-          (sim .tables .seen-are t u few few-u ∙ sym (seen-away ev n t u no-crash no-load))
-        where
-          no-load : Load ev n → thread ev n ≡ t → ⊥
-          no-load loads _ = omega (arith, kind-is, eqb-true (kind ev n) 4 (loads .test))
+          rw (vc-other ev n u store other)
+          (issued-clock rows l newest n t count-now x j (sim .rows .room) n-some n-small u few-u
+          (λ same. other (sym same)) few (sim .numbers .eight)
+          ∙ sim .seen-are t u few few-u ∙ sym (seen-away ev n t u no-crash no-load))
 
   slots-stay : (i : ℕ) → cell after i ≡ cell l i
-  slots-stay i = issued-column l newest n t count-now x j (suc i) 13 (omega arith) (λ is-15. omega arith)
+  slots-stay i = issued-column rows l newest n t count-now x j (suc i) 13 (omega arith) (λ is-15. omega arith) few
 
   rows-next : Rows ev (suc n) after
   rows-next = record {
-    room = rw (issued-size l newest n t count-now x j) (sim .rows .room);
+    room = rw (issued-size rows l newest n t count-now x j) (sim .rows .room);
     stores = λ p early is-store. own-or-other p early is-store (same? p n);
     others = λ p none. no-row p none (same? p n);
     chains = chains-keep ev n l after no-commit links-stay (λ y _. slots-stay (lastSlot y)) (sim .rows);
@@ -186,18 +190,18 @@ module _ (ev : ℕ → Event) (n : ℕ) (w : World) (sim : Sim ev n w) (passes :
   }
     where
       links-stay : (p : ℕ) → getRow after p 14 ≡ getRow l p 14
-      links-stay p = issued-column l newest n t count-now x j p 14 (omega arith) (λ is-15. omega arith)
+      links-stay p = issued-column rows l newest n t count-now x j p 14 (omega arith) (λ is-15. omega arith) few
 
       own-or-other : (p : ℕ) → p < suc n → Issue ev p → (p ≡ n) ⊎ (p ≢ n) → StoreRow ev after p
       own-or-other p early is-store (inl own) = rw own new-row
       own-or-other p early is-store (inr other) =
-          row-same ev n l after p (λ k low. issued-other l newest n t count-now x j p k (λ same. other (sym same)) low)
+          row-same ev n l after p (λ k low. issued-other rows l newest n t count-now x j p k (λ same. other (sym same)) low few)
           (sim .rows .stores p (omega arith) is-store)
 
       no-row : (p : ℕ) → (p < suc n → Issue ev p → ⊥) → (p ≡ n) ⊎ (p ≢ n) → getRow after p 10 ≡ 0
       no-row p none (inl own) = absurd (none (omega arith) (rw own store))
       no-row p none (inr other) =
-          issued-other l newest n t count-now x j p 10 (λ same. other (sym same)) (omega arith)
+          issued-other rows l newest n t count-now x j p 10 (λ same. other (sym same)) (omega arith) few
           ∙ sim .rows .others p (λ early is-store. none (omega arith) is-store)
 
   -- ---- the links
@@ -205,7 +209,7 @@ module _ (ev : ℕ → Event) (n : ℕ) (w : World) (sim : Sim ev n w) (passes :
   -- of the new store: there is none after it
   link-new : getRow after n 11 ≡ storeAt ev (suc n) j t (suc (issued ev n t))
   link-new =
-      issued-link l newest n t count-now x j n ∙ put-row l newest 11 n n 11 (λ same. omega (arith, newest-early))
+      issued-link rows l newest n t count-now x j n few ∙ put-row l newest 11 n n 11 (λ same. omega (arith, newest-early))
       ∙ sim .links .free n (omega arith)
       ∙ sym
       (store-at-none ev (suc n) j t (suc (issued ev n t))
@@ -216,7 +220,7 @@ module _ (ev : ℕ → Event) (n : ℕ) (w : World) (sim : Sim ev n w) (passes :
       (p : ℕ) → p < n → Issue ev p → p ≡ newest
       → getRow after p 11 ≡ storeAt ev (suc n) (stretch ev p) (thread ev p) (suc (place ev p))
   link-newest p early is-store is-newest =
-      issued-link l newest n t count-now x j p
+      issued-link rows l newest n t count-now x j p few
       ∙ rw (← is-newest) (put-same l p 11 n (sim .rows .room) p-some (omega (arith, n-small)) (omega arith))
       ∙ sym (store-at-here ev n (stretch ev p) (thread ev p) (suc (place ev p)) store
       (sym (found .at-place .in-j)) (sym (found .at-place .by-t)) next-place)
@@ -237,7 +241,7 @@ module _ (ev : ℕ → Event) (n : ℕ) (w : World) (sim : Sim ev n w) (passes :
       (p : ℕ) → p < n → Issue ev p → p ≢ newest
       → getRow after p 11 ≡ storeAt ev (suc n) (stretch ev p) (thread ev p) (suc (place ev p))
   link-other p early is-store other =
-      issued-link l newest n t count-now x j p ∙ put-row l newest 11 n p 11 (λ same. other (sym same))
+      issued-link rows l newest n t count-now x j p few ∙ put-row l newest 11 n p 11 (λ same. other (sym same))
       ∙ sim .links .next-is p early is-store
       ∙ sym (store-at-else ev n (stretch ev p) (thread ev p) (suc (place ev p)) (λ is-next. other (is-newest is-next)))
     where
@@ -255,7 +259,7 @@ module _ (ev : ℕ → Event) (n : ℕ) (w : World) (sim : Sim ev n w) (passes :
   links-next = record {
     next-is = λ p early is-store. by-store p early is-store (same? p n) (same? p newest);
     free = λ p past.
-        issued-link l newest n t count-now x j p ∙ put-row l newest 11 n p 11 (λ same. omega (arith, newest-early))
+        issued-link rows l newest n t count-now x j p few ∙ put-row l newest 11 n p 11 (λ same. omega (arith, newest-early))
         ∙ sim .links .free p (omega arith);
   }
     where
@@ -266,58 +270,56 @@ module _ (ev : ℕ → Event) (n : ℕ) (w : World) (sim : Sim ev n w) (passes :
       by-store p early is-store (inr differs) (inl is-newest) = link-newest p (omega arith) is-store is-newest
       by-store p early is-store (inr differs) (inr other) = link-other p (omega arith) is-store other
 
-  -- ---- the tables
+  -- ---- the newest stores
 
   newest-next :
       (y u : ℕ) → y < 256 → u < 8 → (x ≡ y) ⊎ (x ≢ y) → (t ≡ u) ⊎ (t ≢ u)
       → getRow after (newestRow y u) 15 ≡ newestAt ev (suc n) y u
   newest-next y u few-y few-u (inl same-x) (inl same-t) =
       rw (← same-x, ← same-t)
-      (issued-newest l newest n t count-now x j (sim .rows .room) n-some n-small (omega (arith, few, small))
+      (issued-newest rows l newest n t count-now x j (sim .rows .room) n-some n-small (omega (arith, few, small))
       ∙ sym (newest-here ev n store))
   newest-next y u few-y few-u (inl same-x) (inr other) =
-      issued-newest-other l newest n t count-now x j (newestRow y u) (λ same. other (omega (arith, few)))
-      ∙ sim .tables .newest-are y u few-y few-u ∙ sym (newest-away ev n y u (λ _ _ same. other same))
+      issued-newest-other rows l newest n t count-now x j (newestRow y u) (λ same. other (omega (arith, few))) few
+      ∙ sim .newest-are y u few-y few-u ∙ sym (newest-away ev n y u (λ _ _ same. other same))
   newest-next y u few-y few-u (inr other) either =
-      issued-newest-other l newest n t count-now x j (newestRow y u) (λ same. other (omega (arith, few)))
-      ∙ sim .tables .newest-are y u few-y few-u ∙ sym (newest-away ev n y u (λ _ same _. other same))
+      issued-newest-other rows l newest n t count-now x j (newestRow y u) (λ same. other (omega (arith, few))) few
+      ∙ sim .newest-are y u few-y few-u ∙ sym (newest-away ev n y u (λ _ same _. other same))
 
-  tables-next : Tables ev (suc n) after
-  tables-next =
-      let is-2 = kind-is in
-      let no-load = ne-eqb (kind ev n) 4 (λ is-4. omega arith) in
-      record {
-        newest-are = λ y u few-y few-u. newest-next y u few-y few-u (same? x y) (same? t u);
-        seen-are =
-            seen-keep ev n l after no-crash no-load
-            (λ v u _ _. slots-stay (seenSlot v u))
-            (sim .tables);
-      }
+  newest-all : Newest ev (suc n) after
+  newest-all y u few-y few-u = newest-next y u few-y few-u (same? x y) (same? t u)
 
   -- ---- the step
 
   with-values :
       (g e c i : ℕ) → g ≡ newest → e ≡ n → c ≡ count-now → i ≡ j
       → Sim ev (suc n)
-      (world (withThread (w .machine) t (issuedT (threadAt (w .machine) t) e)) (issuedWork l g e t c x i))
+      (world (withRows (w .state) (putIssued rows t (issuedT (threadAt (w .state) t) e)))
+      (issuedWork rows l g e t c x i))
   with-values g e c i g-is e-is c-is i-is =
-      let new = issuedT (threadAt (w .machine) t) n in
+      let is-2 = kind-is in
+      let no-load = ne-eqb (kind ev n) 4 (λ is-4. omega arith) in
+      let new = issuedT (threadAt (w .state) t) n in
+      let rows′ = putIssued rows t new in
+      let replaced = issued-replaced rows t (sim .numbers .eight) few n in
       rw (g-is, e-is, c-is, i-is)
       (record {
-        numbers = thread-numbers ev n (w .machine) t new (sim .numbers) n-small no-crash;
+        numbers =
+            rows-numbers ev n (w .state) rows′ (sim .numbers) n-small no-crash (replaced .size ∙ sim .numbers .eight);
         limits = limits-next ev n (sim .limits) passes;
         queues =
-            queues-with ev n (w .machine) new (sim .numbers .eight) few no-crash
-            (queue-next (threadAt (w .machine) t) (sim .queues t few)) (sim .queues);
+            queues-with ev n (w .state) rows′ new replaced no-crash
+            (queue-next (threadAt (w .state) t) (sim .queues t few)) (sim .queues);
+        seen-are = seen-with ev n (w .state) rows′ t new replaced no-crash no-load (sim .seen-are);
         rows = rows-next;
         links = links-next;
-        tables = tables-next;
+        newest-are = newest-all;
       })
 
   pub issue-next : Sim ev (suc n) (issueW w t x)
   unfolding issueW
   issue-next =
       let queue = sim .queues t few in
-      with-values (threadAt (w .machine) t .newest) (w .machine .event) (up (threadAt (w .machine) t .issued))
-      (w .machine .stretch) (queue .newest-is) (sim .numbers .event-is)
-      (counted-up (threadAt (w .machine) t) queue) (sim .numbers .stretch-is)
+      with-values (threadAt (w .state) t .newest) (w .state .event) (up (threadAt (w .state) t .issued))
+      (w .state .stretch) (queue .newest-is) (sim .numbers .event-is)
+      (counted-up (threadAt (w .state) t) queue) (sim .numbers .stretch-is)

@@ -1,15 +1,14 @@
 -- What an event leaves of the state, and how the parts of `Sim` pass from event n to the next where the event does not
 -- concern them.
--- In order: limits and numbers; threads; rows and chains; links and tables.
-use mathlib.Core.Path.{_≡_, sym, ap, _∙_}
+-- In order: limits and numbers; threads; rows and chains; links and newest stores; an untouched work area.
+use mathlib.Core.Path.{_≡_, refl, sym, ap, _∙_}
 use mathlib.Core.Bool.{Bool, true, false, not}
 use mathlib.Core.List.{List, [], _∷_}
 use mathlib.Core.Logic.{_⊎_, inl, inr, _≢_}
 use Prim.Native.Nat.{ℕ, suc, _-_, _≤_, _<_}
 use native.Mathlib.Omega.{arith}
 use lib.Dec.{eqb}
-use lib.ListN.{length, set, getD, length-set}
-use lib.Seq.{getD-set-same, getD-set-other}
+use lib.ListN.{length}
 use Rattle.record.specs.declared.events.Event.{Event}
 use Rattle.record.specs.Fields.{threadIn, locationIn}
 use Rattle.record.specs.Table.{rowOf}
@@ -17,8 +16,7 @@ use Rattle.model.specs.Trace.{kind, thread, location, is, issue?, commit?, load
 use Rattle.model.specs.Trace.{stretch, commits, place}
 use Rattle.model.specs.Machine.{skipping}
 use Rattle.model.specs.Rules.{refusal}
-use Rattle.model.specs.Clocks.{seen}
-use Rattle.model.specs.Stores.{storeAt, newestAt, landed}
+use Rattle.model.specs.Stores.{storeAt, landed}
 use Rattle.model.proofs.Searching.{false-true, same?}
 use Rattle.model.proofs.Counting.{stretch-else}
 use Rattle.model.proofs.Acceptance.{event-bound}
@@ -27,14 +25,13 @@ use Rattle.model.proofs.Limits.{location-below}
 use Rattle.model.proofs.Unchanged.{count-away, live-away, store-at-away, skipping-away, newest-away, seen-away}
 use Rattle.model.proofs.Unchanged.{landed-away, Lacks}
 use Rattle.area.specs.Cells.{getRow, cell}
-use Rattle.area.specs.Tables.{newestRow, lastSlot, commitsSlot, seenSlot}
+use Rattle.area.specs.Tables.{newestRow, lastSlot, commitsSlot}
 use Rattle.area.specs.Rows.{Linked, StoreRow, Rows}
 use Rattle.machine.specs.declared.threads.Thread.{Thread}
-use Rattle.machine.specs.declared.state.Machine.{Machine}
-use Rattle.machine.specs.Threads.{fresh, skippedT}
-use Rattle.machine.specs.Twin.{threadAt, withThread, ticked}
-use Rattle.machine.specs.Sim.{issued, done, Numbers, Limits, Queue, Links, Tables}
-use Rattle.machine.proofs.CellLaws.{up-is}
+use Rattle.machine.specs.Threads.{skippedT, threadOf}
+use Rattle.machine.specs.Twin.{State, threadAt, withRows}
+use Rattle.machine.specs.Sim.{issued, done, Numbers, Limits, Queue, Seen, Links, Newest}
+use Rattle.machine.proofs.CellLaws.{up-is, Replaced, thread-other}
 
 -- ---- chains
 
@@ -87,27 +84,16 @@ module _ (ev : ℕ → Event) (n : ℕ) where
       let next = limits-next limits passes in
       omega (arith, location-below ev (suc n) (next .accepted) n (omega arith) (rw kind-is has), next .few-locations)
 
-  pub ticked-numbers :
-      (m : Machine) → Numbers ev n m → n ≤ 2048 → crash? ev n ≡ false → Numbers ev (suc n) (ticked m)
-  unfolding ticked
-  ticked-numbers m numbers small no-crash = record {
+  pub rows-numbers :
+      (m : State) (rows : List ℕ) → Numbers ev n m → n ≤ 2048 → crash? ev n ≡ false → length rows ≡ 128
+      → Numbers ev (suc n) (withRows m rows)
+  unfolding withRows
+  rows-numbers m rows numbers small no-crash eight = record {
     event-is = up-is (m .event) (omega (arith, numbers .event-is)) ∙ ap suc (numbers .event-is);
     stretch-is = numbers .stretch-is ∙ sym (stretch-else ev n no-crash);
     threads-is = numbers .threads-is;
     locations-is = numbers .locations-is;
-    eight = numbers .eight;
-  }
-
-  pub thread-numbers :
-      (m : Machine) (t : ℕ) (s : Thread) → Numbers ev n m → n ≤ 2048 → crash? ev n ≡ false
-      → Numbers ev (suc n) (withThread m t s)
-  unfolding withThread
-  thread-numbers m t s numbers small no-crash = record {
-    event-is = up-is (m .event) (omega (arith, numbers .event-is)) ∙ ap suc (numbers .event-is);
-    stretch-is = numbers .stretch-is ∙ sym (stretch-else ev n no-crash);
-    threads-is = numbers .threads-is;
-    locations-is = numbers .locations-is;
-    eight = length-set (m .all) t s ∙ numbers .eight;
+    eight = eight;
   }
 
   -- ---- threads
@@ -167,30 +153,46 @@ module _ (ev : ℕ → Event) (n : ℕ) where
       queue-skip t s (s .skip) no-crash (leaves .no-issue) (leaves .no-commit)
       (skipping-away ev n t no-crash (leaves .no-on) (leaves .no-off) ∙ sym (queue .skip-is)) queue
 
-  abbrev pub Queues : Machine → Type 0
+  abbrev pub Queues : State → Type 0
   Queues m = (t : ℕ) → t < 8 → Queue ev n t (threadAt m t)
 
+  -- no thread's state changed
   pub queues-keep :
-      (m : Machine) → crash? ev n ≡ false → ((t : ℕ) → Leaves t) → Queues m
-      → (t : ℕ) → t < 8 → Queue ev (suc n) t (threadAt (ticked m) t)
-  unfolding threadAt ticked
-  queues-keep m no-crash leaves queues t few = queue-keep t (getD (m .all) t fresh) no-crash (leaves t) (queues t few)
+      (m : State) (rows : List ℕ) → crash? ev n ≡ false → ((t : ℕ) → Leaves t)
+      → ((t : ℕ) → threadOf rows t ≡ threadAt m t) → Queues m
+      → (t : ℕ) → t < 8 → Queue ev (suc n) t (threadAt (withRows m rows) t)
+  unfolding withRows
+  queues-keep m rows no-crash leaves same queues t few =
+      rw (same t) (queue-keep t (threadAt m t) no-crash (leaves t) (queues t few))
 
   -- the event's own thread changed
   pub queues-with :
-      (m : Machine) (s : Thread) → length (m .all) ≡ 8 → thread ev n < 8 → crash? ev n ≡ false
+      (m : State) (rows : List ℕ) (s : Thread) → Replaced (m .rows) rows (thread ev n) s → crash? ev n ≡ false
       → Queue ev (suc n) (thread ev n) s → Queues m
-      → (t : ℕ) → t < 8 → Queue ev (suc n) t (threadAt (withThread m (thread ev n) s) t)
-  unfolding threadAt withThread
-  queues-with m s eight own-few no-crash new queues t few = own-or-other (same? (thread ev n) t)
+      → (t : ℕ) → t < 8 → Queue ev (suc n) t (threadAt (withRows m rows) t)
+  unfolding withRows
+  queues-with m rows s replaced no-crash new queues t few = own-or-other (same? (thread ev n) t)
     where
-      own-or-other :
-          (thread ev n ≡ t) ⊎ (thread ev n ≢ t) → Queue ev (suc n) t (getD (set (m .all) (thread ev n) s) t fresh)
-      own-or-other (inl own) =
-          rw (← own, getD-set-same (m .all) (thread ev n) s fresh (omega arith)) new
+      own-or-other : (thread ev n ≡ t) ⊎ (thread ev n ≢ t) → Queue ev (suc n) t (threadOf rows t)
+      own-or-other (inl own) = rw (← own, replaced .own) new
       own-or-other (inr other) =
-          rw (getD-set-other (m .all) (thread ev n) t s fresh (λ same. other (sym same)))
-          (queue-keep t (getD (m .all) t fresh) no-crash (others-left t other) (queues t few))
+          rw (thread-other (m .rows) rows (thread ev n) s replaced t other)
+          (queue-keep t (threadAt m t) no-crash (others-left t other) (queues t few))
+
+  -- an event that is no load and no crash leaves what the threads have seen
+  pub seen-keep :
+      (rows rows′ : List ℕ) → crash? ev n ≡ false → load? ev n ≡ false
+      → ((e k : ℕ) → k < 8 → getRow rows′ e k ≡ getRow rows e k) → Seen ev n rows → Seen ev (suc n) rows′
+  seen-keep rows rows′ no-crash no-load same seen-are t u few-t few-u =
+      same (suc t) u few-u ∙ seen-are t u few-t few-u
+      ∙ sym (seen-away ev n t u no-crash (λ loads _. false-true (sym no-load ∙ loads .test)))
+
+  pub seen-with :
+      (m : State) (rows : List ℕ) (t : ℕ) (s : Thread) → Replaced (m .rows) rows t s → crash? ev n ≡ false
+      → load? ev n ≡ false → Seen ev n (m .rows) → Seen ev (suc n) (withRows m rows .rows)
+  unfolding withRows
+  seen-with m rows t s replaced no-crash no-load =
+      seen-keep (m .rows) rows no-crash no-load (λ e k low. replaced .leaves e k (λ _. low))
 
   -- ---- rows and chains, from the work area l to l′
 
@@ -236,23 +238,7 @@ module _ (ev : ℕ → Event) (n : ℕ) where
         same j t from-one to-eight few ∙ rows .commits-are j t from-one to-eight few
         ∙ sym (count-away ev (commit? ev) n j t (λ commits _ _. false-true (sym no-commit ∙ commits)))
 
-    -- an event that is neither, where at most what the threads have seen changes
-    pub rows-keep :
-        issue? ev n ≡ false → commit? ev n ≡ false → length l′ ≡ length l
-        → ((p k : ℕ) → k ≢ 13 → getRow l′ p k ≡ getRow l p k) → ((i : ℕ) → i < 432 → cell l′ i ≡ cell l i)
-        → Rows ev n l → Rows ev (suc n) l′
-    rows-keep no-issue no-commit size columns slots rows =
-        let low : (p k : ℕ) → k < 11 → getRow l′ p k ≡ getRow l p k = λ p k less. columns p k (λ is. omega arith) in
-        record {
-          room = rw size (rows .room);
-          stores = stores-keep no-issue low rows;
-          others = others-keep low rows;
-          chains = chains-keep no-commit (λ q. columns q 14 (λ is. omega arith)) (λ x few. slots x (omega arith)) rows;
-          commits-are =
-              commits-keep no-commit (λ j t from-one to-eight few. slots (commitsSlot j t) (omega arith)) rows;
-        }
-
-    -- ---- links and tables
+    -- ---- links and newest stores
 
     pub links-keep :
         issue? ev n ≡ false → ((p : ℕ) → getRow l′ p 11 ≡ getRow l p 11) → Links ev n l → Links ev (suc n) l′
@@ -274,16 +260,24 @@ module _ (ev : ℕ → Event) (n : ℕ) where
             (λ store _. false-true (sym no-issue ∙ store .test))
 
     pub newest-keep :
-        issue? ev n ≡ false → ((p : ℕ) → getRow l′ p 15 ≡ getRow l p 15) → Tables ev n l
-        → (x t : ℕ) → x < 256 → t < 8 → getRow l′ (newestRow x t) 15 ≡ newestAt ev (suc n) x t
-    newest-keep no-issue same tables x t few-x few-t =
-        same (newestRow x t) ∙ tables .newest-are x t few-x few-t
+        issue? ev n ≡ false → ((p : ℕ) → getRow l′ p 15 ≡ getRow l p 15) → Newest ev n l → Newest ev (suc n) l′
+    newest-keep no-issue same newest-are x t few-x few-t =
+        same (newestRow x t) ∙ newest-are x t few-x few-t
         ∙ sym (newest-away ev n x t (λ store _ _. false-true (sym no-issue ∙ store .test)))
 
-    pub seen-keep :
-        crash? ev n ≡ false → load? ev n ≡ false
-        → ((t u : ℕ) → t < 8 → u < 8 → cell l′ (seenSlot t u) ≡ cell l (seenSlot t u)) → Tables ev n l
-        → (t u : ℕ) → t < 8 → u < 8 → cell l′ (seenSlot t u) ≡ seen ev (suc n) t u
-    seen-keep no-crash no-load same tables t u few-t few-u =
-        same t u few-t few-u ∙ tables .seen-are t u few-t few-u
-        ∙ sym (seen-away ev n t u no-crash (λ loads _. false-true (sym no-load ∙ loads .test)))
+  -- an event that is neither issue nor commit leaves the work area
+  module _ (l : List ℕ) (no-issue : issue? ev n ≡ false) where
+    pub rows-keep : commit? ev n ≡ false → Rows ev n l → Rows ev (suc n) l
+    rows-keep no-commit rows = record {
+      room = rows .room;
+      stores = stores-keep l l no-issue (λ p k _. refl) rows;
+      others = others-keep l l (λ p k _. refl) rows;
+      chains = chains-keep l l no-commit (λ q. refl) (λ x _. refl) rows;
+      commits-are = commits-keep l l no-commit (λ j t _ _ _. refl) rows;
+    }
+
+    pub links-same : Links ev n l → Links ev (suc n) l
+    links-same = links-keep l l no-issue (λ p. refl)
+
+    pub newest-same : Newest ev n l → Newest ev (suc n) l
+    newest-same = newest-keep l l no-issue (λ p. refl)

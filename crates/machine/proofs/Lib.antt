@@ -1,9 +1,13 @@
--- What the functions' proofs cite: which arm a match takes (ArmLaws), one turn of each loop (Loops), the long bodies
--- (Bodies). Then that the machine's state follows the definitions: what is read after a step (CellLaws, CommittedRows,
--- IssuedRows), what an event leaves (Keep), the load rule (Searches), and one kind at a time (Quiet, Loads, Commits,
--- Issues). The theorems that others cite: `refusals`, `begin-refusals` (Refusals), `step-next`, `counts-is`
--- (Simulation), `sim-start` (Start), `step-leaves`, `sim-but-judging` (Frames), `store-is`, `order-is` (Standings).
+-- What the functions' proofs cite: which arm a match takes (ArmLaws), one rule after the other (RuleLaws), the load rule
+-- (Loading), one turn of each loop (Loops), the long bodies (Bodies). Then that the machine's state follows the
+-- definitions: what is read after a step (CellLaws, CommittedRows, IssuedRows), what an event leaves (Keep), the load
+-- rule (Searches), and one kind at a time (Quiet, Loads, Commits, Issues). The theorems that others cite: `refusals`,
+-- `begin-refusals` (Refusals), `step-next`, `counts-is` (Simulation), `refusal-told`, `counted-told`, `after-told`,
+-- `counted-stays` (Taken), `sim-start` (Start), `step-leaves`, `sim-but-judging` (Frames), `store-is`, `order-is`
+-- (Standings).
 pub mod ArmLaws
+pub mod RuleLaws
+pub mod Loading
 pub mod Loops
 pub mod Bodies
 pub mod CellLaws
@@ -17,6 +21,7 @@ pub mod Loads
 pub mod Commits
 pub mod Issues
 pub mod Simulation
+pub mod Taken
 pub mod Start
 pub mod Frames
 pub mod Standings

@@ -16,16 +16,17 @@ use Rattle.model.specs.Rules.{refusal}
 use Rattle.model.specs.Clocks.{seen}
 use Rattle.model.proofs.Searching.{false-true, test, same?, less?}
 use Rattle.model.proofs.Roles.{load-no-crash, load-no-issue, issue-or-not}
+use Rattle.model.proofs.Acceptance.{store-not-0}
 use Rattle.model.proofs.StorePlaces.{stretch-some}
 use Rattle.model.proofs.Unchanged.{seen-away, seen-from, seen-crossing}
-use Rattle.area.specs.Cells.{getRow, cell}
-use Rattle.area.specs.Tables.{seenSlot}
-use Rattle.machine.specs.Twin.{World, world, ticked}
-use Rattle.machine.specs.Effects.{joined, loadW}
-use Rattle.machine.specs.Sim.{Sim}
-use Rattle.machine.proofs.CellLaws.{length-joined, joined-column, joined-other, joined-in}
-use Rattle.machine.proofs.Keep.{limits-next, in-time, ticked-numbers, all-left, queues-keep}
-use Rattle.machine.proofs.Keep.{rows-keep, links-keep, newest-keep}
+use Rattle.area.specs.Cells.{getRow}
+use Rattle.machine.specs.Threads.{threadOf}
+use Rattle.machine.specs.Twin.{World, world, threadAt, withRows}
+use Rattle.machine.specs.Effects.{met, loadW}
+use Rattle.machine.specs.Sim.{Seen, Sim}
+use Rattle.machine.proofs.CellLaws.{length-met, met-other, met-in, thread-met}
+use Rattle.machine.proofs.Keep.{limits-next, in-time, rows-numbers, all-left, queues-keep}
+use Rattle.machine.proofs.Keep.{rows-keep, links-same, newest-same}
 
 module _ (ev : ℕ → Event) (n : ℕ) (w : World) (sim : Sim ev n w) (passes : refusal ev n ≡ 0)
     (loads : Load ev n) (few : thread ev n < 8) where
@@ -60,13 +61,12 @@ module _ (ev : ℕ → Event) (n : ℕ) (w : World) (sim : Sim ev n w) (passes :
           let row = sim .rows .stores s early store in
           record { early = early; store = store; in-stretch = sym (row .stretch-is) ∙ is-here }
 
-  -- with a work area that differs at most in what the threads have seen, and has that right
+  -- with the state of the threads as it was, and what they have seen right
   with-seen :
-      (after : List ℕ) → length after ≡ length l → ((p k : ℕ) → k ≢ 13 → getRow after p k ≡ getRow l p k)
-      → ((i : ℕ) → i < 432 → cell after i ≡ cell l i)
-      → ((v u : ℕ) → v < 8 → u < 8 → cell after (seenSlot v u) ≡ seen ev (suc n) v u)
-      → Sim ev (suc n) (world (ticked (w .machine)) after)
-  with-seen after size columns slots seen-is =
+      (after : List ℕ) → length after ≡ 128 → ((v : ℕ) → threadOf after v ≡ threadAt (w .state) v)
+      → Seen ev (suc n) after → Sim ev (suc n) (world (withRows (w .state) after) l)
+  unfolding withRows
+  with-seen after size same seen-is =
       let kind-is = load-kind in
       let no-crash = load-no-crash ev loads in
       let no-issue = load-no-issue ev loads in
@@ -74,33 +74,36 @@ module _ (ev : ℕ → Event) (n : ℕ) (w : World) (sim : Sim ev n w) (passes :
       let no-on = ne-eqb (kind ev n) 10 (λ is-10. omega arith) in
       let no-off = ne-eqb (kind ev n) 11 (λ is-11. omega arith) in
       record {
-        numbers = ticked-numbers ev n (w .machine) (sim .numbers) (in-time ev n (sim .limits) passes) no-crash;
+        numbers = rows-numbers ev n (w .state) after (sim .numbers) (in-time ev n (sim .limits) passes) no-crash size;
         limits = limits-next ev n (sim .limits) passes;
-        queues = queues-keep ev n (w .machine) no-crash (all-left ev n no-issue no-commit no-on no-off) (sim .queues);
-        rows = rows-keep ev n l after no-issue no-commit size columns slots (sim .rows);
-        links = links-keep ev n l after no-issue (λ p. columns p 11 (λ is-13. omega arith)) (sim .links);
-        tables = record {
-          newest-are = newest-keep ev n l after no-issue (λ p. columns p 15 (λ is-13. omega arith)) (sim .tables);
-          seen-are = seen-is;
-        };
+        queues =
+            queues-keep ev n (w .state) after no-crash (all-left ev n no-issue no-commit no-on no-off) same
+            (sim .queues);
+        seen-are = seen-is;
+        rows = rows-keep ev n l no-issue no-commit (sim .rows);
+        links = links-same ev n l no-issue (sim .links);
+        newest-are = newest-same ev n l no-issue (sim .newest-are);
       }
 
   -- what is seen after a load from a store of the stretch, of its own thread and of another
-  joined-seen :
+  met-seen :
       FromHere → (v u : ℕ) → v < 8 → u < 8 → (t ≡ v) ⊎ (t ≢ v)
-      → cell (joined 8 t s l) (seenSlot v u) ≡ seen ev (suc n) v u
-  joined-seen from v u few-v few-u (inl own) =
+      → getRow (met l t s (w .state .rows)) (suc v) u ≡ seen ev (suc n) v u
+  met-seen from v u few-v few-u (inl own) =
       let row = sim .rows .stores s (from .early) (from .store) in
+      let some = store-not-0 ev n (sim .limits .accepted) (from .store) in
       rw (
         ← own,
-        joined-in 8 t s l u (sim .rows .room) few (omega arith) few-u,
-        sim .tables .seen-are t u few few-u,
+        met-in l t s (w .state .rows) u (sim .numbers .eight) few (omega arith)
+            (omega (arith, from .early, sim .limits .few-events))
+            (omega (arith, from .early, sim .limits .few-events, sim .rows .room)) few-u,
+        sim .seen-are t u few few-u,
         row .clock-is u few-u,
       )
       (sym (seen-from ev n u loads (from .store) (from .early) (from .in-stretch)))
-  joined-seen from v u few-v few-u (inr other) =
-      joined-other 8 t s l (seenSlot v u) (λ i below same. other (omega arith))
-      ∙ sim .tables .seen-are v u few-v few-u
+  met-seen from v u few-v few-u (inr other) =
+      met-other l t s (w .state .rows) (suc v) u (λ same. absurd (other (omega arith)))
+      ∙ sim .seen-are v u few-v few-u
       ∙ sym (seen-away ev n v u (load-no-crash ev loads) (λ _ same. other same))
 
   pub load-next : Sim ev (suc n) (loadW w t s)
@@ -108,21 +111,21 @@ module _ (ev : ℕ → Event) (n : ℕ) (w : World) (sim : Sim ev n w) (passes :
   load-next = by-test (test here)
     where
       here : Bool
-      here = eqb (getRow l s 10) (w .machine .stretch)
+      here = eqb (getRow l s 10) (w .state .stretch)
 
       by-test :
           (here ≡ true) ⊎ (here ≡ false)
-          → Sim ev (suc n) (world (ticked (w .machine)) (here gives joined 8 t s l else l))
+          → Sim ev (suc n)
+          (world (withRows (w .state) (here gives met l t s (w .state .rows) else (w .state .rows))) l)
       by-test (inl is-here) =
           let from = row-here (eqb-true _ _ is-here ∙ sim .numbers .stretch-is) in
           rw is-here
-          (with-seen (joined 8 t s l) (length-joined 8 t s l) (joined-column 8 t s l)
-          (λ i low. joined-other 8 t s l i (λ u below same. omega arith))
-          (λ v u few-v few-u. joined-seen from v u few-v few-u (same? t v)))
+          (with-seen (met l t s (w .state .rows)) (length-met l t s (w .state .rows) ∙ sim .numbers .eight)
+          (thread-met l t s (w .state .rows)) (λ v u few-v few-u. met-seen from v u few-v few-u (same? t v)))
       by-test (inr elsewhere) =
           rw elsewhere
-          (with-seen l refl (λ p k _. refl) (λ i _. refl)
-          (λ v u few-v few-u. sim .tables .seen-are v u few-v few-u ∙ sym (seen-crossing ev n v u loads none)))
+          (with-seen (w .state .rows) (sim .numbers .eight) (λ v. refl)
+          (λ v u few-v few-u. sim .seen-are v u few-v few-u ∙ sym (seen-crossing ev n v u loads none)))
         where
           none : Issue ev s → s < n → stretch ev s ≡ stretch ev n → ⊥
           none store early in-stretch =

@@ -1,35 +1,56 @@
 -- The loops' invariant, and one more turn of each: the clauses of specs/Effects.antt with the loop's counter.
-use mathlib.Core.Path.{_≡_, refl}
+use mathlib.Core.Path.{_≡_, refl, sym, ap, _∙_}
 use mathlib.Core.List.{List}
-use Prim.Native.Nat.{ℕ, _+_, _≤_, max}
+use Prim.Native.Nat.{ℕ, suc, _+_, _-_, _*_, _≤_, _<_, max}
 use native.Mathlib.Numerals.{add-one}
-use lib.Dec.{eqb}
-use lib.ListN.{length}
-use Rattle.record.specs.Tests.{_gives_else_}
-use Rattle.area.specs.Cells.{getRow, putRow, cell, putCell}
-use Rattle.area.specs.Tables.{seenSlot}
-use Rattle.machine.specs.Effects.{clocked, joined, wiped}
+use native.Mathlib.Omega.{arith}
+use lib.ListN.{length, getD, set}
+use Rattle.area.specs.Cells.{getRow, putRow}
+use Rattle.area.proofs.ReadBack.{get-there, put-there}
+use Rattle.machine.specs.Effects.{clocked, joined}
 
--- a loop's invariant: k turns of at most `top` are done, and the work area is what the definition says
+-- a loop's invariant: k turns of at most `top` are done, and the numbers are what the definition says
 pub record Turned (k top : ℕ) (before now expected : List ℕ) : Type 0 where
   pub below : k ≤ top
   pub size : length now ≡ length before
   pub is-so : now ≡ expected
 
+-- columns 0 to 7 of thread t's row, by position
+own-get : (rows : List ℕ) (t u : ℕ) → u < 8 → t + 1 ≤ 2048 → getD rows (16 * t + u) 0 ≡ getRow rows (suc t) u
+own-get rows t u few small =
+    ap (λ (i : ℕ). getD rows i 0) (omega arith)
+    ∙ sym (get-there rows (suc t) u (omega arith) (omega arith) (omega arith))
+
+own-put :
+    (rows : List ℕ) (t u v : ℕ) → u < 8 → t + 1 ≤ 2048 → set rows (16 * t + u) v ≡ putRow rows (suc t) u v
+own-put rows t u v few small =
+    ap (λ (i : ℕ). set rows i v) (omega arith)
+    ∙ sym (put-there rows (suc t) u v (omega arith) (omega arith) (omega arith))
+
 pub clocked-more :
-    (u e t n : ℕ) (l : List ℕ)
-    → putRow (clocked u e t n l) e u (eqb u t gives n else cell (clocked u e t n l) (seenSlot t u))
-    ≡ clocked (u + 1) e t n l
+    (u : ℕ) (rows : List ℕ) (t e : ℕ) (l : List ℕ) → u < 8 → t + 1 ≤ 2048 → 1 ≤ e → e ≤ 2048
+    → set (clocked u rows t e l) (16 * (e - 1) + u) (getD rows (16 * t + u) 0) ≡ clocked (u + 1) rows t e l
 unfolding clocked
-clocked-more u e t n l = rw add-one refl
+clocked-more u rows t e l few small from-one to-last =
+    rw (
+      own-get rows t u few small,
+      ← put-there (clocked u rows t e l) e u (getRow rows (suc t) u) from-one to-last
+          (omega arith),
+      add-one,
+    )
+    refl
 
 pub joined-more :
-    (u t s : ℕ) (l : List ℕ)
-    → putCell (joined u t s l) (seenSlot t u) (max (cell (joined u t s l) (seenSlot t u)) (getRow (joined u t s l) s u))
-    ≡ joined (u + 1) t s l
+    (u : ℕ) (l : List ℕ) (t s : ℕ) (rows : List ℕ) → u < 8 → t + 1 ≤ 2048 → 1 ≤ s → s ≤ 2048
+    → set (joined u l t s rows) (16 * t + u)
+    (max (getD (joined u l t s rows) (16 * t + u) 0) (getD l (16 * (s - 1) + u) 0))
+    ≡ joined (u + 1) l t s rows
 unfolding joined
-joined-more u t s l = rw add-one refl
-
-pub wiped-more : (i : ℕ) (l : List ℕ) → putCell (wiped i l) (432 + i) 0 ≡ wiped (i + 1) l
-unfolding wiped
-wiped-more i l = rw add-one refl
+joined-more u l t s rows few small from-one to-last =
+    rw (
+      own-get (joined u l t s rows) t u few small,
+      ← get-there l s u from-one to-last (omega arith),
+      own-put (joined u l t s rows) t u _ few small,
+      add-one,
+    )
+    refl

@@ -4,7 +4,7 @@ use mathlib.Core.Path.{_≡_, refl, sym, ap, _∙_}
 use mathlib.Core.Bool.{Bool, true, false, cond, _&&_, _||_, not}
 use Prim.Native.Nat.{ℕ, _<_}
 use native.Mathlib.Omega.{arith}
-use borrow.Author.Tests.{ne-eqb, lt-ltb, le-ltb, leb-true, leb-false}
+use borrow.Author.Tests.{ne-eqb, lt-ltb, le-ltb, le-leb, leb-true, leb-false}
 use lib.Dec.{eqb, ltb, leb}
 use Rattle.record.specs.declared.events.Event.{Event}
 use Rattle.record.specs.declared.events.Event.the-variants.{Begin, Issue, Commit, Load, Clflush, Clwb}
@@ -120,31 +120,44 @@ module _ (ev : ℕ → Event) (n : ℕ) (w : World) (sim : Sim ev n w) where
   abbrev begun : 0 < n
   begun = sim .limits .accepted .some-record
 
-  on-thread : (t r r′ : ℕ) → (t < 8 → r ≡ r′) → onThread (w .machine) t r ≡ threadRule ev n begun t r′
+  on-thread : (t r r′ : ℕ) → (t < 8 → r ≡ r′) → onThread (w .state) t r ≡ threadRule ev n begun t r′
   on-thread t r r′ agree =
       rw (sim .numbers .event-is, sim .numbers .threads-is)
-      (under (ltb 2048 n) 13 _ _ (λ _. under (leb (threads ev) t) 7 r r′ (λ below. agree (one-of-eight below))))
+      (under (ltb 2048 n) 13 _ _ (λ _. by-eight (leb 8 t) refl))
     where
       one-of-eight : leb (threads ev) t ≡ false → t < 8
       one-of-eight below = omega (arith, leb-false (threads ev) t below, sim .limits .few-threads)
 
+      by-eight :
+          (high : Bool) → leb 8 t ≡ high
+          → (high gives 7 else leb (threads ev) t gives 7 else r) ≡ cond (leb (threads ev) t) 7 r′
+      by-eight true is-high =
+          rw (le-leb (threads ev) t (omega (arith, leb-true 8 t is-high, sim .limits .few-threads))) refl
+      by-eight false _ = under (leb (threads ev) t) 7 r r′ (λ below. agree (one-of-eight below))
+
   on-place :
-      (t x r r′ : ℕ) → (t < 8 → x < 256 → r ≡ r′) → onPlace (w .machine) t x r ≡ placeRule ev n begun t x r′
+      (t x r r′ : ℕ) → (t < 8 → x < 256 → r ≡ r′) → onPlace (w .state) t x r ≡ placeRule ev n begun t x r′
   on-place t x r r′ agree =
       on-thread t _ _
-      (λ few.
-      rw (sim .numbers .locations-is) (under (leb (locations ev) x) 8 r r′ (λ below. agree few (in-range below))))
+      (λ few. rw (sim .numbers .locations-is) (by-256 few (leb 256 x) refl))
     where
       in-range : leb (locations ev) x ≡ false → x < 256
       in-range below = omega (arith, leb-false (locations ev) x below, sim .limits .few-locations)
 
+      by-256 :
+          t < 8 → (far : Bool) → leb 256 x ≡ far
+          → (far gives 8 else leb (locations ev) x gives 8 else r) ≡ cond (leb (locations ev) x) 8 r′
+      by-256 few true is-far =
+          rw (le-leb (locations ev) x (omega (arith, leb-true 256 x is-far, sim .limits .few-locations))) refl
+      by-256 few false _ = under (leb (locations ev) x) 8 r r′ (λ below. agree few (in-range below))
+
   empty-is :
-      (t a r : ℕ) → t < 8 → (emptyM (w .machine) t gives a else r) ≡ cond (eqb (issued ev n t) (done ev n t)) a r
+      (t a r : ℕ) → t < 8 → (emptyM (w .state) t gives a else r) ≡ cond (eqb (issued ev n t) (done ev n t)) a r
   empty-is t a r few =
       let queue = sim .queues t few in
       rw (queue .issued-is, queue .committed-is) (under (eqb (issued ev n t) (done ev n t)) a r r (λ _. refl))
 
-  skip-is : (t a r : ℕ) → t < 8 → (threadAt (w .machine) t .skip gives a else r) ≡ cond (skipping ev n t) a r
+  skip-is : (t a r : ℕ) → t < 8 → (threadAt (w .state) t .skip gives a else r) ≡ cond (skipping ev n t) a r
   skip-is t a r few = rw (sim .queues t few .skip-is) (under (skipping ev n t) a r r (λ _. refl))
 
   load-rule :

@@ -27,7 +27,7 @@ use Rattle.area.specs.Cells.{getRow, cell}
 use Rattle.area.specs.Tables.{lastSlot, commitsSlot}
 use Rattle.area.specs.Rows.{Linked, StoreRow}
 use Rattle.area.proofs.ReadBack.{row-zero}
-use Rattle.machine.specs.Twin.{World, waitingW, currentW, pastW, fitsW}
+use Rattle.machine.specs.Twin.{World, waitingIn, currentIn, pastIn, waitingW, currentW, pastW, fitsW}
 use Rattle.machine.specs.Sim.{Sim}
 
 -- the first link is the list's head
@@ -106,9 +106,9 @@ module _ (ev : ℕ → Event) (n : ℕ) (w : World) (sim : Sim ev n w) where
       (same? (stretch ev p) (stretch ev n)) (less? (committedBy ev n) (suc (place ev p)))
 
   pub waiting-is : t < 8 → x < 256 → waitingW w t x ≡ waiting ev n
-  unfolding waitingW waiting-in
+  unfolding waitingIn waiting-in
   waiting-is few-t few-x =
-      rw (sim .tables .newest-are x t few-x few-t, sim .queues t few-t .committed-is, sim .numbers .stretch-is)
+      rw (sim .newest-are x t few-x few-t, sim .queues t few-t .committed-is, sim .numbers .stretch-is)
       (waiting-by-newest few-t (newestAt ev n x t) refl (same? (newestAt ev n x t) 0))
 
   -- ---- current
@@ -138,7 +138,7 @@ module _ (ev : ℕ → Event) (n : ℕ) (w : World) (sim : Sim ev n w) where
           (sym (current-none ev n n (sim .limits .accepted) (omega arith) p is-head (λ _. elsewhere)))
 
   pub current-is : x < 256 → currentW w x ≡ current ev n
-  unfolding currentW
+  unfolding currentIn
   current-is few-x =
       let is-head = linked-head ev l (cell l (lastSlot x)) (landed ev n x) (sim .rows .chains x few-x) in
       rw (is-head, sim .numbers .stretch-is) (current-by-head (headOf ev (landed ev n x)) refl (same? _ 0))
@@ -204,7 +204,7 @@ module _ (ev : ℕ → Event) (n : ℕ) (w : World) (sim : Sim ev n w) where
       no-store (earlier-stretch ev p n (ltb-true _ _ (middle .1))) (record { test = inner .0 }))
 
   past-is : (p : ℕ) → pastW w x p ≡ past ev n p
-  unfolding pastW past-in
+  unfolding pastIn past-in
   past-is p = by-role (less? p n) (issue-or-not ev p)
     where
       none : (p < n → Issue ev p → ⊥) → pastW w x p ≡ past ev n p

@@ -104,4 +104,10 @@ module _ (ev : ℕ → Event) (n : ℕ) (w : World) (sim : Sim ev n w) (passes :
           let kind-is = eqb-true (kind ev n) 4 (loads .test) in
           let few = few-own ev n (sim .limits) passes 4 kind-is refl in
           let small = small-own ev n (sim .limits) passes 4 kind-is refl in
-          rw (waiting-is ev n w sim few small, current-is ev n w sim small, sim .queues (thread ev n) few .skip-is) refl
+          rw (
+            loads .test,
+            waiting-is ev n w sim few small,
+            current-is ev n w sim small,
+            sim .queues (thread ev n) few .skip-is,
+          )
+          refl

@@ -7,7 +7,7 @@ use mathlib.Core.Logic.{_≢_}
 use Prim.Native.Nat.{ℕ, suc, _-_, _≤_, _<_}
 use native.Mathlib.Omega.{arith}
 use borrow.Author.Tests.{eqb-true, ne-eqb}
-use lib.ListN.{length, length-replicate}
+use lib.ListN.{length, replicate, length-replicate}
 use Rattle.record.specs.declared.events.Event.{Event}
 use Rattle.model.specs.Search.{last}
 use Rattle.model.specs.Trace.{kind, is, commit?, crash?, Issue, threads, locations, stretch}
@@ -24,12 +24,13 @@ use Rattle.model.proofs.Limits.{few-threads, few-locations}
 use Rattle.model.proofs.StorePlaces.{store-at-none}
 use Rattle.model.proofs.Unchanged.{count-away, live-away, skipping-away, newest-away, seen-away, landed-away}
 use Rattle.area.specs.Cells.{getRow}
-use Rattle.area.specs.Tables.{newestRow, lastSlot, commitsSlot, seenSlot}
+use Rattle.area.specs.Tables.{newestRow, lastSlot, commitsSlot}
 use Rattle.area.specs.Rows.{Rows}
+use Rattle.area.proofs.ReadBack.{cleared-cell}
 use Rattle.machine.specs.Threads.{fresh}
-use Rattle.machine.specs.Twin.{world, threadAt, started}
-use Rattle.machine.specs.Sim.{issued, done, Queue, Links, Tables, Sim}
-use Rattle.machine.proofs.CellLaws.{replicate-at}
+use Rattle.machine.specs.Twin.{world, started}
+use Rattle.machine.specs.Sim.{issued, done, Queue, Seen, Links, Newest, Sim}
+use Rattle.machine.proofs.CellLaws.{thread-cleared}
 
 module _ (ev : ℕ → Event) (passes : refusal ev 0 ≡ 0) where
   accepted : Accepted ev 1
@@ -98,6 +99,13 @@ module _ (ev : ℕ → Event) (passes : refusal ev 0 ≡ 0) where
         newest-is = sym (store-at-none ev 1 (stretch ev 1) t (issued ev 1 t - 1) (omega arith));
       }
 
+  seen-start : Seen ev 1 (replicate 128 0)
+  seen-start t u _ _ =
+      cleared-cell 128 (suc t) u
+      ∙ sym
+      (seen-away ev 0 t u no-crash (λ loads _. false-true (sym (no-other 4 (λ is-1. omega arith)) ∙ loads .test))
+      ∙ seen-zero ev t u)
+
   -- ---- over a cleared work area
 
   module _ (l : List ℕ) (room : 32768 ≤ length l) (clear : (e k : ℕ) → getRow l e k ≡ 0) where
@@ -131,28 +139,20 @@ module _ (ev : ℕ → Event) (passes : refusal ev 0 ≡ 0) where
       free = λ p _. clear p 11;
     }
 
-    tables-start : Tables ev 1 l
-    tables-start = record {
-      newest-are = λ x t _ _.
-          clear (newestRow x t) 15
-          ∙ sym (newest-away ev 0 x t (λ store _ _. no-store 0 (omega arith) store) ∙ newest-0 x t);
-      seen-are = λ t u _ _.
-          clear (suc (seenSlot t u)) 13
-          ∙ sym
-          (seen-away ev 0 t u no-crash (λ loads _. false-true (sym (no-other 4 (λ is-1. omega arith)) ∙ loads .test))
-          ∙ seen-zero ev t u);
-    }
+    newest-start : Newest ev 1 l
+    newest-start x t _ _ =
+        clear (newestRow x t) 15
+        ∙ sym (newest-away ev 0 x t (λ store _ _. no-store 0 (omega arith) store) ∙ newest-0 x t)
 
     -- THE STATE AFTER AN ACCEPTED BEGIN
     pub sim-start : Sim ev 1 (world (started (threads ev) (locations ev)) l)
-    unfolding started threadAt
     sim-start = record {
       numbers = record {
         event-is = refl;
         stretch-is = sym stretch-1;
         threads-is = refl;
         locations-is = refl;
-        eight = length-replicate 8 fresh;
+        eight = length-replicate {A = ℕ} 128 0;
       };
       limits = record {
         accepted = accepted;
@@ -161,8 +161,9 @@ module _ (ev : ℕ → Event) (passes : refusal ev 0 ≡ 0) where
         few-events = omega arith;
         few-crashes = omega (arith, stretch-1);
       };
-      queues = λ t _. rw (replicate-at 8 fresh t) (fresh-queue t);
+      queues = λ t _. rw (thread-cleared 128 t) (fresh-queue t);
+      seen-are = seen-start;
       rows = rows-start;
       links = links-start;
-      tables = tables-start;
+      newest-are = newest-start;
     }

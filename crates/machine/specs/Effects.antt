@@ -1,6 +1,6 @@
 -- What an event that passes does to the machine's state and the work area, as total functions.
-use Prim.Native.Nat.{ℕ, zero, suc, _+_, max}
-use mathlib.Core.Bool.{Bool}
+use Prim.Native.Nat.{ℕ, zero, suc, max}
+use mathlib.Core.Bool.{Bool, _&&_}
 use mathlib.Core.List.{List}
 use lib.Dec.{eqb}
 use Rattle.record.specs.declared.events.Event.{Event}
@@ -8,49 +8,50 @@ use Rattle.record.specs.declared.events.Fields.{Fields}
 use Rattle.record.specs.Tests.{_gives_else_}
 use Rattle.record.specs.Events.{kindOf}
 use Rattle.record.specs.Fields.{fieldsOf}
-use Rattle.area.specs.Cells.{getRow, putRow, cell, putCell, up}
-use Rattle.area.specs.Tables.{newestRow, lastSlot, commitsSlot, seenSlot}
-use Rattle.machine.specs.declared.state.Machine.{Machine}
-use Rattle.machine.specs.Threads.{issuedT, committedT, skippedT}
-use Rattle.machine.specs.Twin.{World, world, threadAt, withThread, ticked, crashed}
+use Rattle.area.specs.Cells.{getRow, putRow, hasRow, cell, putCell, up}
+use Rattle.area.specs.Tables.{newestRow, lastSlot, commitsSlot}
+use Rattle.machine.specs.Threads.{issuedT, committedT, skippedT, putIssued, putCommitted, putSkip}
+use Rattle.machine.specs.Twin.{World, world, threadAt, withRows, ticked, crashed}
 use Rattle.machine.specs.Arms.{byKind}
 
--- ---- the loops
+-- ---- clocks, where the rows of the threads stand in `rows` and those of stores in l
 
--- columns 0 to k - 1 of row e become the clock of a store by thread t that is its n-th
-unfoldable pub clocked : ℕ → ℕ → ℕ → ℕ → List ℕ → List ℕ
-clocked zero e t n l = l
-clocked (suc u) e t n l =
-    let so-far = clocked u e t n l in
-    putRow so-far e u (eqb u t gives n else cell so-far (seenSlot t u))
+-- columns 0 to k - 1 of row e become those of thread t's row
+unfoldable pub clocked : ℕ → List ℕ → ℕ → ℕ → List ℕ → List ℕ
+clocked zero rows t e l = l
+clocked (suc u) rows t e l = putRow (clocked u rows t e l) e u (getRow rows (suc t) u)
 
--- what t has seen of the first k threads, with the clock of row s
-unfoldable pub joined : ℕ → ℕ → ℕ → List ℕ → List ℕ
-joined zero t s l = l
-joined (suc u) t s l =
-    let so-far = joined u t s l in
-    putCell so-far (seenSlot t u) (max (cell so-far (seenSlot t u)) (getRow so-far s u))
+-- all eight, if both rows are there
+unfoldable pub stamped : List ℕ → ℕ → ℕ → List ℕ → List ℕ
+stamped rows t e l = (hasRow rows (suc t) && hasRow l e) gives clocked 8 rows t e l else l
 
--- the first k cells of what the threads have seen become 0
-unfoldable pub wiped : ℕ → List ℕ → List ℕ
-wiped zero l = l
-wiped (suc i) l = putCell (wiped i l) (432 + i) 0
+-- columns 0 to k - 1 of thread t's row become the larger of them and those of row s
+unfoldable pub joined : ℕ → List ℕ → ℕ → ℕ → List ℕ → List ℕ
+joined zero l t s rows = rows
+joined (suc u) l t s rows =
+    let so-far = joined u l t s rows in
+    putRow so-far (suc t) u (max (getRow so-far (suc t) u) (getRow l s u))
+
+-- all eight, if both rows are there
+unfoldable pub met : List ℕ → ℕ → ℕ → List ℕ → List ℕ
+met l t s rows = (hasRow rows (suc t) && hasRow l s) gives joined 8 l t s rows else rows
 
 -- ---- the steps
 
 -- the work area after an issue: g is the thread's newest store so far, e the event, c the thread's issues with it
-abbrev pub issuedWork : List ℕ → ℕ → ℕ → ℕ → ℕ → ℕ → ℕ → List ℕ
-issuedWork l g e t c x j =
+abbrev pub issuedWork : List ℕ → List ℕ → ℕ → ℕ → ℕ → ℕ → ℕ → ℕ → List ℕ
+issuedWork rows l g e t c x j =
     let linked = putRow l g 11 e in
-    let with-row = putRow (putRow (putRow (clocked 8 e t c linked) e 8 t) e 9 x) e 10 j in
+    let with-clock = putRow (stamped rows t e linked) e t c in
+    let with-row = putRow (putRow (putRow with-clock e 8 t) e 9 x) e 10 j in
     putRow with-row (newestRow x t) 15 e
 
 unfoldable pub issueW : World → ℕ → ℕ → World
 issueW w t x =
-    let m = w .machine in
+    let m = w .state in
     let old = threadAt m t in
-    world (withThread m t (issuedT old (m .event)))
-    (issuedWork (w .work) (old .newest) (m .event) t (up (old .issued)) x (m .stretch))
+    world (withRows m (putIssued (m .rows) t (issuedT old (m .event))))
+    (issuedWork (m .rows) (w .work) (old .newest) (m .event) t (up (old .issued)) x (m .stretch))
 
 -- the work area after a commit of store p at location x in stretch j: `link` is the store committed before it there, c
 -- the thread's commits with it
@@ -62,29 +63,32 @@ committedWork l p x link j t c =
 
 unfoldable pub commitW : World → ℕ → World
 commitW w t =
-    let m = w .machine in
+    let m = w .state in
     let old = threadAt m t in
     let p = old .oldest in
     let x = getRow (w .work) p 9 in
-    world (withThread m t (committedT old (getRow (w .work) p 11)))
+    world (withRows m (putCommitted (m .rows) t (committedT old (getRow (w .work) p 11))))
     (committedWork (w .work) p x (cell (w .work) (lastSlot x)) (m .stretch) t (up (old .committed)))
 
+-- the threads' rows after a load by thread t from store s
+abbrev pub loadedRows : World → ℕ → ℕ → List ℕ
+loadedRows w t s =
+    let m = w .state in
+    eqb (getRow (w .work) s 10) (m .stretch) gives met (w .work) t s (m .rows) else m .rows
+
 unfoldable pub loadW : World → ℕ → ℕ → World
-loadW w t s =
-    world (ticked (w .machine))
-    (eqb (getRow (w .work) s 10) (w .machine .stretch) gives joined 8 t s (w .work) else (w .work))
+loadW w t s = world (withRows (w .state) (loadedRows w t s)) (w .work)
 
 unfoldable pub crashW : World → World
-crashW w = world (crashed (w .machine)) (wiped 64 (w .work))
-
-abbrev pub skipM : Machine → ℕ → Bool → Machine
-skipM m t on = withThread m t (skippedT (threadAt m t) on)
+crashW w = world (crashed (w .state)) (w .work)
 
 unfoldable pub skipW : World → ℕ → Bool → World
-skipW w t on = world (skipM (w .machine) t on) (w .work)
+skipW w t on =
+    let m = w .state in
+    world (withRows m (putSkip (m .rows) t (skippedT (threadAt m t) on))) (w .work)
 
 unfoldable pub passW : World → World
-passW w = world (ticked (w .machine)) (w .work)
+passW w = world (ticked (w .state)) (w .work)
 
 -- ---- the effect
 

@@ -1,9 +1,10 @@
--- The code's steps as total functions, which its contracts cite (Threads, Twin, Arms, Turning, Effects, Orders), and
+-- The code's steps as total functions, which its contracts cite (Threads, Twin, Arms, Turning, Effects, Outcomes, Orders), and
 -- what ties them to the definitions (Sim).
 pub mod Threads
 pub mod Twin
 pub mod Arms
 pub mod Turning
 pub mod Effects
+pub mod Outcomes
 pub mod Orders
 pub mod Sim

@@ -10,12 +10,11 @@ use Rattle.model.specs.Machine.{skipping}
 use Rattle.model.specs.Rules.{Accepted}
 use Rattle.model.specs.Clocks.{seen}
 use Rattle.model.specs.Stores.{storeAt, newestAt}
-use Rattle.area.specs.Cells.{getRow, cell}
-use Rattle.area.specs.Tables.{newestRow, seenSlot}
+use Rattle.area.specs.Cells.{getRow}
+use Rattle.area.specs.Tables.{newestRow}
 use Rattle.area.specs.Rows.{Rows}
 use Rattle.machine.specs.declared.threads.Thread.{Thread}
-use Rattle.machine.specs.declared.state.Machine.{Machine}
-use Rattle.machine.specs.Twin.{World, threadAt}
+use Rattle.machine.specs.Twin.{State, World, threadAt}
 
 module _ (ev : ℕ → Event) where
   -- the issues and the commits of thread t in the stretch of event n, before it
@@ -25,12 +24,12 @@ module _ (ev : ℕ → Event) where
   abbrev pub done : ℕ → ℕ → ℕ
   done n t = commits ev n (stretch ev n) t
 
-  pub record Numbers (n : ℕ) (m : Machine) : Type 0 where
+  pub record Numbers (n : ℕ) (m : State) : Type 0 where
     pub event-is : m .event ≡ n
     pub stretch-is : m .stretch ≡ stretch ev n
     pub threads-is : m .threads ≡ threads ev
     pub locations-is : m .locations ≡ locations ev
-    pub eight : length (m .all) ≡ 8
+    pub eight : length (m .rows) ≡ 128
 
   -- the first n events are an accepted trace, and so these limits hold
   pub record Limits (n : ℕ) : Type 0 where
@@ -54,15 +53,20 @@ module _ (ev : ℕ → Event) where
         (p : ℕ) → p < n → Issue ev p → getRow l p 11 ≡ storeAt ev n (stretch ev p) (thread ev p) (suc (place ev p))
     pub free : (p : ℕ) → n ≤ p → getRow l p 11 ≡ 0
 
-  pub record Tables (n : ℕ) (l : List ℕ) : Type 0 where
-    pub newest-are : (x t : ℕ) → x < 256 → t < 8 → getRow l (newestRow x t) 15 ≡ newestAt ev n x t
-    pub seen-are : (t u : ℕ) → t < 8 → u < 8 → cell l (seenSlot t u) ≡ seen ev n t u
+  -- what the threads have seen, in their rows
+  abbrev pub Seen : ℕ → List ℕ → Type 0
+  Seen n rows = (t u : ℕ) → t < 8 → u < 8 → getRow rows (suc t) u ≡ seen ev n t u
+
+  -- the newest store of each location and thread
+  abbrev pub Newest : ℕ → List ℕ → Type 0
+  Newest n l = (x t : ℕ) → x < 256 → t < 8 → getRow l (newestRow x t) 15 ≡ newestAt ev n x t
 
   -- THE STATE BEFORE EVENT n
   pub record Sim (n : ℕ) (w : World) : Type 0 where
-    pub numbers : Numbers n (w .machine)
+    pub numbers : Numbers n (w .state)
     pub limits : Limits n
-    pub queues : (t : ℕ) → t < 8 → Queue n t (threadAt (w .machine) t)
+    pub queues : (t : ℕ) → t < 8 → Queue n t (threadAt (w .state) t)
+    pub seen-are : Seen n (w .state .rows)
     pub rows : Rows ev n (w .work)
     pub links : Links n (w .work)
-    pub tables : Tables n (w .work)
+    pub newest-are : Newest n (w .work)

@@ -1,6 +1,7 @@
-// The machine of document 01 over the lent work area: what turns an event away, what an event that passes does, which
-// loads count, and how two stores stand. The state that is handed from record to record is a `Machine`, by value; the
-// rest of it stands in the work area.
+// The machine of document 01: what turns an event away, what an event that passes does, which loads count, and how two
+// stores stand. A `Machine` and the number of the next event are handed from record to record by value; eight rows of
+// numbers, one for each thread, and the work area are lent.
+mod clocks;
 mod order;
 mod rules;
 mod state;
@@ -10,8 +11,6 @@ mod threads;
 pub use order::is_store;
 pub use order::order_of;
 pub use rules::begin_refusal;
-pub use rules::counts;
-pub use rules::refusal_of;
 pub use state::Machine;
+pub use state::Step;
 pub use steps::step;
-pub use threads::Thread;

@@ -1,85 +1,65 @@
-// The machine's state, by value: eight threads, the number of the next event, its stretch, and what the begin said.
+// The machine's state by value: the stretch, and what the begin said. And what an event makes of it.
 ghost use mathlib.Core.Path.{_≡_};
-ghost use lib.ListN.{getD, set};
-ghost use Rattle.machine.specs.Threads.{fresh};
-ghost use Rattle.machine.specs.Twin.{threadAt, started, withThread, ticked, crashed};
-use crate::threads::Thread;
+ghost use mathlib.Core.Bool.{false};
+ghost use Rattle.area.specs.Cells.{up};
+ghost use Rattle.machine.specs.Twin.{begun, crashedM};
 
 pub struct Machine {
-    pub all: [Thread; 8],
-    pub event: u16,
     pub stretch: u16,
     pub threads: u16,
     pub locations: u16,
 }
 
-// Thread t of the eight; a fresh one where there is no such thread.
-fn take_thread(all: [Thread; 8], t: usize) -> Thread
-    ensures { λ r. ⌜ r ≡ getD all t fresh ⌝ }
-{
-    if t < 8 { all[t] } else { Thread::start() }
-}
-
-// The eight with thread t replaced, if there is such a thread.
-fn put_thread(all: [Thread; 8], t: usize, state: Thread) -> [Thread; 8]
-    ensures { λ r. ⌜ r ≡ set all t state ⌝ }
-{
-    let mut next = all;
-    if t < 8 {
-        next[t] = state;
-    }
-    next
+// After an event: the state, the number of the next event, refusal 0, and whether the event is a counted load. Or the
+// number of what turns the event away, with all as it was.
+pub struct Step {
+    pub machine: Machine,
+    pub event: u16,
+    pub refusal: u16,
+    pub counted: bool,
 }
 
 impl Machine {
-    // After an accepted begin: "empty queues, no skips and no commits".
+    // After an accepted begin.
     pub fn start(threads: u16, locations: u16) -> Machine
-        ensures { λ r. ⌜ r ≡ started threads locations ⌝ }
+        ensures { λ r. ⌜ r ≡ begun threads locations ⌝ }
     {
-        let t = Thread::start();
         Machine {
-            all: [t; 8],
-            event: 1,
             stretch: 1,
             threads,
             locations,
         }
     }
 
-    pub(crate) fn thread(self, t: u16) -> Thread
-        ensures { λ r. ⌜ r ≡ threadAt self t ⌝ }
-    {
-        let all = self.all;
-        take_thread(all, t as usize)
-    }
-
-    // The next event, with thread t changed.
-    pub(crate) fn with_thread(mut self, t: u16, state: Thread) -> Machine
-        ensures { λ r. ⌜ r ≡ withThread self t state ⌝ }
-    {
-        let all = self.all;
-        let next = put_thread(all, t as usize, state);
-        self.all = next;
-        self.event = area::numbers::next_number(self.event);
-        self
-    }
-
-    // The next event, with no thread changed.
-    pub(crate) fn tick(mut self) -> Machine
-        ensures { λ r. ⌜ r ≡ ticked self ⌝ }
-    {
-        self.event = area::numbers::next_number(self.event);
-        self
-    }
-
-    // The next event after a crash, which "drops waiting stores, ends skips and starts counts afresh".
+    // After a crash.
     pub(crate) fn crash(mut self) -> Machine
-        ensures { λ r. ⌜ r ≡ crashed self ⌝ }
+        ensures { λ r. ⌜ r ≡ crashedM self ⌝ }
     {
-        let t = Thread::start();
-        self.all = [t; 8];
-        self.event = area::numbers::next_number(self.event);
         self.stretch = area::numbers::next_number(self.stretch);
         self
+    }
+
+    // Event e is turned away.
+    pub(crate) fn refuse(self, e: u16, refusal: u16) -> Step
+        ensures { λ r. ⌜ r ≡ record { machine = self; event = e; refusal = refusal; counted = false } ⌝ }
+    {
+        Step {
+            machine: self,
+            event: e,
+            refusal,
+            counted: false,
+        }
+    }
+
+    // Event e passes.
+    pub(crate) fn pass(self, e: u16, counted: bool) -> Step
+        ensures { λ r. ⌜ r ≡ record { machine = self; event = up e; refusal = 0; counted = counted } ⌝ }
+    {
+        Step {
+            machine: self,
+            event: area::numbers::next_number(e),
+            refusal: 0,
+            counted,
+        }
     }
 }

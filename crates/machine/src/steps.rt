@@ -1,82 +1,54 @@
-// What an event that passes does: each step takes the state by value and the work area, and hands the state back.
+// What an event does. Each function makes the tests of its kind, in document 01's order, and turns the event away by the
+// first that fails; else it takes the step. An event that is turned away changes nothing.
 ghost use mathlib.Core.Path.{_≡_};
-ghost use lib.Dec.{eqb};
-ghost use Rattle.record.specs.Tests.{_gives_else_};
-ghost use Rattle.area.specs.Cells.{cell};
-ghost use Rattle.area.specs.Tables.{seenSlot};
-ghost use Rattle.machine.specs.Twin.{world};
-ghost use Rattle.machine.specs.Effects.{clocked, joined, wiped, issueW, commitW, loadW, crashW, skipM, stepK};
+ghost use mathlib.Core.List.{List};
+ghost use Prim.Native.Nat.{ℕ};
+ghost use Rattle.machine.specs.Twin.{stateOf, world};
+ghost use Rattle.machine.specs.Outcomes.{outcome, issueO, commitO, onlyO, acrossO, loadO, flushO, fenceO};
+ghost use Rattle.machine.specs.Outcomes.{crashO, skipO, stepO};
+use crate::clocks;
+use crate::rules;
 use crate::state::Machine;
+use crate::state::Step;
+use crate::threads;
 use record::Fields;
 
-// What the clock of a store by thread t, its n-th of the stretch, says of thread u.
-fn clock_entry(work: &[u16], t: u16, n: u16, u: u16) -> u16
-    ensures { λ r. ⌜ r ≡ (eqb u t gives n else cell (now (work .entry)) (seenSlot t u)) ⌝ }
-{
-    if u == t {
-        return n;
-    }
-    area::slot_get(work, area::slots::seen(t, u))
-}
-
-// Columns 0 to 7 of row e become that clock.
-fn store_clock(work: &mut [u16], e: u16, t: u16, n: u16)
-    ensures { λ _. ⌜ now (work .exit) ≡ clocked 8 e t n (now (work .entry)) ⌝ }
-{
-    let mut u: u16 = 0;
-    while u < 8 {
-        let v = clock_entry(work, t, n, u);
-        area::row_put(work, e, u, v);
-        u += 1;
-    }
-}
-
-// Thread t has now seen what store s's clock has.
-fn join(work: &mut [u16], t: u16, s: u16)
-    ensures { λ _. ⌜ now (work .exit) ≡ joined 8 t s (now (work .entry)) ⌝ }
-{
-    let mut u: u16 = 0;
-    while u < 8 {
-        let i = area::slots::seen(t, u);
-        let a = area::slot_get(work, i);
-        let b = area::row_get(work, s, u);
-        area::slot_put(work, i, area::numbers::larger(a, b));
-        u += 1;
-    }
-}
-
-// What the threads have seen becomes 0.
-fn wipe(work: &mut [u16])
-    ensures { λ _. ⌜ now (work .exit) ≡ wiped 64 (now (work .entry)) ⌝ }
-{
-    let mut i: usize = 0;
-    while i < 64 {
-        area::slot_put(work, 432 + i, 0);
-        i += 1;
-    }
-}
-
 // "the store joins its thread's queue": its row, the link of the store before it, and the newest store at the location.
-fn issue(m: Machine, work: &mut [u16], t: u16, x: u16) -> Machine
-    ensures { λ r. ⌜ world r (now (work .exit)) ≡ issueW (world m (now (work .entry))) t x ⌝ }
+fn issue(m: Machine, e: u16, rows: &mut [u16], work: &mut [u16], t: u16, x: u16) -> Step
+    ensures { λ r. ⌜ (outcome r (now (rows .exit)) (now (work .exit))
+        ≡ issueO (world (stateOf m e (now (rows .entry))) (now (work .entry))) t x) ⌝ }
 {
-    let e = m.event;
-    let old = m.thread(t);
+    let k = rules::place_rule(m, e, t, x);
+    if k != 0 {
+        return m.refuse(e, k);
+    }
+    let old = threads::thread_of(rows, t);
     let new = old.issue(e);
     area::row_put(work, old.newest, 11, e);
-    store_clock(work, e, t, new.issued);
+    clocks::stamp(rows, t, work, e);
+    area::row_put(work, e, t, new.issued);
     area::row_put(work, e, 8, t);
     area::row_put(work, e, 9, x);
     area::row_put(work, e, 10, m.stretch);
     area::newest_put(work, x, t, e);
-    m.with_thread(t, new)
+    threads::put_issued(rows, t, new);
+    m.pass(e, false)
 }
 
-// "the oldest waiting store of the thread takes effect": it heads its location's chain of committed stores.
-fn commit(m: Machine, work: &mut [u16], t: u16) -> Machine
-    ensures { λ r. ⌜ world r (now (work .exit)) ≡ commitW (world m (now (work .entry))) t ⌝ }
+// "the oldest waiting store of the thread takes effect": it heads its location's chain of committed stores. 10: "commit,
+// empty queue".
+fn commit(m: Machine, e: u16, rows: &mut [u16], work: &mut [u16], t: u16) -> Step
+    ensures { λ r. ⌜ (outcome r (now (rows .exit)) (now (work .exit))
+        ≡ commitO (world (stateOf m e (now (rows .entry))) (now (work .entry))) t) ⌝ }
 {
-    let old = m.thread(t);
+    let k = rules::thread_rule(m, e, t);
+    if k != 0 {
+        return m.refuse(e, k);
+    }
+    let old = threads::thread_of(rows, t);
+    if old.issued == old.committed {
+        return m.refuse(e, 10);
+    }
     let p = old.oldest;
     let x = area::row_get(work, p, 9);
     let next = area::row_get(work, p, 11);
@@ -85,48 +57,136 @@ fn commit(m: Machine, work: &mut [u16], t: u16) -> Machine
     area::row_put(work, p, 14, link);
     area::slot_put(work, area::slots::last(x), p);
     area::slot_put(work, area::slots::commits(m.stretch, t), new.committed);
-    m.with_thread(t, new)
+    threads::put_committed(rows, t, new);
+    m.pass(e, false)
 }
 
-// A load from a store of the stretch brings the store's clock to its thread; a crossing load adds nothing.
-fn load(m: Machine, work: &mut [u16], t: u16, s: u16) -> Machine
-    ensures { λ r. ⌜ world r (now (work .exit)) ≡ loadW (world m (now (work .entry))) t s ⌝ }
+// A load whose source must be store `only`, of the stretch: it brings the store's clock to its thread. 9: "source
+// against the load rule".
+fn load_only(m: Machine, e: u16, rows: &mut [u16], work: &[u16], t: u16, s: u16, only: u16) -> Step
+    ensures { λ r. ⌜ (outcome r (now (rows .exit)) (now (work .entry))
+        ≡ onlyO (world (stateOf m e (now (rows .entry))) (now (work .entry))) t s only) ⌝ }
 {
-    if area::row_get(work, s, 10) != m.stretch {
-        return m.tick();
+    if s != only {
+        return m.refuse(e, 9);
     }
-    join(work, t, s);
-    m.tick()
+    if area::row_get(work, s, 10) != m.stretch {
+        return m.pass(e, false);
+    }
+    clocks::meet(rows, t, work, s);
+    m.pass(e, false)
 }
 
-fn crash(m: Machine, work: &mut [u16]) -> Machine
-    ensures { λ r. ⌜ world r (now (work .exit)) ≡ crashW (world m (now (work .entry))) ⌝ }
+// A crossing load, which brings no clock. It counts if its thread is in no skip.
+fn load_across(m: Machine, e: u16, rows: &[u16], work: &[u16], t: u16, x: u16, s: u16) -> Step
+    ensures { λ r. ⌜ (outcome r (now (rows .entry)) (now (work .entry))
+        ≡ acrossO (world (stateOf m e (now (rows .entry))) (now (work .entry))) t x s) ⌝ }
 {
-    wipe(work);
-    m.crash()
+    if !rules::fits_across(m, work, x, s) {
+        return m.refuse(e, 9);
+    }
+    let own = threads::thread_of(rows, t);
+    m.pass(e, !own.skip)
 }
 
-fn skip(m: Machine, t: u16, on: bool) -> Machine
-    ensures { λ r. ⌜ r ≡ skipM m t on ⌝ }
+fn load(m: Machine, e: u16, rows: &mut [u16], work: &[u16], t: u16, x: u16, s: u16) -> Step
+    ensures { λ r. ⌜ (outcome r (now (rows .exit)) (now (work .entry))
+        ≡ loadO (world (stateOf m e (now (rows .entry))) (now (work .entry))) t x s) ⌝ }
 {
-    let old = m.thread(t);
-    let new = old.with_skip(on);
-    m.with_thread(t, new)
+    let k = rules::place_rule(m, e, t, x);
+    if k != 0 {
+        return m.refuse(e, k);
+    }
+    let p = rules::waiting(m, rows, work, t, x);
+    if p != 0 {
+        return load_only(m, e, rows, work, t, s, p);
+    }
+    let q = rules::current(m, work, x);
+    if q != 0 {
+        return load_only(m, e, rows, work, t, s, q);
+    }
+    load_across(m, e, rows, work, t, x, s)
 }
 
-// The effect of an event that passes. Flushes and fences change nothing, and a begin is no later event.
-pub fn step(m: Machine, work: &mut [u16], kind: u16, f: Fields) -> Machine
-    ensures { λ r. ⌜ world r (now (work .exit)) ≡ stepK (world m (now (work .entry))) kind f ⌝ }
+fn flush(m: Machine, e: u16, t: u16, x: u16) -> Step
+    ensures { λ r. ⌜ ((rows l : List ℕ) → outcome r rows l ≡ flushO (world (stateOf m e rows) l) t x) ⌝ }
+{
+    let k = rules::place_rule(m, e, t, x);
+    if k != 0 {
+        return m.refuse(e, k);
+    }
+    m.pass(e, false)
+}
+
+// 11: "mfence, queue not empty". An sfence, kind 7, has no rule of its own.
+fn fence(m: Machine, e: u16, rows: &[u16], kind: u16, t: u16) -> Step
+    ensures { λ r. ⌜ ((l : List ℕ) → outcome r (now (rows .entry)) l
+        ≡ fenceO (world (stateOf m e (now (rows .entry))) l) kind t) ⌝ }
+{
+    let k = rules::thread_rule(m, e, t);
+    if k != 0 {
+        return m.refuse(e, k);
+    }
+    if kind == 7 {
+        return m.pass(e, false);
+    }
+    let own = threads::thread_of(rows, t);
+    if own.issued == own.committed {
+        m.pass(e, false)
+    } else {
+        m.refuse(e, 11)
+    }
+}
+
+// "drops waiting stores, ends skips and starts counts afresh". 13: "eighth crash".
+fn crash(m: Machine, e: u16, rows: &mut [u16]) -> Step
+    ensures { λ r. ⌜ ((l : List ℕ) → outcome r (now (rows .exit)) l
+        ≡ crashO (world (stateOf m e (now (rows .entry))) l)) ⌝ }
+{
+    if 2048 < e {
+        return m.refuse(e, 13);
+    }
+    if m.stretch == 8 {
+        return m.refuse(e, 13);
+    }
+    area::clear(rows);
+    let after = m.crash();
+    after.pass(e, false)
+}
+
+// A skip on or off, kind 10 or 11.
+fn skip(m: Machine, e: u16, rows: &mut [u16], kind: u16, t: u16) -> Step
+    ensures { λ r. ⌜ ((l : List ℕ) → outcome r (now (rows .exit)) l
+        ≡ skipO (world (stateOf m e (now (rows .entry))) l) kind t) ⌝ }
+{
+    let k = rules::thread_rule(m, e, t);
+    if k != 0 {
+        return m.refuse(e, k);
+    }
+    let old = threads::thread_of(rows, t);
+    let r = rules::skip_rule(kind, old.skip);
+    if r != 0 {
+        return m.refuse(e, r);
+    }
+    let new = old.with_skip(kind == 10);
+    threads::put_skip(rows, t, new);
+    m.pass(e, false)
+}
+
+// A later event, by its kind and fields. 5: a begin.
+pub fn step(m: Machine, e: u16, rows: &mut [u16], work: &mut [u16], kind: u16, f: Fields) -> Step
+    ensures { λ r. ⌜ (outcome r (now (rows .exit)) (now (work .exit))
+        ≡ stepO (world (stateOf m e (now (rows .entry))) (now (work .entry))) kind f) ⌝ }
 {
     let t = f.thread;
     match kind {
-        2 => issue(m, work, t, f.location),
-        3 => commit(m, work, t),
-        4 => load(m, work, t, f.source),
-        5..=6 => m.tick(),
-        7..=8 => m.tick(),
-        9 => crash(m, work),
-        10..=11 => skip(m, t, kind == 10),
-        _ => m,
+        2 => issue(m, e, rows, work, t, f.location),
+        3 => commit(m, e, rows, work, t),
+        4 => load(m, e, rows, work, t, f.location, f.source),
+        5..=6 => flush(m, e, t, f.location),
+        7..=8 => fence(m, e, rows, kind, t),
+        9 => crash(m, e, rows),
+        10..=11 => skip(m, e, rows, kind, t),
+        _ => m.refuse(e, 5),
     }
 }

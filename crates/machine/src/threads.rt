@@ -1,7 +1,8 @@
-// A thread's state, by value: its queue, its counts of the stretch, and whether it is in a skip. The methods hand the
-// thread's new state back. The queue's stores are linked in the work area; here are its ends.
+// A thread's state: its queue, its counts of the stretch, and whether it is in a skip, columns 8 to 12 of its row. The
+// methods hand the thread's new state back. The queue's stores are linked in the work area; here are its ends.
 ghost use mathlib.Core.Path.{_≡_};
-ghost use Rattle.machine.specs.Threads.{firstOf, fresh, issuedT, committedT, skippedT};
+ghost use Rattle.machine.specs.Threads.{firstOf, bit, issuedT, committedT, skippedT, threadOf};
+ghost use Rattle.machine.specs.Threads.{putIssued, putCommitted, putSkip};
 
 pub struct Thread {
     // The oldest waiting store, 0 if there is none; the newest store of the stretch, waiting or not.
@@ -18,20 +19,13 @@ fn first_of(a: u16, b: u16) -> u16
     if a == 0 { b } else { a }
 }
 
-impl Thread {
-    // A thread as a stretch starts.
-    pub(crate) fn start() -> Thread
-        ensures { λ r. ⌜ r ≡ fresh ⌝ }
-    {
-        Thread {
-            oldest: 0,
-            newest: 0,
-            issued: 0,
-            committed: 0,
-            skip: false,
-        }
-    }
+fn bit(b: bool) -> u16
+    ensures { λ r. ⌜ r ≡ bit b ⌝ }
+{
+    if b { 1 } else { 0 }
+}
 
+impl Thread {
     // Store e joins the queue.
     pub(crate) fn issue(mut self, e: u16) -> Thread
         ensures { λ r. ⌜ r ≡ issuedT self e ⌝ }
@@ -58,4 +52,41 @@ impl Thread {
         self.skip = on;
         self
     }
+}
+
+// Thread t's state.
+pub(crate) fn thread_of(rows: &[u16], t: u16) -> Thread
+    ensures { λ r. ⌜ r ≡ threadOf (now (rows .entry)) t ⌝ }
+{
+    Thread {
+        oldest: area::thread_get(rows, t, 8),
+        newest: area::thread_get(rows, t, 9),
+        issued: area::thread_get(rows, t, 10),
+        committed: area::thread_get(rows, t, 11),
+        skip: area::thread_get(rows, t, 12) != 0,
+    }
+}
+
+// It becomes this one: what an issue changes.
+pub(crate) fn put_issued(rows: &mut [u16], t: u16, s: Thread)
+    ensures { λ _. ⌜ now (rows .exit) ≡ putIssued (now (rows .entry)) t s ⌝ }
+{
+    area::thread_put(rows, t, 8, s.oldest);
+    area::thread_put(rows, t, 9, s.newest);
+    area::thread_put(rows, t, 10, s.issued);
+}
+
+// What a commit changes.
+pub(crate) fn put_committed(rows: &mut [u16], t: u16, s: Thread)
+    ensures { λ _. ⌜ now (rows .exit) ≡ putCommitted (now (rows .entry)) t s ⌝ }
+{
+    area::thread_put(rows, t, 8, s.oldest);
+    area::thread_put(rows, t, 11, s.committed);
+}
+
+// What a skip changes.
+pub(crate) fn put_skip(rows: &mut [u16], t: u16, s: Thread)
+    ensures { λ _. ⌜ now (rows .exit) ≡ putSkip (now (rows .entry)) t s ⌝ }
+{
+    area::thread_put(rows, t, 12, bit(s.skip));
 }

@@ -230,9 +230,9 @@ noted-leaves w h x s = by-test (ltb x 256) refl
         second = slot-leaves (putCell w (loadLastSlot x) h) (loadSourceSlot x) s
 
 -- THE FRAME of judging a counted load, for every input
-pub judging-leaves : (w : List ℕ) (j x s : ℕ) → ButJudging w (judged w j x s)
+pub judging-leaves : (w : List ℕ) (x s : ℕ) → ButJudging w (judged w x s)
 unfolding judged
-judging-leaves w j x s = by-test (repeated w h x s)
+judging-leaves w x s = by-test (repeated w h x s)
   where
     h : ℕ
     h = lastIn w x

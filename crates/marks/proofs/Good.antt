@@ -113,19 +113,16 @@ module _ (ev : ℕ → Event) where
 
   -- event n's load judged: the work area after it, whether it breaks, and the missing store that is then found
   abbrev pub afterLoad : ℕ → List ℕ → List ℕ
-  afterLoad n w = judged w (stretch ev n) (location ev n) (source ev n)
+  afterLoad n w = judged w (location ev n) (source ev n)
 
   abbrev pub breaksThere : ℕ → List ℕ → Bool
-  breaksThere n w = breaks w (stretch ev n) (location ev n) (source ev n)
+  breaksThere n w = breaks w (location ev n) (source ev n)
 
   abbrev pub missingThere : ℕ → List ℕ → ℕ
   missingThere n w = missingBy (afterLoad n w) (suc n)
 
   module _
       (n : ℕ) (accepted : Accepted ev (suc n)) (counts : counted ev n ≡ true) (w : List ℕ) (good : Good n w) where
-    abbrev j : ℕ
-    j = stretch ev n
-
     abbrev x : ℕ
     x = location ev n
 
@@ -165,7 +162,7 @@ module _ (ev : ℕ → Event) where
     repeats-it = repeats-noted ev n accepted counts x-there w (good .rows) (good .loads)
 
     -- the marks after it
-    judged-judging : Judging ev (suc n) (judged w j x s)
+    judged-judging : Judging ev (suc n) (judged w x s)
     unfolding judged
     judged-judging = by-test (test (repeated w h x s))
       where
@@ -177,11 +174,11 @@ module _ (ev : ℕ → Event) where
             rw new
             (noted-says ev (suc n) (loaded w h s) h x s (load-step ev n accepted counts w (good .rows) (good .judging)))
 
-    judged-rows : Rows ev (suc n) (judged w j x s)
-    judged-rows = rows-next (judged w j x s) (rows-leave (judging-leaves w j x s) (good .rows))
+    judged-rows : Rows ev (suc n) (judged w x s)
+    judged-rows = rows-next (judged w x s) (rows-leave (judging-leaves w x s) (good .rows))
 
     -- the loads noted after it
-    judged-loads : Loads ev (suc n) (judged w j x s)
+    judged-loads : Loads ev (suc n) (judged w x s)
     unfolding judged
     judged-loads = by-test (test (repeated w h x s))
       where
@@ -204,7 +201,7 @@ module _ (ev : ℕ → Event) where
             rw new (noted-loads ev n accepted counts x-there (loaded w h s) h room is-head kept)
 
     -- the answer: with it there is a pair
-    breaks-is-bad : breaks w j x s ≡ bad? ev (suc n)
+    breaks-is-bad : breaks w x s ≡ bad? ev (suc n)
     unfolding breaks
     breaks-is-bad = by-test (test (repeated w h x s))
       where
@@ -237,12 +234,12 @@ module _ (ev : ℕ → Event) where
         few : suc n ≤ 2049
         few = omega (arith, event-bound ev (suc n) accepted n (omega arith))
 
-        missing : missingBy (judged w j x s) (suc n) ≡ missingOf ev (suc n)
-        missing = missing-is ev (suc n) accepted few (judged w j x s) judged-rows judged-judging
+        missing : missingBy (judged w x s) (suc n) ≡ missingOf ev (suc n)
+        missing = missing-is ev (suc n) accepted few (judged w x s) judged-rows judged-judging
 
         observed :
-            observedBy (judged w j x s) (suc n) (missingBy (judged w j x s) (suc n)) ≡ observedOf ev (suc n)
-        observed = rw missing (observed-is ev (suc n) accepted few (judged w j x s) judged-rows judged-judging bad)
+            observedBy (judged w x s) (suc n) (missingBy (judged w x s) (suc n)) ≡ observedOf ev (suc n)
+        observed = rw missing (observed-is ev (suc n) accepted few (judged w x s) judged-rows judged-judging bad)
 
   -- ---- the end of a robust trace
 

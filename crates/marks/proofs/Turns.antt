@@ -212,19 +212,19 @@ unfolding noted
 not-noted w h x s none = rw (le-ltb x 256 none)
 
 module _
-    (w : List ℕ) (j x s i h : ℕ) (again : Bool)
+    (w : List ℕ) (x s i h : ℕ) (again : Bool)
     (i-is : i ≡ lastSlot x) (h-is : h ≡ cell w i) (again-is : again ≡ repeated w h x s) where
   head-is : h ≡ lastIn w x
   head-is = rw (← i-is) h-is
 
-  pub judged-again : again ≡ true → (false ≡ breaks w j x s) × (w ≡ judged w j x s)
+  pub judged-again : again ≡ true → (false ≡ breaks w x s) × (w ≡ judged w x s)
   unfolding judged breaks
   judged-again repeats = rw (← head-is, ← again-is, repeats) (refl, refl)
 
   pub judged-steps :
       (w₁ w₂ : List ℕ) (bad : Bool)
       → again ≡ false → (bad ≡ loadHits w h s) × (w₁ ≡ loaded w h s) → w₂ ≡ noted w₁ h x s
-      → (bad ≡ breaks w j x s) × (w₂ ≡ judged w j x s)
+      → (bad ≡ breaks w x s) × (w₂ ≡ judged w x s)
   unfolding judged breaks
   judged-steps w₁ w₂ bad new (bad-is, load-is) note-is =
       rw (← head-is, ← again-is, new, bad-is, note-is, load-is) (refl, refl)

@@ -1,6 +1,6 @@
--- Judging a counted load of stretch j and location x from s. One that repeats the last counted load of its location,
+-- Judging a counted load of location x from s. One that repeats the last counted load of its location,
 -- with no commit there since and with its source, changes nothing, so it does not walk again. Where no load is noted
--- the slots hold 0: a load of a location without commits, from 0, has nothing to mark. The stretch has no say in it.
+-- the slots hold 0: a load of a location without commits, from 0, has nothing to mark.
 use Prim.Native.Nat.{ℕ}
 use mathlib.Core.Bool.{Bool, cond, _&&_, not}
 use mathlib.Core.List.{List}
@@ -23,9 +23,9 @@ unfoldable pub noted : List ℕ → ℕ → ℕ → ℕ → List ℕ
 noted w h x s = cond (ltb x 256) (putCell (putCell w (loadLastSlot x) h) (loadSourceSlot x) s) w
 
 -- the work area after the load
-unfoldable pub judged : List ℕ → ℕ → ℕ → ℕ → List ℕ
-judged w j x s = cond (repeated w (lastIn w x) x s) w (noted (loaded w (lastIn w x) s) (lastIn w x) x s)
+unfoldable pub judged : List ℕ → ℕ → ℕ → List ℕ
+judged w x s = cond (repeated w (lastIn w x) x s) w (noted (loaded w (lastIn w x) s) (lastIn w x) x s)
 
 -- with it there is a pair, if there was none
-unfoldable pub breaks : List ℕ → ℕ → ℕ → ℕ → Bool
-breaks w j x s = not (repeated w (lastIn w x) x s) && loadHits w (lastIn w x) s
+unfoldable pub breaks : List ℕ → ℕ → ℕ → Bool
+breaks w x s = not (repeated w (lastIn w x) x s) && loadHits w (lastIn w x) s

@@ -28,10 +28,10 @@ fn note(work: &mut [u16], h: u16, x: u16, s: u16)
     area::slot_put(work, area::slots::load_source(x), s);
 }
 
-// A counted load of stretch j and location x from s: whether with it there is a pair, if there was none.
-pub fn judge_load(work: &mut [u16], j: u16, x: u16, s: u16) -> bool
-    ensures { λ r. ⌜ r ≡ breaks (now (work .entry)) j x s ⌝ }
-    ensures { λ _. ⌜ now (work .exit) ≡ judged (now (work .entry)) j x s ⌝ }
+// A counted load of location x from s: whether with it there is a pair, if there was none.
+pub fn judge_load(work: &mut [u16], x: u16, s: u16) -> bool
+    ensures { λ r. ⌜ r ≡ breaks (now (work .entry)) x s ⌝ }
+    ensures { λ _. ⌜ now (work .exit) ≡ judged (now (work .entry)) x s ⌝ }
 {
     let h = area::slot_get(work, area::slots::last(x));
     if repeats(work, h, x, s) {

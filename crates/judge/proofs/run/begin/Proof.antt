@@ -10,9 +10,6 @@ use Rattle.judge.proofs.Records.{was-refused, was-read, first-unread, f
 use Rattle.judge.proofs.run.begin.Statement.{statement}
 use Rattle.judge.proofs.run.begin.Tie as tie
 
-start-requires : tie.Need-start-requires
-start-requires c κs = search needs
-
 read-at-requires : tie.Need-read-at-requires
 read-at-requires c κs = search needs
 
@@ -33,8 +30,7 @@ returns c =
     let at-number = c .before in
     let at-told = at-number .before in
     let at-read = at-told .before .before in
-    let at-start = at-read .before in
-    let entry = at-start .before .before in
+    let entry = at-read .before .before in
     let bytes : List ℕ = entry .args .trace .now in
     let told = at-told .enum-told .given in
     let k : ℕ = at-number .number-of .result in
@@ -42,7 +38,7 @@ returns c =
     was-refused bytes (at-read .read-at .result) 0 (told .0 .0) k (at-read .read-at .ensures) (told .1)
     (at-number .number-of .ensures)
     in
-    rw (c .refuse .ensures) (first-unread bytes (at-start .start .result) k 1 (replicate 32768 0) 0 unread)
+    rw (c .refuse .ensures) (first-unread bytes k 1 (replicate 128 0) (replicate 32768 0) 0 unread)
 
 fields-of-requires : tie.Need-fields-of-requires
 fields-of-requires c κs = search needs
@@ -62,20 +58,19 @@ returns-2 c =
     let at-fields = at-rule .before .before in
     let at-record = at-fields .before .before in
     let at-read = at-record .before .before in
-    let at-start = at-read .before in
-    let entry = at-start .before .before in
+    let entry = at-read .before .before in
     let bytes : List ℕ = entry .args .trace .now in
     let told = at-record .r .given in
     let x = told .0 .0 in
     let past = told .0 .1 .0 in
     let is-read = was-read bytes (at-read .read-at .result) 0 x past (at-read .read-at .ensures) (told .1) in
     rw (c .refuse2 .ensures)
-    (first-forbidden bytes (at-start .start .result) (at-rule .begin-refusal .result) 1 (replicate 32768 0) x past
-    is-read (rw (sym (at-rule .before .kind-of .ensures), sym (at-fields .fields-of .ensures))
+    (first-forbidden bytes (at-rule .begin-refusal .result) 1 (replicate 128 0)
+    (replicate 32768 0) x past is-read (rw (sym (at-rule .before .kind-of .ensures), sym (at-fields .fields-of .ensures))
     (sym (at-rule .begin-refusal .ensures))) (λ none. omega arith))
 
-start-requires-2 : tie.Need-start-requires-2
-start-requires-2 c κs = search needs
+start-requires : tie.Need-start-requires
+start-requires c κs = search needs
 
 returns-3 : tie.Need-returns-3
 returns-3 c =
@@ -83,13 +78,13 @@ returns-3 c =
     let at-fields = at-rule .before .before in
     let at-record = at-fields .before .before in
     let at-read = at-record .before .before in
-    let entry = at-read .before .before .before in
+    let entry = at-read .before .before in
     let bytes : List ℕ = entry .args .trace .now in
     let told = at-record .r .given in
     let x = told .0 .0 in
     let past = told .0 .1 .0 in
     let is-read = was-read bytes (at-read .read-at .result) 0 x past (at-read .read-at .ensures) (told .1) in
-    rw (c .start2 .ensures, at-fields .fields-of .ensures)
+    rw (c .start .ensures, at-fields .fields-of .ensures)
     (first-passes bytes x past is-read
     (rw (sym (at-rule .before .kind-of .ensures), sym (at-fields .fields-of .ensures))
     (omega (arith, at-rule .begin-refusal .ensures))))
@@ -97,5 +92,5 @@ returns-3 c =
 pub begin-spec : {M : Type 1} → statement M
 begin-spec =
     tie.close
-    (tie.spec start-requires read-at-requires enum-known-r enum-told number-of-requires refuse-requires returns
-    fields-of-requires kind-of-requires begin-refusal-requires refuse-requires-2 returns-2 start-requires-2 returns-3)
+    (tie.spec read-at-requires enum-known-r enum-told number-of-requires refuse-requires returns
+    fields-of-requires kind-of-requires begin-refusal-requires refuse-requires-2 returns-2 start-requires returns-3)

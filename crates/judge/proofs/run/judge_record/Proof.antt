@@ -1,56 +1,49 @@
 -- `judge_record` meets its contract: the laws of proofs/Records.antt, for a later record that cannot be read, that is
 -- turned away, and that passes.
-use mathlib.Core.Path.{_≡_, sym, _∙_}
 use mathlib.Core.List.{List}
 use Prim.Native.Nat.{ℕ, suc}
 use native.Mathlib.Omega.{arith}
 use borrow.Author.Needs.{needs}
-use Rattle.judge.proofs.Records.{was-refused, was-read, later-unread, later-forbidden, later-passes}
+use Rattle.judge.proofs.Records.{decoded-event, decoded-refused}
+use Rattle.judge.proofs.Records.{scanned-unread, scanned-forbidden, scanned-passes}
 use Rattle.judge.proofs.run.judge_record.Statement.{statement}
 use Rattle.judge.proofs.run.judge_record.Tie as tie
 
-read-at-requires : tie.Need-read-at-requires
-read-at-requires c κs = search needs
+scan-at-requires : tie.Need-scan-at-requires
+scan-at-requires c κs = search needs
 
-enum-known-r : tie.Need-enum-known-r
-enum-known-r c = search needs
+event-or-refusal-requires : tie.Need-event-or-refusal-requires
+event-or-refusal-requires c κs = search needs
+
+enum-known-d : tie.Need-enum-known-d
+enum-known-d c = search needs
 
 enum-told : tie.Need-enum-told
 enum-told c = search needs
-
-number-of-requires : tie.Need-number-of-requires
-number-of-requires c κs = search needs
 
 refuse-requires : tie.Need-refuse-requires
 refuse-requires c κs = search needs
 
 returns : tie.Need-returns
 returns c =
-    let at-number = c .before in
-    let at-told = at-number .before in
-    let at-read = at-told .before .before in
-    let entry = at-read .before .before .before .before in
+    let at-enum-told = c .before in
+    let at-event-or-refusal = at-enum-told .before .before in
+    let at-scan-at = at-event-or-refusal .before in
+    let entry = at-scan-at .before .before .before .before in
     let bytes : List ℕ = entry .args .trace .now in
     let t = entry .args .t in
+    let rows : List ℕ = entry .args .rows .now in
     let work : List ℕ = entry .args .work .now in
-    let told = at-told .enum-told .given in
-    let k : ℕ = at-number .number-of .result in
-    let unread =
-    was-refused bytes (at-read .read-at .result) (t .at) (told .0 .0) k (at-read .read-at .ensures) (told .1)
-    (at-number .number-of .ensures)
-    in
+    let r = at-scan-at .scan-at .result in
+    let called = at-event-or-refusal .event-or-refusal in
+    let told = at-enum-told .enum-told .given in
+    let some = decoded-refused r (told .0 .0) (called .result) (called .ensures) (told .1) in
     rw (c .refuse .ensures)
-    (later-unread bytes (t .machine .event) t work (entry .pre .0) (entry .pre .1) k (suc (t .machine .event)) work 0
-    unread)
+    (scanned-unread bytes (t .event) t rows work (entry .pre .0) r (at-scan-at .scan-at .ensures) some (entry .pre .1)
+    (suc (t .event)) rows work)
 
-kind-of-requires : tie.Need-kind-of-requires
-kind-of-requires c κs = search needs
-
-fields-of-requires : tie.Need-fields-of-requires
-fields-of-requires c κs = search needs
-
-refusal-of-requires : tie.Need-refusal-of-requires
-refusal-of-requires c κs = search needs
+step-requires : tie.Need-step-requires
+step-requires c κs = search needs
 
 refuse-requires-2 : tie.Need-refuse-requires-2
 refuse-requires-2 c κs = search needs
@@ -58,64 +51,77 @@ refuse-requires-2 c κs = search needs
 same-length : tie.Need-same-length
 same-length c = search needs
 
+same-length-2 : tie.Need-same-length-2
+same-length-2 c = search needs
+
 returns-2 : tie.Need-returns-2
 returns-2 c =
-    let at-rule = c .before .before in
-    let at-fields = at-rule .before .before in
-    let at-kind = at-fields .before in
-    let at-record = at-kind .before .before in
-    let at-read = at-record .before .before in
-    let entry = at-read .before .before .before .before in
+    let at-step = c .before .before .before .before .before .before .before in
+    let at-d = at-step .before .before .before .before .before in
+    let at-event-or-refusal = at-d .before .before in
+    let at-scan-at = at-event-or-refusal .before in
+    let entry = at-scan-at .before .before .before .before in
     let bytes : List ℕ = entry .args .trace .now in
     let t = entry .args .t in
-    let n : ℕ = t .machine .event in
+    let rows : List ℕ = entry .args .rows .now in
     let work : List ℕ = entry .args .work .now in
-    let told = at-record .r .given in
-    let x = told .0 .0 in
-    let past = told .0 .1 .0 in
-    let is-read = was-read bytes (at-read .read-at .result) (t .at) x past (at-read .read-at .ensures) (told .1) in
+    let r = at-scan-at .scan-at .result in
+    let called = at-event-or-refusal .event-or-refusal in
+    let told = at-d .d .given in
+    let (same, none) = decoded-event r (told .0 .0) (called .result) (called .ensures) (told .1) in
     rw (c .refuse2 .ensures)
-    (later-forbidden bytes n t work (entry .pre .0) (entry .pre .1) (at-rule .refusal-of .result) (suc n) work x past
-    is-read (rw (sym (at-kind .kind-of .ensures), sym (at-fields .fields-of .ensures))
-    (sym (at-rule .refusal-of .ensures))) (λ none. omega arith))
+    (scanned-forbidden bytes (t .event) t rows work (entry .pre .0) r (at-scan-at .scan-at .ensures) none
+    (at-step .step .result) _ _ (rw same at (at-step .step .ensures)) (λ is-0. omega arith) (entry .pre .1)
+    (suc (t .event)))
 
 judge-event-requires : tie.Need-judge-event-requires
 judge-event-requires c κs = search needs
 
-step-requires : tie.Need-step-requires
-step-requires c κs = search needs
+same-length-3 : tie.Need-same-length-3
+same-length-3 c = search needs
 
-same-length-2 : tie.Need-same-length-2
-same-length-2 c = search needs
+same-length-4 : tie.Need-same-length-4
+same-length-4 c = search needs
 
 returns-3 : tie.Need-returns-3
 returns-3 c =
-    let at-step = c .before .before in
-    let at-judged = at-step .before .before .before .before in
-    let judged = at-judged .judge-event in
-    let at-rule = at-judged .before .before .before in
-    let at-fields = at-rule .before .before in
-    let at-kind = at-fields .before in
-    let at-record = at-kind .before .before in
-    let at-read = at-record .before .before in
-    let entry = at-read .before .before .before .before in
+    let at-judge-event = c .before .before in
+    let at-if1 = at-judge-event .before .before .before in
+    let at-step = at-if1 .before .before .before .before .before .before in
+    let at-d = at-step .before .before .before .before .before in
+    let at-event-or-refusal = at-d .before .before in
+    let at-scan-at = at-event-or-refusal .before in
+    let entry = at-scan-at .before .before .before .before in
     let bytes : List ℕ = entry .args .trace .now in
     let t = entry .args .t in
-    let told = at-record .r .given in
-    let x = told .0 .0 in
-    let past = told .0 .1 .0 in
-    let is-read = was-read bytes (at-read .read-at .result) (t .at) x past (at-read .read-at .ensures) (told .1) in
-    let passed : at-rule .refusal-of .result ≡ 0 = omega (arith, at-judged .before .before .if1 .left) in
-    let kind-is = sym (at-kind .kind-of .ensures) in
-    let fields-are = sym (at-fields .fields-of .ensures) in
-    later-passes bytes (t .machine .event) t (entry .args .work .now) (entry .pre .0) x past is-read
-    (rw (kind-is, fields-are) (sym (at-rule .refusal-of .ensures) ∙ passed)) (at-step .step .result) (judged .result) _
-    (rw (kind-is, fields-are) (judged .ensures .0))
-    (rw (kind-is, fields-are, sym (judged .ensures .1)) (at-step .step .ensures))
+    let rows : List ℕ = entry .args .rows .now in
+    let work : List ℕ = entry .args .work .now in
+    let r = at-scan-at .scan-at .result in
+    let called = at-event-or-refusal .event-or-refusal in
+    let told = at-d .d .given in
+    let (same, none) = decoded-event r (told .0 .0) (called .result) (called .ensures) (told .1) in
+    let judged = at-judge-event .judge-event in
+    rw same
+    (scanned-passes bytes (t .event) t rows work (entry .pre .0) r (at-scan-at .scan-at .ensures) none
+    (at-step .step .result) _ _ (rw same at (at-step .step .ensures)) (omega (arith, at-if1 .if1 .left))
+    (judged .result) _ (rw same at (judged .ensures .0)) (rw same at (judged .ensures .1)))
 
 pub judge-record-spec : {M : Type 1} → statement M
 judge-record-spec =
     tie.close
-    (tie.spec read-at-requires enum-known-r enum-told number-of-requires refuse-requires returns kind-of-requires fields-of-requires
-    refusal-of-requires
-    refuse-requires-2 same-length returns-2 judge-event-requires step-requires same-length-2 returns-3)
+    (tie.spec
+    scan-at-requires
+    event-or-refusal-requires
+    enum-known-d
+    enum-told
+    refuse-requires
+    returns
+    step-requires
+    refuse-requires-2
+    same-length
+    same-length-2
+    returns-2
+    judge-event-requires
+    same-length-3
+    same-length-4
+    returns-3)

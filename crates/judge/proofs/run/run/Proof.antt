@@ -23,11 +23,12 @@ nothing-behind : (l k : List ℕ) (n : ℕ) → length l ≡ n → k ++ drop n l
 nothing-behind l k n size = rw (sym size, drop-length l) (append-nil k)
 
 abbrev Inv-loop : tie.InvT-loop
-Inv-loop trace work₀ size t₀ work t =
-    (length work ≡ length work₀) × (length work ≡ 32768) × ((n : ℕ) × Turned trace n t work)
+Inv-loop trace work₀ size rows₀ t₀ work rows t =
+    (length work ≡ length work₀) × (length work ≡ 32768) × (length rows ≡ 128)
+    × ((n : ℕ) × Turned trace n t rows work)
 
 abbrev μ-loop : tie.MeasureT-loop
-μ-loop trace work₀ size t₀ work t = left trace t
+μ-loop trace work₀ size rows₀ t₀ work rows t = left trace t
 
 begin-requires : tie.Need-begin-requires Inv-loop μ-loop
 begin-requires c κs = search needs
@@ -36,54 +37,62 @@ loop-holds : tie.Need-loop-holds Inv-loop μ-loop
 loop-holds c =
     let entry = c .before .before .before in
     let size = ap length (entry .pre) ∙ length-replicate {A = ℕ} 32768 0 in
-    (refl, size, (1, rw (entry .pre) (c .begin .ensures)))
+    (refl, size, refl, (1, rw (entry .pre) (c .begin .ensures)))
+
+slice-aggregate-judge-record : tie.Need-slice-aggregate-judge-record Inv-loop μ-loop
+slice-aggregate-judge-record c = sym (c .before .before .before .before .before .loop .inv .2)
 
 slice-relend-prefix-judge-record : tie.Need-slice-relend-prefix-judge-record Inv-loop μ-loop
 slice-relend-prefix-judge-record c =
-    omega (arith, c .before .before .before .before .loop .inv .1)
+    omega (arith, c .before .before .before .before .before .loop .inv .1)
 
-slice-aggregate-judge-record : tie.Need-slice-aggregate-judge-record Inv-loop μ-loop
-slice-aggregate-judge-record c =
-    let here = c .before .before .before .before .before .loop in
+slice-aggregate-judge-record-2 : tie.Need-slice-aggregate-judge-record-2 Inv-loop μ-loop
+slice-aggregate-judge-record-2 c =
+    let here = c .before .before .before .before .before .before .loop in
     sym (length-take-le 32768 (here .work) (omega (arith, here .inv .1)))
 
 judge-record-requires : tie.Need-judge-record-requires Inv-loop μ-loop
 judge-record-requires c κs =
-    let at-inside = c .before in
+    let at-inside = c .before .before in
     let at-loop = at-inside .before .before .before .before in
     let here = at-loop .loop in
     let entry = at-loop .before .before .before .before in
-    let reached = here .inv .2 .1 .passes (omega arith) in (
+    let reached = here .inv .3 .1 .passes (omega arith) in (
       rw (all-of (here .work) 32768 (here .inv .1))
-          (reached-here (entry .args .trace .now) (here .inv .2 .0) (here .t) (here .work) reached),
+          (reached-here (entry .args .trace .now) (here .inv .3 .0) (here .t) (here .rows) (here .work) reached),
       ltb-true _ _ (at-inside .if2 .taken),
     )
 
 loop-less : tie.Need-loop-less Inv-loop μ-loop
 loop-less c =
-    let at-record = c .before .before in
-    let at-inside = at-record .before .before in
+    let at-record = c .before .before .before in
+    let at-inside = at-record .before .before .before in
     let at-loop = at-inside .before .before .before .before in
     let here = at-loop .loop in
     let bytes : List ℕ = at-loop .before .before .before .before .args .trace .now in
-    let reached = here .inv .2 .1 .passes (omega arith) in
+    let reached = here .inv .3 .1 .passes (omega arith) in
     rw (eq-eqb (here .t .refusal) 0 (omega arith))
-    (less-left bytes (here .t .machine .event) (here .t) (here .work)
-    (reached-here bytes (here .inv .2 .0) (here .t) (here .work) reached) (at-record .judge-record .result) _
+    (less-left bytes (here .t .event) (here .t) (here .rows) (here .work)
+    (reached-here bytes (here .inv .3 .0) (here .t) (here .rows) (here .work) reached)
+    (at-record .judge-record .result) _ _
     (ltb-true _ _ (at-inside .if2 .taken)) (at-record .judge-record .ensures))
 
 loop-again : tie.Need-loop-again Inv-loop μ-loop
 loop-again c =
-    let at-record = c .before .before in
-    let here = at-record .before .before .before .before .before .before .loop in
+    let at-record = c .before .before .before in
+    let here = at-record .before .before .before .before .before .before .before .loop in
     let called = at-record .judge-record in
-    let after : List ℕ = called .last .1 .1 .0 in
+    let after : List ℕ = called .last .1 .1 .1 .0 in
     let all = nothing-behind (here .work) after 32768 (here .inv .1) in
     let size : length after ≡ length (here .work) =
-    called .kept .1 .1 .0 ∙ ap length (all-of (here .work) 32768 (here .inv .1))
+    called .kept .1 .1 .1 .0 ∙ ap length (all-of (here .work) 32768 (here .inv .1))
     in
-    rw all
-    (size ∙ here .inv .0, size ∙ here .inv .1, (suc (here .t .machine .event), called .ensures))
+    rw all (
+      size ∙ here .inv .0,
+      size ∙ here .inv .1,
+      called .kept .1 .1 .0 ∙ here .inv .2,
+      (suc (here .t .event), called .ensures),
+    )
 
 same-length : tie.Need-same-length Inv-loop μ-loop
 same-length c = c .before .before .before .before .loop .inv .0
@@ -93,7 +102,7 @@ returns c =
     let at-loop = c .before .before .before .before in
     let here = at-loop .loop in
     let entry = at-loop .before .before .before .before in
-    run-ends (entry .args .trace .now) (here .inv .2 .0) (here .t) (here .work) (here .inv .2 .1)
+    run-ends (entry .args .trace .now) (here .inv .3 .0) (here .t) (here .rows) (here .work) (here .inv .3 .1)
     (inr (ltb-false _ _ (c .if2 .left)))
 
 same-length-2 : tie.Need-same-length-2 Inv-loop μ-loop
@@ -104,11 +113,12 @@ returns-2 c =
     let at-loop = c .before .before in
     let here = at-loop .loop in
     let entry = at-loop .before .before .before .before in
-    run-ends (entry .args .trace .now) (here .inv .2 .0) (here .t) (here .work) (here .inv .2 .1)
+    run-ends (entry .args .trace .now) (here .inv .3 .0) (here .t) (here .rows) (here .work) (here .inv .3 .1)
     (inl (λ none. omega arith))
 
 pub run-spec : {M : Type 1} → statement M
 run-spec =
     tie.close
-    (tie.spec Inv-loop μ-loop begin-requires loop-holds slice-relend-prefix-judge-record slice-aggregate-judge-record
+    (tie.spec Inv-loop μ-loop begin-requires loop-holds slice-aggregate-judge-record slice-relend-prefix-judge-record
+    slice-aggregate-judge-record-2
     judge-record-requires loop-less loop-again same-length returns same-length-2 returns-2)

@@ -1,6 +1,6 @@
 -- The definition's test of the row's stretch. Assumes nothing.
 use borrow.Author.Tests.{eq-eqb, ne-eqb}
-use Rattle.machine.specs.Twin.{currentW}
+use Rattle.machine.specs.Twin.{currentIn}
 use borrow.Author.Needs.{needs}
 use Rattle.machine.proofs.rules.current.Statement.{statement}
 use Rattle.machine.proofs.rules.current.Tie as tie
@@ -15,7 +15,7 @@ row-get-requires : tie.Need-row-get-requires
 row-get-requires c κs = search needs
 
 returns : tie.Need-returns
-unfolding currentW
+unfolding currentIn
 returns c =
     let at-slot-get = c .before .before .before in
     let at-last = at-slot-get .before in
@@ -27,7 +27,7 @@ returns c =
     )
 
 returns-2 : tie.Need-returns-2
-unfolding currentW
+unfolding currentIn
 returns-2 c =
     let at-slot-get = c .before .before .before in
     let at-last = at-slot-get .before in

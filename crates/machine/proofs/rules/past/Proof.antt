@@ -1,6 +1,6 @@
 -- The definition's tests, in their order, over what the calls read. Assumes nothing.
 use borrow.Author.Tests.{eq-eqb, ne-eqb, le-leb, lt-leb}
-use Rattle.machine.specs.Twin.{pastW}
+use Rattle.machine.specs.Twin.{pastIn}
 use borrow.Author.Needs.{needs}
 use Rattle.machine.proofs.rules.past.Statement.{statement}
 use Rattle.machine.proofs.rules.past.Tie as tie
@@ -12,11 +12,11 @@ row-get-requires-2 : tie.Need-row-get-requires-2
 row-get-requires-2 c κs = search needs
 
 returns : tie.Need-returns
-unfolding pastW
+unfolding pastIn
 returns c = simp (← c .before .before .row-get .ensures, eq-eqb _ _ (c .if1 .taken))
 
 returns-2 : tie.Need-returns-2
-unfolding pastW
+unfolding pastIn
 returns-2 c =
     let at-row-get2 = c .before .before .before in
     let at-row-get = at-row-get2 .before in
@@ -26,7 +26,7 @@ row-get-requires-3 : tie.Need-row-get-requires-3
 row-get-requires-3 c κs = search needs
 
 returns-3 : tie.Need-returns-3
-unfolding pastW
+unfolding pastIn
 returns-3 c =
     let at-struct-known = c .before .before .before in
     let at-if1 = at-struct-known .before in
@@ -49,7 +49,7 @@ slot-get-requires : tie.Need-slot-get-requires
 slot-get-requires c κs = search needs
 
 returns-4 : tie.Need-returns-4
-unfolding pastW
+unfolding pastIn
 returns-4 c =
     let at-if3 = c .before .before .before in
     let at-row-get3 = at-if3 .before in

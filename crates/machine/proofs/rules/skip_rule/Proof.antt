@@ -1,23 +1,19 @@
 -- The definition's tests of the kind and of the thread's skip. Assumes nothing.
 use borrow.Author.Tests.{eq-eqb, ne-eqb}
-use borrow.Author.Needs.{needs}
 use Rattle.machine.proofs.rules.skip_rule.Statement.{statement}
 use Rattle.machine.proofs.rules.skip_rule.Tie as tie
 
-thread-requires : tie.Need-thread-requires
-thread-requires c κs = search needs
-
 returns : tie.Need-returns
-returns c = simp (← c .before .before .thread .ensures, eq-eqb _ _ (c .before .if1 .taken), c .if2 .taken)
+returns c = simp (eq-eqb _ _ (c .before .if1 .taken), c .if2 .taken)
 
 returns-2 : tie.Need-returns-2
-returns-2 c = simp (← c .before .before .thread .ensures, eq-eqb _ _ (c .before .if1 .taken), c .if2 .left)
+returns-2 c = simp (eq-eqb _ _ (c .before .if1 .taken), c .if2 .left)
 
 returns-3 : tie.Need-returns-3
-returns-3 c = simp (← c .before .before .thread .ensures, ne-eqb _ _ (c .before .if1 .left), c .if3 .taken)
+returns-3 c = simp (ne-eqb _ _ (c .before .if1 .left), c .if3 .taken)
 
 returns-4 : tie.Need-returns-4
-returns-4 c = simp (← c .before .before .thread .ensures, ne-eqb _ _ (c .before .if1 .left), c .if3 .left)
+returns-4 c = simp (ne-eqb _ _ (c .before .if1 .left), c .if3 .left)
 
 pub skip-rule-spec : {M : Type 1} → statement M
-skip-rule-spec = tie.close (tie.spec thread-requires returns returns-2 returns-3 returns-4)
+skip-rule-spec = tie.close (tie.spec returns returns-2 returns-3 returns-4)

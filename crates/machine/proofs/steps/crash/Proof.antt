@@ -1,21 +1,57 @@
--- The two calls. Assumes nothing.
+-- The rules, one after the other. Assumes nothing.
+use mathlib.Core.Path.{refl}
+use native.Mathlib.Omega.{arith}
+use borrow.Author.Tests.{lt-ltb, le-ltb, eq-eqb, ne-eqb}
+use Rattle.machine.specs.Twin.{crashed}
 use Rattle.machine.specs.Effects.{crashW}
+use Rattle.machine.proofs.RuleLaws.{stopped, passes}
 use borrow.Author.Needs.{needs}
 use Rattle.machine.proofs.steps.crash.Statement.{statement}
 use Rattle.machine.proofs.steps.crash.Tie as tie
 
-wipe-requires : tie.Need-wipe-requires
-wipe-requires c κs = search needs
+refuse-requires : tie.Need-refuse-requires
+refuse-requires c κs = search needs
+
+returns : tie.Need-returns
+returns c l =
+    rw (c .refuse .ensures) (stopped _ _ _ _ _ (rw (lt-ltb _ _ (c .before .if1 .taken)) refl) (λ is. omega arith))
+
+refuse-requires-2 : tie.Need-refuse-requires-2
+refuse-requires-2 c κs = search needs
+
+returns-2 : tie.Need-returns-2
+returns-2 c l =
+    rw (c .refuse2 .ensures)
+    (stopped _ _ _ _ _ (rw (le-ltb _ _ (c .before .before .before .if1 .left), eq-eqb _ _ (c .before .if2 .taken)) refl) (λ is. omega arith))
+
+clear-requires : tie.Need-clear-requires
+clear-requires c κs = search needs
 
 crash-requires : tie.Need-crash-requires
 crash-requires c κs = search needs
 
+pass-requires : tie.Need-pass-requires
+pass-requires c κs = search needs
+
 same-length : tie.Need-same-length
 same-length c = search needs
 
-returns : tie.Need-returns
-unfolding crashW
-returns c = simp (c .crash .ensures, c .before .before .before .wipe .ensures)
+returns-3 : tie.Need-returns-3
+unfolding crashW crashed
+returns-3 c l =
+    rw (c .pass .ensures, c .before .crash .ensures, c .before .before .before .before .clear .ensures)
+    (passes _ _ _ _ (rw (le-ltb _ _ (c .before .before .before .before .before .before .before .before .if1 .left), ne-eqb _ _ (c .before .before .before .before .before .before .if2 .left)) refl))
 
 pub crash-spec : {M : Type 1} → statement M
-crash-spec = tie.close (tie.spec wipe-requires crash-requires same-length returns)
+crash-spec =
+    tie.close
+    (tie.spec
+    refuse-requires
+    returns
+    refuse-requires-2
+    returns-2
+    clear-requires
+    crash-requires
+    pass-requires
+    same-length
+    returns-3)

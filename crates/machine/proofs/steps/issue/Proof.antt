@@ -1,11 +1,25 @@
--- The calls, one after the other: `issue-body` puts together what they ensure. Assumes nothing.
+-- The rule, then the calls, one after the other: `issue-body` puts together what they ensure. Assumes nothing.
+use mathlib.Core.Path.{_≡_, sym, _∙_}
+use native.Mathlib.Omega.{arith}
+use Rattle.machine.proofs.RuleLaws.{stopped}
 use Rattle.machine.proofs.Bodies.{issue-body}
 use borrow.Author.Needs.{needs}
 use Rattle.machine.proofs.steps.issue.Statement.{statement}
 use Rattle.machine.proofs.steps.issue.Tie as tie
 
-thread-requires : tie.Need-thread-requires
-thread-requires c κs = search needs
+place-rule-requires : tie.Need-place-rule-requires
+place-rule-requires c κs = search needs
+
+refuse-requires : tie.Need-refuse-requires
+refuse-requires c κs = search needs
+
+returns : tie.Need-returns
+returns c =
+    rw (c .refuse .ensures)
+    (stopped _ _ _ _ _ (sym (c .before .before .place-rule .ensures)) (λ is. omega arith))
+
+thread-of-requires : tie.Need-thread-of-requires
+thread-of-requires c κs = search needs
 
 issue-requires : tie.Need-issue-requires
 issue-requires c κs = search needs
@@ -13,8 +27,8 @@ issue-requires c κs = search needs
 row-put-requires : tie.Need-row-put-requires
 row-put-requires c κs = search needs
 
-store-clock-requires : tie.Need-store-clock-requires
-store-clock-requires c κs = search needs
+stamp-requires : tie.Need-stamp-requires
+stamp-requires c κs = search needs
 
 row-put-requires-2 : tie.Need-row-put-requires-2
 row-put-requires-2 c κs = search needs
@@ -25,53 +39,80 @@ row-put-requires-3 c κs = search needs
 row-put-requires-4 : tie.Need-row-put-requires-4
 row-put-requires-4 c κs = search needs
 
+row-put-requires-5 : tie.Need-row-put-requires-5
+row-put-requires-5 c κs = search needs
+
 newest-put-requires : tie.Need-newest-put-requires
 newest-put-requires c κs = search needs
 
-with-thread-requires : tie.Need-with-thread-requires
-with-thread-requires c κs = search needs
+put-issued-requires : tie.Need-put-issued-requires
+put-issued-requires c κs = search needs
+
+pass-requires : tie.Need-pass-requires
+pass-requires c κs = search needs
 
 same-length : tie.Need-same-length
 same-length c = search needs
 
-returns : tie.Need-returns
-returns c =
-    let at-newest-put = c .before .before .before in
-    let at-work5 = at-newest-put .before .before .before in
-    let at-row-put4 = at-work5 .before in
-    let at-work4 = at-row-put4 .before .before .before in
-    let at-row-put3 = at-work4 .before in
-    let at-work3 = at-row-put3 .before .before .before in
-    let at-row-put2 = at-work3 .before in
-    let at-work2 = at-row-put2 .before .before .before in
-    let at-store-clock = at-work2 .before in
-    let at-work = at-store-clock .before .before .before in
-    let at-row-put = at-work .before in
+same-length-2 : tie.Need-same-length-2
+same-length-2 c =
+    let at-newest-put = c .before .before .before .before .before .before .before in
+    let at-row-put5 = at-newest-put .before .before .before .before in
+    let at-row-put4 = at-row-put5 .before .before .before .before in
+    let at-row-put3 = at-row-put4 .before .before .before .before in
+    let at-row-put2 = at-row-put3 .before .before .before .before in
+    let at-stamp = at-row-put2 .before .before .before .before in
+    let at-row-put = at-stamp .before .before .before .before .before in
+    at-newest-put .newest-put .kept .0 ∙ at-row-put5 .row-put5 .kept .0 ∙ at-row-put4 .row-put4 .kept .0
+    ∙ at-row-put3 .row-put3 .kept .0 ∙ at-row-put2 .row-put2 .kept .0 ∙ at-stamp .stamp .kept .1 .1 .0
+    ∙ at-row-put .row-put .kept .0
+
+returns-2 : tie.Need-returns-2
+returns-2 c =
+    let at-put-issued = c .before .before .before in
+    let at-newest-put = at-put-issued .before .before .before .before in
+    let at-row-put5 = at-newest-put .before .before .before .before in
+    let at-row-put4 = at-row-put5 .before .before .before .before in
+    let at-row-put3 = at-row-put4 .before .before .before .before in
+    let at-row-put2 = at-row-put3 .before .before .before .before in
+    let at-stamp = at-row-put2 .before .before .before .before in
+    let at-row-put = at-stamp .before .before .before .before .before in
     let at-issue = at-row-put .before .before in
-    let at-thread = at-issue .before in
-    issue-body _ _ _ _ _ _ _ _ _ _ _ _ _
-    (at-thread .thread .ensures)
+    let at-thread-of = at-issue .before in
+    let at-place-rule = at-thread-of .before .before .before in
+    let passes : at-place-rule .place-rule .result ≡ 0 = omega arith in
+    rw (sym (at-place-rule .place-rule .ensures) ∙ passes)
+    (issue-body _ _ _ _ _ _ _ _ _ _ _ _ _ _ _ _ _
+    (at-thread-of .thread-of .ensures)
     (at-issue .issue .ensures)
     (at-row-put .row-put .ensures)
-    (at-store-clock .store-clock .ensures)
+    (at-stamp .stamp .ensures)
     (at-row-put2 .row-put2 .ensures)
     (at-row-put3 .row-put3 .ensures)
     (at-row-put4 .row-put4 .ensures)
+    (at-row-put5 .row-put5 .ensures)
     (at-newest-put .newest-put .ensures)
-    (c .with-thread .ensures)
+    (at-put-issued .put-issued .ensures)
+    (c .pass .ensures))
 
 pub issue-spec : {M : Type 1} → statement M
 issue-spec =
     tie.close
     (tie.spec
-    thread-requires
+    place-rule-requires
+    refuse-requires
+    returns
+    thread-of-requires
     issue-requires
     row-put-requires
-    store-clock-requires
+    stamp-requires
     row-put-requires-2
     row-put-requires-3
     row-put-requires-4
+    row-put-requires-5
     newest-put-requires
-    with-thread-requires
+    put-issued-requires
+    pass-requires
     same-length
-    returns)
+    same-length-2
+    returns-2)

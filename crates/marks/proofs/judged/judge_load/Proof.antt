@@ -21,7 +21,7 @@ returns c =
     let at-repeats = c .before in
     let at-slot-get = at-repeats .before .before in
     let at-last = at-slot-get .before in
-    judged-again _ _ _ _ _ _ _
+    judged-again _ _ _ _ _ _
     (at-last .last .ensures) (at-slot-get .slot-get .ensures) (at-repeats .repeats .ensures) (c .if1 .taken)
 
 load-requires : tie.Need-load-requires
@@ -41,7 +41,7 @@ returns-2 c =
     let at-repeats = at-if1 .before in
     let at-slot-get = at-repeats .before .before in
     let at-last = at-slot-get .before in
-    judged-steps _ _ _ _ _ _ _
+    judged-steps _ _ _ _ _ _
     (at-last .last .ensures) (at-slot-get .slot-get .ensures) (at-repeats .repeats .ensures) _ _ _
     (at-if1 .if1 .left) (at-load .load .ensures) (at-note .note .ensures)
 

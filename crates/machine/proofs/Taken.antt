@@ -1,0 +1,78 @@
+-- What the outcome of a step says of an event: the rule that turns it away, or 0, whether it counts, and its effect. And
+-- that a counted load leaves the work area.
+use mathlib.Core.Path.{_≡_, refl, sym, ap, _∙_}
+use mathlib.Core.Bool.{Bool, true, false}
+use Prim.Native.Nat.{ℕ}
+use borrow.Author.Tests.{eqb-true}
+use lib.Dec.{eqb}
+use Rattle.record.specs.declared.events.Event.{Event}
+use Rattle.record.specs.declared.events.Event.the-variants.{Begin, Issue, Commit, Load, Clflush, Clwb}
+use Rattle.record.specs.declared.events.Event.the-variants.{Sfence, Mfence, Crash, SkipOn, SkipOff}
+use Rattle.record.specs.Events.{kindOf}
+use Rattle.record.specs.Fields.{fieldsOf}
+use Rattle.record.specs.Tests.{_gives_else_}
+use Rattle.model.proofs.Searching.{false-true}
+use Rattle.machine.specs.Arms.{byKind}
+use Rattle.machine.specs.Twin.{World}
+use Rattle.machine.specs.Turning.{refusalK, refusalW, countsK, countsW}
+use Rattle.machine.specs.Effects.{loadW, stepK, stepW}
+use Rattle.machine.specs.Outcomes.{Outcome, turned, byRule, stepO}
+
+-- an outcome by a rule has the rule's number
+rule-told : (k : ℕ) (w after : World) (counted : Bool) → byRule k w counted after .refusal ≡ k
+unfolding byRule
+rule-told k w after counted = by-test (eqb k 0) refl
+  where
+    by-test :
+        (none : Bool) → eqb k 0 ≡ none
+        → (none gives record { refusal = 0; counted = counted; after = after } else turned k w) .refusal ≡ k
+    by-test true is = sym (eqb-true k 0 is)
+    by-test false is = refl
+
+outcome-is :
+    (w : World) (e : Event)
+    → stepO w (kindOf e) (fieldsOf e) ≡ byRule (refusalW w e) w (countsW w e) (stepW w e)
+unfolding stepO refusalK countsK stepK byKind byRule
+outcome-is w (Begin v a b) = refl
+outcome-is w (Issue t x) = refl
+outcome-is w (Commit t) = refl
+outcome-is w (Load t x s) = refl
+outcome-is w (Clflush t x) = refl
+outcome-is w (Clwb t x) = refl
+outcome-is w (Sfence t) = refl
+outcome-is w (Mfence t) = refl
+outcome-is w Crash = refl
+outcome-is w (SkipOn t) = refl
+outcome-is w (SkipOff t) = refl
+
+module _ (w : World) (e : Event) (o : Outcome) (is : o ≡ stepO w (kindOf e) (fieldsOf e)) where
+  by-its-rule : o ≡ byRule (refusalW w e) w (countsW w e) (stepW w e)
+  by-its-rule = is ∙ outcome-is w e
+
+  pub refusal-told : refusalW w e ≡ o .refusal
+  refusal-told = sym (ap (λ (p : Outcome). p .refusal) by-its-rule ∙ rule-told (refusalW w e) w _ _)
+
+  module _ (passes : o .refusal ≡ 0) where
+    effect : o ≡ record { refusal = 0; counted = countsW w e; after = stepW w e }
+    unfolding byRule
+    effect = by-its-rule ∙ rw (refusal-told ∙ passes) refl
+
+    pub counted-told : o .counted ≡ countsW w e
+    counted-told = ap (λ (p : Outcome). p .counted) effect
+
+    pub after-told : o .after ≡ stepW w e
+    after-told = ap (λ (p : Outcome). p .after) effect
+
+pub counted-stays : (w : World) (e : Event) → countsW w e ≡ true → stepW w e .work ≡ w .work
+unfolding countsK stepK byKind loadW
+counted-stays w (Begin v a b) counts = false-true counts
+counted-stays w (Issue t x) counts = false-true counts
+counted-stays w (Commit t) counts = false-true counts
+counted-stays w (Load t x s) counts = refl
+counted-stays w (Clflush t x) counts = false-true counts
+counted-stays w (Clwb t x) counts = false-true counts
+counted-stays w (Sfence t) counts = false-true counts
+counted-stays w (Mfence t) counts = false-true counts
+counted-stays w Crash counts = false-true counts
+counted-stays w (SkipOn t) counts = false-true counts
+counted-stays w (SkipOff t) counts = false-true counts

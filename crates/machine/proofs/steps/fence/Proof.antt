@@ -1,0 +1,73 @@
+-- The rules, one after the other. Assumes nothing.
+use mathlib.Core.Path.{_≡_, refl, _∙_}
+use native.Mathlib.Omega.{arith}
+use borrow.Author.Tests.{eq-eqb, ne-eqb}
+use Rattle.machine.specs.Twin.{withRows}
+use Rattle.machine.specs.Effects.{passW}
+use Rattle.machine.proofs.RuleLaws.{thread-stops, thread-passes, stopped, passes}
+use borrow.Author.Needs.{needs}
+use Rattle.machine.proofs.steps.fence.Statement.{statement}
+use Rattle.machine.proofs.steps.fence.Tie as tie
+
+thread-rule-requires : tie.Need-thread-rule-requires
+thread-rule-requires c κs = search needs
+
+refuse-requires : tie.Need-refuse-requires
+refuse-requires c κs = search needs
+
+returns : tie.Need-returns
+returns c l =
+    rw (c .refuse .ensures)
+    (stopped _ _ _ _ _ (thread-stops (c .before .before .before .before .args .m .threads) (c .before .before .before .before .args .e) (c .before .before .before .before .args .t) _ _ (c .before .before .thread-rule .ensures) (λ is. omega arith)) (λ is. omega arith))
+
+pass-requires : tie.Need-pass-requires
+pass-requires c κs = search needs
+
+returns-2 : tie.Need-returns-2
+unfolding passW withRows
+returns-2 c l =
+    let first : c .before .before .before .thread-rule .result ≡ 0 = omega arith in
+    rw (c .pass .ensures)
+    (passes _ _ _ _ (thread-passes (c .before .before .before .before .before .args .m .threads) (c .before .before .before .before .before .args .e) (c .before .before .before .before .before .args .t) _ _ (c .before .before .before .thread-rule .ensures) first ∙ rw (eq-eqb _ _ (c .before .if2 .taken)) refl))
+
+thread-of-requires : tie.Need-thread-of-requires
+thread-of-requires c κs = search needs
+
+pass-requires-2 : tie.Need-pass-requires-2
+pass-requires-2 c κs = search needs
+
+refuse-requires-2 : tie.Need-refuse-requires-2
+refuse-requires-2 c κs = search needs
+
+returns-3 : tie.Need-returns-3
+unfolding passW withRows
+returns-3 c l =
+    let first : c .before .before .before .before .before .before .thread-rule .result ≡ 0 = omega arith in
+    let empty = rw (c .before .before .before .thread-of .ensures) at (eq-eqb _ _ (c .before .if3 .taken)) in
+    rw (c .pass2 .ensures)
+    (passes _ _ _ _
+    (thread-passes (c .before .before .before .before .before .before .before .before .args .m .threads) (c .before .before .before .before .before .before .before .before .args .e) (c .before .before .before .before .before .before .before .before .args .t) _ _ (c .before .before .before .before .before .before .thread-rule .ensures) first ∙ rw (ne-eqb _ _ (c .before .before .before .before .if2 .left), empty) refl))
+
+returns-4 : tie.Need-returns-4
+returns-4 c l =
+    let first : c .before .before .before .before .before .before .thread-rule .result ≡ 0 = omega arith in
+    let waits = rw (c .before .before .before .thread-of .ensures) at (ne-eqb _ _ (c .before .if3 .left)) in
+    rw (c .refuse2 .ensures)
+    (stopped _ _ _ _ _
+    (thread-passes (c .before .before .before .before .before .before .before .before .args .m .threads) (c .before .before .before .before .before .before .before .before .args .e) (c .before .before .before .before .before .before .before .before .args .t) _ _ (c .before .before .before .before .before .before .thread-rule .ensures) first ∙ rw (ne-eqb _ _ (c .before .before .before .before .if2 .left), waits) refl)
+    (λ is. omega arith))
+
+pub fence-spec : {M : Type 1} → statement M
+fence-spec =
+    tie.close
+    (tie.spec
+    thread-rule-requires
+    refuse-requires
+    returns
+    pass-requires
+    returns-2
+    thread-of-requires
+    pass-requires-2
+    refuse-requires-2
+    returns-3
+    returns-4)

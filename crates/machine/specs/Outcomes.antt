@@ -1,0 +1,84 @@
+-- What the code's functions give for an event: the rule that turns it away first, or its effect. What a step leaves is
+-- the state that it hands back, the rows of the threads and the work area.
+use Prim.Native.Nat.{ℕ}
+use mathlib.Core.Bool.{Bool, false, not}
+use mathlib.Core.List.{List}
+use lib.Dec.{eqb}
+use Rattle.record.specs.declared.events.Fields.{Fields}
+use Rattle.record.specs.Tests.{_gives_else_}
+use Rattle.machine.specs.declared.state.Step.{Step}
+use Rattle.machine.specs.Arms.{byKind}
+use Rattle.machine.specs.Twin.{World, stateOf, world, threadAt, acrossW}
+use Rattle.machine.specs.Turning.{commitRule, loadRule, fenceRule, crashRule, skipRule}
+use Rattle.machine.specs.Turning.{inTime, onThread, onPlace, countedW}
+use Rattle.machine.specs.Effects.{issueW, commitW, loadW, crashW, skipW, passW}
+
+pub record Outcome : Type 0 where
+  pub refusal : ℕ
+  pub counted : Bool
+  pub after : World
+
+abbrev pub outcome : Step → List ℕ → List ℕ → Outcome
+outcome r rows l =
+    record {
+      refusal = r .refusal;
+      counted = r .counted;
+      after = world (stateOf (r .machine) (r .event) rows) l;
+    }
+
+-- the rule of number k turns the event away, and all is as it was
+abbrev pub turned : ℕ → World → Outcome
+turned k w = record { refusal = k; counted = false; after = w }
+
+-- it does if k is not 0; else the event leads to another world
+unfoldable pub byRule : ℕ → World → Bool → World → Outcome
+byRule k w counted after =
+    eqb k 0 gives record { refusal = 0; counted = counted; after = after } else turned k w
+
+-- ---- by kind
+
+abbrev pub issueO : World → ℕ → ℕ → Outcome
+issueO w t x = byRule (onPlace (w .state) t x 0) w false (issueW w t x)
+
+abbrev pub commitO : World → ℕ → Outcome
+commitO w t = byRule (onThread (w .state) t (commitRule (w .state) t)) w false (commitW w t)
+
+-- a load that may have one source only
+abbrev pub onlyO : World → ℕ → ℕ → ℕ → Outcome
+onlyO w t s only = byRule (eqb s only gives 0 else 9) w false (loadW w t s)
+
+-- a crossing load
+abbrev pub acrossO : World → ℕ → ℕ → ℕ → Outcome
+acrossO w t x s =
+    byRule (acrossW w x s gives 0 else 9) w (not (threadAt (w .state) t .skip)) (loadW w t s)
+
+abbrev pub loadO : World → ℕ → ℕ → ℕ → Outcome
+loadO w t x s = byRule (onPlace (w .state) t x (loadRule w t x s)) w (countedW w t x) (loadW w t s)
+
+abbrev pub flushO : World → ℕ → ℕ → Outcome
+flushO w t x = byRule (onPlace (w .state) t x 0) w false (passW w)
+
+abbrev pub fenceO : World → ℕ → ℕ → Outcome
+fenceO w kind t = byRule (onThread (w .state) t (fenceRule (w .state) kind t)) w false (passW w)
+
+abbrev pub crashO : World → Outcome
+crashO w = byRule (inTime (w .state) (crashRule (w .state))) w false (crashW w)
+
+abbrev pub skipO : World → ℕ → ℕ → Outcome
+skipO w kind t =
+    byRule (onThread (w .state) t (skipRule (w .state) kind t)) w false (skipW w t (eqb kind 10))
+
+-- a later event: a begin, and what is no kind, is turned away by 5
+unfoldable pub stepO : World → ℕ → Fields → Outcome
+stepO w k f =
+    let t = f .thread in
+    let x = f .location in
+    byKind k
+    (issueO w t x)
+    (commitO w t)
+    (loadO w t x (f .source))
+    (flushO w t x)
+    (fenceO w k t)
+    (crashO w)
+    (skipO w k t)
+    (turned 5 w)
