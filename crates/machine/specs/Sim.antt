@@ -1,5 +1,5 @@
 -- What ties the machine's state and the work area, before event n, to the definitions: the numbers, what the first n
--- events have passed, each thread's state, the rows of stores, and the tables.
+-- events have passed, each thread's state and what it has seen, the rows of stores, and the newest stores.
 use Prim.Native.Nat.{ℕ, suc, _-_, _≤_, _<_}
 use mathlib.Core.Path.{_≡_}
 use mathlib.Core.List.{List}

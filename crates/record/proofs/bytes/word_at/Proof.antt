@@ -1,5 +1,5 @@
-use Prim.Native.Nat.{_+_}
 -- The two bytes are below 256 each, so that neither the casts nor the sum lose anything. Assumes nothing.
+use Prim.Native.Nat.{_+_}
 use native.Mathlib.Omega.{arith}
 use borrow.Author.Needs.{needs}
 use Rattle.record.proofs.bytes.word_at.Statement.{statement}
