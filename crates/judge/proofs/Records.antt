@@ -21,9 +21,8 @@ use Rattle.record.specs.Tests.{_gives_else_}
 use Rattle.record.specs.Parts.{start}
 use Rattle.record.specs.Events.{kindOf}
 use Rattle.record.specs.Fields.{fieldsOf}
-use Rattle.record.proofs.Frames.{clash, Answers, an-event, a-refusal}
-use Rattle.record.proofs.Scans.{scan-read, scan-refused}
-use Rattle.record.proofs.Starts.{read-at-answers, read-next, read-grows}
+use Rattle.record.proofs.Scans.{refusals-some, scan-read, scan-refused}
+use Rattle.record.proofs.Starts.{read-next, read-grows}
 use Rattle.model.specs.Rules.{refusal}
 use Rattle.model.specs.Reading.{eventIn, refusalIn, events, refusalAt, endsAt}
 use Rattle.model.proofs.Searching.{false-true, test}
@@ -101,14 +100,7 @@ module _ (bytes : List ℕ) where
   module _ (n : ℕ) where
     -- the record layer's refusal is a number
     pub unread-some : (k e : ℕ) → readAt bytes (start bytes n) ≡ refused k e → k ≢ 0
-    unread-some k e is = by-answer (read-at-answers bytes (start bytes n))
-      where
-        number-is : (a : Answer) → readAt bytes (start bytes n) ≡ a → refusalIn a ≡ k
-        number-is a other = ap refusalIn (sym other ∙ is)
-
-        by-answer : Answers (readAt bytes (start bytes n)) → k ≢ 0
-        by-answer (an-event x next other) is-0 = clash (cc)
-        by-answer (a-refusal j low high other) is-0 = omega (arith, number-is (refused j 0) other)
+    unread-some k e is = refusals-some bytes (start bytes n) k e is .0
 
     unread-number : (k e : ℕ) → readAt bytes (start bytes n) ≡ refused k e → refusalAt bytes n ≡ k
     unfolding refusalAt

@@ -27,15 +27,15 @@ evidenceAt work load =
     let missing = missingBy work (up load) in
     record { load = load; missing = missing; observed = observedBy work (up load) missing }
 
--- event e, with the fields f, is a load to judge: it counts, and none before it broke
+-- an event is a load to judge: it counts, and none before it broke
 abbrev pub judges : Evidence → Bool → Bool
 judges found counted = counted && eqb (found .load) 0
 
--- the work area after it is judged
+-- the work area after an event with the fields f is judged
 unfoldable pub judgedWork : Evidence → Bool → List ℕ → Fields → List ℕ
 judgedWork found counted work f = judges found counted gives judged work (f .location) (f .source) else work
 
--- and what is found then
+-- and what is found then, if it is event e
 unfoldable pub foundBy : Evidence → Bool → List ℕ → ℕ → Fields → Evidence
 foundBy found counted work e f =
     let after = judged work (f .location) (f .source) in

@@ -78,7 +78,8 @@ fn event_or_refusal(r: Scan) -> Decoded
     }
 }
 
-// The first record, over a cleared work area, which it leaves as it is.
+// The first record, over a cleared work area, which it leaves as it is. It is read through the table: a second caller
+// of `scan_at` would keep the compiler from taking the scan into the loop below.
 fn begin(trace: &[u8]) -> Turn
     ensures { λ r. ⌜ Turned (now (trace .entry)) 1 r (replicate 128 0) (replicate 32768 0) ⌝ }
 {

@@ -215,17 +215,25 @@ module _ (rows : List ℕ) (t : ℕ) (eight : length rows ≡ 128) (some : t < 8
     newest-size : length with-newest ≡ length rows
     newest-size = length-put with-oldest (suc t) 9 _ ∙ oldest-size
 
+    -- a column other than those of the issues and of the newest store
+    behind-oldest :
+        (i : ℕ) → 10 ≢ i → 9 ≢ i
+        → getRow (putRow with-newest (suc t) 10 (new-issued .issued)) (suc t) i ≡ getRow with-oldest (suc t) i
+    behind-oldest i not-10 not-9 =
+        beside with-newest 10 (new-issued .issued) i not-10 ∙ beside with-oldest 9 (new-issued .newest) i not-9
+
     issued-own : threadOf (putIssued rows t new-issued) t ≡ new-issued
     unfolding threadOf putIssued issuedT
     issued-own =
         rw (
-          beside with-newest 10 (new-issued .issued) 8 (λ is. omega arith) ∙ beside with-oldest 9 (new-issued .newest) 8 (λ is. omega arith)
+          behind-oldest 8 (λ is. omega arith) (λ is. omega arith)
               ∙ stored rows 8 (new-issued .oldest) refl (omega arith),
-          beside with-newest 10 (new-issued .issued) 9 (λ is. omega arith) ∙ stored with-oldest 9 (new-issued .newest) oldest-size (omega arith),
+          beside with-newest 10 (new-issued .issued) 9 (λ is. omega arith)
+              ∙ stored with-oldest 9 (new-issued .newest) oldest-size (omega arith),
           stored with-newest 10 (new-issued .issued) newest-size (omega arith),
-          beside with-newest 10 (new-issued .issued) 11 (λ is. omega arith) ∙ beside with-oldest 9 (new-issued .newest) 11 (λ is. omega arith)
+          behind-oldest 11 (λ is. omega arith) (λ is. omega arith)
               ∙ beside rows 8 (new-issued .oldest) 11 (λ is. omega arith),
-          beside with-newest 10 (new-issued .issued) 12 (λ is. omega arith) ∙ beside with-oldest 9 (new-issued .newest) 12 (λ is. omega arith)
+          behind-oldest 12 (λ is. omega arith) (λ is. omega arith)
               ∙ beside rows 8 (new-issued .oldest) 12 (λ is. omega arith),
         )
         refl
@@ -251,15 +259,23 @@ module _ (rows : List ℕ) (t : ℕ) (eight : length rows ≡ 128) (some : t < 8
     next-size : length with-next ≡ length rows
     next-size = length-put rows (suc t) 8 _
 
+    -- a column that the commit does not store
+    beside-both :
+        (i : ℕ) → 11 ≢ i → 8 ≢ i
+        → getRow (putRow with-next (suc t) 11 (new-committed .committed)) (suc t) i ≡ getRow rows (suc t) i
+    beside-both i not-11 not-8 =
+        beside with-next 11 (new-committed .committed) i not-11 ∙ beside rows 8 (new-committed .oldest) i not-8
+
     committed-own : threadOf (putCommitted rows t new-committed) t ≡ new-committed
     unfolding threadOf putCommitted committedT
     committed-own =
         rw (
-          beside with-next 11 (new-committed .committed) 8 (λ is. omega arith) ∙ stored rows 8 (new-committed .oldest) refl (omega arith),
-          beside with-next 11 (new-committed .committed) 9 (λ is. omega arith) ∙ beside rows 8 (new-committed .oldest) 9 (λ is. omega arith),
-          beside with-next 11 (new-committed .committed) 10 (λ is. omega arith) ∙ beside rows 8 (new-committed .oldest) 10 (λ is. omega arith),
+          beside with-next 11 (new-committed .committed) 8 (λ is. omega arith)
+              ∙ stored rows 8 (new-committed .oldest) refl (omega arith),
+          beside-both 9 (λ is. omega arith) (λ is. omega arith),
+          beside-both 10 (λ is. omega arith) (λ is. omega arith),
           stored with-next 11 (new-committed .committed) next-size (omega arith),
-          beside with-next 11 (new-committed .committed) 12 (λ is. omega arith) ∙ beside rows 8 (new-committed .oldest) 12 (λ is. omega arith),
+          beside-both 12 (λ is. omega arith) (λ is. omega arith),
         )
         refl
 

@@ -195,7 +195,8 @@ module _ (ev : ℕ → Event) (n : ℕ) (w : World) (sim : Sim ev n w) (passes :
       own-or-other : (p : ℕ) → p < suc n → Issue ev p → (p ≡ n) ⊎ (p ≢ n) → StoreRow ev after p
       own-or-other p early is-store (inl own) = rw own new-row
       own-or-other p early is-store (inr other) =
-          row-same ev n l after p (λ k low. issued-other rows l newest n t count-now x j p k (λ same. other (sym same)) low few)
+          row-same ev n l after p
+          (λ k low. issued-other rows l newest n t count-now x j p k (λ same. other (sym same)) low few)
           (sim .rows .stores p (omega arith) is-store)
 
       no-row : (p : ℕ) → (p < suc n → Issue ev p → ⊥) → (p ≡ n) ⊎ (p ≢ n) → getRow after p 10 ≡ 0
@@ -209,7 +210,8 @@ module _ (ev : ℕ → Event) (n : ℕ) (w : World) (sim : Sim ev n w) (passes :
   -- of the new store: there is none after it
   link-new : getRow after n 11 ≡ storeAt ev (suc n) j t (suc (issued ev n t))
   link-new =
-      issued-link rows l newest n t count-now x j n few ∙ put-row l newest 11 n n 11 (λ same. omega (arith, newest-early))
+      issued-link rows l newest n t count-now x j n few
+      ∙ put-row l newest 11 n n 11 (λ same. omega (arith, newest-early))
       ∙ sim .links .free n (omega arith)
       ∙ sym
       (store-at-none ev (suc n) j t (suc (issued ev n t))
@@ -259,7 +261,8 @@ module _ (ev : ℕ → Event) (n : ℕ) (w : World) (sim : Sim ev n w) (passes :
   links-next = record {
     next-is = λ p early is-store. by-store p early is-store (same? p n) (same? p newest);
     free = λ p past.
-        issued-link rows l newest n t count-now x j p few ∙ put-row l newest 11 n p 11 (λ same. omega (arith, newest-early))
+        issued-link rows l newest n t count-now x j p few
+        ∙ put-row l newest 11 n p 11 (λ same. omega (arith, newest-early))
         ∙ sim .links .free p (omega arith);
   }
     where

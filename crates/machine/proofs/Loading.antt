@@ -51,7 +51,8 @@ module _ (w : World) (t x s : ℕ) (fits : acrossW w x s ≡ true) where
     where
       by-source : (s ≡ 0) ⊎ (s ≢ 0) → loadedRows w t s ≡ w .state .rows
       by-source (inl none) =
-          rw (none, ← met-none (w .work) t (w .state .rows)) (either-same (eqb (getRow (w .work) 0 10) (w .state .stretch)) (w .state .rows))
+          rw (none, ← met-none (w .work) t (w .state .rows))
+          (either-same (eqb (getRow (w .work) 0 10) (w .state .stretch)) (w .state .rows))
       by-source (inr some) =
           let past = rw (ne-eqb s 0 some) at fits in
           rw (ne-eqb _ _ (past-elsewhere (w .state .stretch) (w .work) x s past)) refl

@@ -67,7 +67,8 @@ module _ (threads e t : ℕ) where
 -- ---- outcomes
 
 -- the rule gives the number k, which is not 0
-pub stopped : (rule k : ℕ) (w after : World) (counted : Bool) → rule ≡ k → k ≢ 0 → turned k w ≡ byRule rule w counted after
+pub stopped :
+    (rule k : ℕ) (w after : World) (counted : Bool) → rule ≡ k → k ≢ 0 → turned k w ≡ byRule rule w counted after
 unfolding byRule
 stopped rule k w after counted is some = rw (is, ne-eqb k 0 some) refl
 

@@ -54,7 +54,7 @@ withRows st rows =
       rows = rows;
     }
 
--- with these rows
+-- with the rows as they are
 abbrev pub ticked : State → State
 ticked st = withRows st (st .rows)
 

@@ -1,8 +1,8 @@
 -- For the fold over a trace: the invariant of judging, its start, its steps and its two ends. While no pair is found,
 -- the rows of the machine and the marks say what the definitions say of the first n events. A counted load that breaks
 -- gives the ruling of every accepted trace that begins with these events, so later records need nothing of the marks.
--- In order: `Good`; `good-start`; the machine's steps, `good-kept` and `good-quiet`; the counted load, `good-load` and
--- `good-breaks`; `good-robust`.
+-- In order: `Good`; `good-start`; the machine's steps, `good-quiet`; the counted load, `good-load` and `good-breaks`;
+-- `good-robust`.
 use Prim.Native.Nat.{ℕ, suc, _≤_, _<_}
 use native.Mathlib.Omega.{arith}
 use mathlib.Core.Path.{_≡_, refl, sym, _∙_, ap₂}
@@ -89,15 +89,6 @@ module _ (ev : ℕ → Event) where
       where
         same-loads : (i : ℕ) → 496 ≤ i → i < 1008 → cell v i ≡ cell w i
         same-loads i from-496 below = leaves .slots i (record { in-range = inr (from-496, below) })
-
-    -- that of an event which has been judged already
-    pub good-kept : (n : ℕ) → Rows ev n v → Good n w → Good n v
-    good-kept n rows good = record {
-      rows = rows;
-      judging = judging-kept n (good .judging);
-      no-pair = good .no-pair;
-      loads = loads-kept n n (omega arith) (good .loads);
-    }
 
     -- that of an event which is no counted load
     pub good-quiet :

@@ -40,10 +40,14 @@ returns-2 c =
 
 join-clock-requires : tie.Need-join-clock-requires
 join-clock-requires c κs =
-    let own = not-false (c .before .before .before .before .has-row .result) (c .before .before .before .if1 .left) in
-    let row = not-false (c .before .before .has-row2 .result) (c .before .if2 .left) in
-    let own-there = has-row→ _ _ (rw (c .before .before .before .before .has-row .ensures) at own) in
-    ((own-there .1, own-there .2), has-row→ _ _ (rw (c .before .before .has-row2 .ensures) at row))
+    let at-if2 = c .before in
+    let at-has-row2 = at-if2 .before in
+    let at-if1 = at-has-row2 .before in
+    let at-has-row = at-if1 .before in
+    let own = not-false (at-has-row .has-row .result) (at-if1 .if1 .left) in
+    let row = not-false (at-has-row2 .has-row2 .result) (at-if2 .if2 .left) in
+    let own-there = has-row→ _ _ (rw (at-has-row .has-row .ensures) at own) in
+    ((own-there .1, own-there .2), has-row→ _ _ (rw (at-has-row2 .has-row2 .ensures) at row))
 
 same-length-3 : tie.Need-same-length-3
 same-length-3 c = search needs
@@ -51,10 +55,15 @@ same-length-3 c = search needs
 returns-3 : tie.Need-returns-3
 unfolding met
 returns-3 c =
-    let own = not-false (c .before .before .before .before .before .before .before .has-row .result) (c .before .before .before .before .before .before .if1 .left) in
-    let row = not-false (c .before .before .before .before .before .has-row2 .result) (c .before .before .before .before .if2 .left) in
-    rw (c .before .before .join-clock .ensures)
-    (both-on _ _ _ _ (rw (c .before .before .before .before .before .before .before .has-row .ensures, add-one) at own) (rw (c .before .before .before .before .before .has-row2 .ensures) at row))
+    let at-join-clock = c .before .before in
+    let at-if2 = at-join-clock .before .before in
+    let at-has-row2 = at-if2 .before in
+    let at-if1 = at-has-row2 .before in
+    let at-has-row = at-if1 .before in
+    let own = not-false (at-has-row .has-row .result) (at-if1 .if1 .left) in
+    let row = not-false (at-has-row2 .has-row2 .result) (at-if2 .if2 .left) in
+    rw (at-join-clock .join-clock .ensures)
+    (both-on _ _ _ _ (rw (at-has-row .has-row .ensures, add-one) at own) (rw (at-has-row2 .has-row2 .ensures) at row))
 
 pub meet-spec : {M : Type 1} → statement M
 meet-spec =

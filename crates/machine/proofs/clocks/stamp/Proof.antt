@@ -37,10 +37,14 @@ returns-2 c =
 
 copy-clock-requires : tie.Need-copy-clock-requires
 copy-clock-requires c κs =
-    let own = not-false (c .before .before .before .before .before .has-row .result) (c .before .before .before .before .if1 .left) in
-    let row = not-false (c .before .before .has-row2 .result) (c .before .if2 .left) in
-    let own-there = has-row→ _ _ (rw (c .before .before .before .before .before .has-row .ensures) at own) in
-    ((own-there .1, own-there .2), has-row→ _ _ (rw (c .before .before .has-row2 .ensures) at row))
+    let at-if2 = c .before in
+    let at-has-row2 = at-if2 .before in
+    let at-if1 = at-has-row2 .before .before in
+    let at-has-row = at-if1 .before in
+    let own = not-false (at-has-row .has-row .result) (at-if1 .if1 .left) in
+    let row = not-false (at-has-row2 .has-row2 .result) (at-if2 .if2 .left) in
+    let own-there = has-row→ _ _ (rw (at-has-row .has-row .ensures) at own) in
+    ((own-there .1, own-there .2), has-row→ _ _ (rw (at-has-row2 .has-row2 .ensures) at row))
 
 same-length-2 : tie.Need-same-length-2
 same-length-2 c = search needs
@@ -48,10 +52,15 @@ same-length-2 c = search needs
 returns-3 : tie.Need-returns-3
 unfolding stamped
 returns-3 c =
-    let own = not-false (c .before .before .before .before .before .before .before .before .has-row .result) (c .before .before .before .before .before .before .before .if1 .left) in
-    let row = not-false (c .before .before .before .before .before .has-row2 .result) (c .before .before .before .before .if2 .left) in
-    rw (c .before .before .copy-clock .ensures)
-    (both-on _ _ _ _ (rw (c .before .before .before .before .before .before .before .before .has-row .ensures, add-one) at own) (rw (c .before .before .before .before .before .has-row2 .ensures) at row))
+    let at-copy-clock = c .before .before in
+    let at-if2 = at-copy-clock .before .before in
+    let at-has-row2 = at-if2 .before in
+    let at-if1 = at-has-row2 .before .before in
+    let at-has-row = at-if1 .before in
+    let own = not-false (at-has-row .has-row .result) (at-if1 .if1 .left) in
+    let row = not-false (at-has-row2 .has-row2 .result) (at-if2 .if2 .left) in
+    rw (at-copy-clock .copy-clock .ensures)
+    (both-on _ _ _ _ (rw (at-has-row .has-row .ensures, add-one) at own) (rw (at-has-row2 .has-row2 .ensures) at row))
 
 pub stamp-spec : {M : Type 1} → statement M
 stamp-spec =

@@ -21,8 +21,10 @@ refuse-requires-2 c κs = search needs
 
 returns-2 : tie.Need-returns-2
 returns-2 c l =
+    let at-if2 = c .before in
+    let at-if1 = at-if2 .before .before in
     rw (c .refuse2 .ensures)
-    (stopped _ _ _ _ _ (rw (le-ltb _ _ (c .before .before .before .if1 .left), eq-eqb _ _ (c .before .if2 .taken)) refl) (λ is. omega arith))
+    (stopped _ _ _ _ _ (rw (le-ltb _ _ (at-if1 .if1 .left), eq-eqb _ _ (at-if2 .if2 .taken)) refl) (λ is. omega arith))
 
 clear-requires : tie.Need-clear-requires
 clear-requires c κs = search needs
@@ -39,8 +41,12 @@ same-length c = search needs
 returns-3 : tie.Need-returns-3
 unfolding crashW crashed
 returns-3 c l =
-    rw (c .pass .ensures, c .before .crash .ensures, c .before .before .before .before .clear .ensures)
-    (passes _ _ _ _ (rw (le-ltb _ _ (c .before .before .before .before .before .before .before .before .if1 .left), ne-eqb _ _ (c .before .before .before .before .before .before .if2 .left)) refl))
+    let at-crash = c .before in
+    let at-clear = at-crash .before .before .before in
+    let at-if2 = at-clear .before .before in
+    let at-if1 = at-if2 .before .before in
+    rw (c .pass .ensures, at-crash .crash .ensures, at-clear .clear .ensures)
+    (passes _ _ _ _ (rw (le-ltb _ _ (at-if1 .if1 .left), ne-eqb _ _ (at-if2 .if2 .left)) refl))
 
 pub crash-spec : {M : Type 1} → statement M
 crash-spec =

@@ -17,8 +17,13 @@ refuse-requires c κs = search needs
 
 returns : tie.Need-returns
 returns c l =
+    let at-thread-rule = c .before .before in
+    let entry = at-thread-rule .before .before in
+    let args = entry .args in
     rw (c .refuse .ensures)
-    (stopped _ _ _ _ _ (thread-stops (c .before .before .before .before .args .m .threads) (c .before .before .before .before .args .e) (c .before .before .before .before .args .t) _ _ (c .before .before .thread-rule .ensures) (λ is. omega arith)) (λ is. omega arith))
+    (stopped _ _ _ _ _
+    (thread-stops (args .m .threads) (args .e) (args .t) _ _ (at-thread-rule .thread-rule .ensures) (λ is. omega arith))
+    (λ is. omega arith))
 
 pass-requires : tie.Need-pass-requires
 pass-requires c κs = search needs
@@ -26,9 +31,16 @@ pass-requires c κs = search needs
 returns-2 : tie.Need-returns-2
 unfolding passW withRows
 returns-2 c l =
-    let first : c .before .before .before .thread-rule .result ≡ 0 = omega arith in
+    let at-if2 = c .before in
+    let at-if1 = at-if2 .before in
+    let at-thread-rule = at-if1 .before in
+    let entry = at-thread-rule .before .before in
+    let args = entry .args in
+    let first : at-thread-rule .thread-rule .result ≡ 0 = omega (arith, at-if1 .if1 .left) in
     rw (c .pass .ensures)
-    (passes _ _ _ _ (thread-passes (c .before .before .before .before .before .args .m .threads) (c .before .before .before .before .before .args .e) (c .before .before .before .before .before .args .t) _ _ (c .before .before .before .thread-rule .ensures) first ∙ rw (eq-eqb _ _ (c .before .if2 .taken)) refl))
+    (passes _ _ _ _
+    (thread-passes (args .m .threads) (args .e) (args .t) _ _ (at-thread-rule .thread-rule .ensures) first
+    ∙ rw (eq-eqb _ _ (at-if2 .if2 .taken)) refl))
 
 thread-of-requires : tie.Need-thread-of-requires
 thread-of-requires c κs = search needs
@@ -42,19 +54,35 @@ refuse-requires-2 c κs = search needs
 returns-3 : tie.Need-returns-3
 unfolding passW withRows
 returns-3 c l =
-    let first : c .before .before .before .before .before .before .thread-rule .result ≡ 0 = omega arith in
-    let empty = rw (c .before .before .before .thread-of .ensures) at (eq-eqb _ _ (c .before .if3 .taken)) in
+    let at-if3 = c .before in
+    let at-thread-of = at-if3 .before .before in
+    let at-if2 = at-thread-of .before in
+    let at-if1 = at-if2 .before in
+    let at-thread-rule = at-if1 .before in
+    let entry = at-thread-rule .before .before in
+    let args = entry .args in
+    let first : at-thread-rule .thread-rule .result ≡ 0 = omega (arith, at-if1 .if1 .left) in
+    let empty = rw (at-thread-of .thread-of .ensures) at (eq-eqb _ _ (at-if3 .if3 .taken)) in
     rw (c .pass2 .ensures)
     (passes _ _ _ _
-    (thread-passes (c .before .before .before .before .before .before .before .before .args .m .threads) (c .before .before .before .before .before .before .before .before .args .e) (c .before .before .before .before .before .before .before .before .args .t) _ _ (c .before .before .before .before .before .before .thread-rule .ensures) first ∙ rw (ne-eqb _ _ (c .before .before .before .before .if2 .left), empty) refl))
+    (thread-passes (args .m .threads) (args .e) (args .t) _ _ (at-thread-rule .thread-rule .ensures) first
+    ∙ rw (ne-eqb _ _ (at-if2 .if2 .left), empty) refl))
 
 returns-4 : tie.Need-returns-4
 returns-4 c l =
-    let first : c .before .before .before .before .before .before .thread-rule .result ≡ 0 = omega arith in
-    let waits = rw (c .before .before .before .thread-of .ensures) at (ne-eqb _ _ (c .before .if3 .left)) in
+    let at-if3 = c .before in
+    let at-thread-of = at-if3 .before .before in
+    let at-if2 = at-thread-of .before in
+    let at-if1 = at-if2 .before in
+    let at-thread-rule = at-if1 .before in
+    let entry = at-thread-rule .before .before in
+    let args = entry .args in
+    let first : at-thread-rule .thread-rule .result ≡ 0 = omega (arith, at-if1 .if1 .left) in
+    let waits = rw (at-thread-of .thread-of .ensures) at (ne-eqb _ _ (at-if3 .if3 .left)) in
     rw (c .refuse2 .ensures)
     (stopped _ _ _ _ _
-    (thread-passes (c .before .before .before .before .before .before .before .before .args .m .threads) (c .before .before .before .before .before .before .before .before .args .e) (c .before .before .before .before .before .before .before .before .args .t) _ _ (c .before .before .before .before .before .before .thread-rule .ensures) first ∙ rw (ne-eqb _ _ (c .before .before .before .before .if2 .left), waits) refl)
+    (thread-passes (args .m .threads) (args .e) (args .t) _ _ (at-thread-rule .thread-rule .ensures) first
+    ∙ rw (ne-eqb _ _ (at-if2 .if2 .left), waits) refl)
     (λ is. omega arith))
 
 pub fence-spec : {M : Type 1} → statement M

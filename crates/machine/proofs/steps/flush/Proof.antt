@@ -15,7 +15,9 @@ refuse-requires : tie.Need-refuse-requires
 refuse-requires c κs = search needs
 
 returns : tie.Need-returns
-returns c rows l = rw (c .refuse .ensures) (stopped _ _ _ _ _ (sym (c .before .before .place-rule .ensures)) (λ is. omega arith))
+returns c rows l =
+    rw (c .refuse .ensures)
+    (stopped _ _ _ _ _ (sym (c .before .before .place-rule .ensures)) (λ is. omega arith))
 
 pass-requires : tie.Need-pass-requires
 pass-requires c κs = search needs
