@@ -1,29 +1,26 @@
 -- Reading as numbers. Every kind but a begin has its fields in one order, so that its length says which it has; one
 -- clause for each kind. `scan-read`, `scan-refused`: what was scanned is what was read. Assumes nothing.
 use mathlib.Core.Path.{_≡_, refl, sym, ap, _∙_}
-use mathlib.Core.Bool.{Bool, true, false}
 use mathlib.Core.Logic.{_≢_}
-use mathlib.Core.List.{List}
-use Prim.Native.Nat.{ℕ, zero, suc, _+_, _≤_}
+use mathlib.Core.List.{List, []}
+use Prim.Native.Nat.{ℕ, _+_, _≤_}
 use native.Mathlib.Nat.{add-zero}
 use native.Mathlib.Omega.{arith}
-use lib.ListN.{length, drop, length-drop, List·getD-eq-default}
+use lib.ListN.{length, getD, drop, length-drop}
 use lib.Seq.{getD-drop}
-use lib.Dec.{eqb, lit≤}
-use borrow.Author.Tests.{ne-eqb}
-use Rattle.record.specs.Tests.{_gives_else_}
+use lib.Dec.{lit≤}
 use Rattle.record.specs.Bytes.{word}
 use Rattle.record.specs.Table.{kinds, rowOf, lengthOf}
 use Rattle.record.specs.Events.{kindOf}
 use Rattle.record.specs.Fields.{fieldsAt, eventOf, fieldsOf}
 use Rattle.record.specs.Answers.{Answer, refused, event}
 use Rattle.record.specs.Reading.{readAt}
-use Rattle.record.specs.Scanning.{scanOf, laterLength, laterFields}
+use Rattle.record.specs.Scanning.{notRead, scanOf, laterFields}
 use Rattle.record.specs.declared.events.Event.{Event}
 use Rattle.record.specs.declared.events.Fields.{Fields}
 use Rattle.record.specs.declared.scanning.Scan.{Scan}
 use Rattle.record.proofs.Frames.{clash, Framed, →read, Answers, an-event, a-refusal}
-use Rattle.record.proofs.Shapes.{each-kind, made, six-on, twelve-on}
+use Rattle.record.proofs.Shapes.{each-kind, made}
 use Rattle.record.proofs.Starts.{read-at-answers}
 
 -- ---- a record that is no begin
@@ -34,72 +31,55 @@ word-drop s at i =
     let next : at + (i + 1) ≡ at + i + 1 = omega arith in
     rw (getD-drop at s i 0, getD-drop at s (i + 1) 0, next)
 
--- a number that no arm of a match on the kinds 2 to 11 takes
-abbrev pub NoLater : ℕ → Type 0
-NoLater k =
-    (((((((((Unit {0} × (k ≡ 2 → ⊥)) × (k ≡ 3 → ⊥)) × (k ≡ 4 → ⊥)) × (k ≡ 5 → ⊥)) × (k ≡ 6 → ⊥)) × (k ≡ 7 → ⊥))
-    × (k ≡ 8 → ⊥)) × (k ≡ 9 → ⊥)) × (k ≡ 10 → ⊥)) × (k ≡ 11 → ⊥)
+-- the length in the row of the table at a kind's number, or in row 0 past the table, is the kind's
+pub length-row : (j k n : ℕ) → k ≡ j → n ≡ getD (getD kinds j (getD kinds 0 [])) 1 0 → n ≡ lengthOf k
+unfolding rowOf
+length-row j k n k-is n-is = rw k-is n-is
 
--- such a number has no length: it is 0, the begin's 1, or past the table
-pub none-later : (k : ℕ) → NoLater k → laterLength k ≡ 0
-unfolding laterLength rowOf
-none-later zero none = refl
-none-later (suc zero) none = refl
-none-later (suc (suc i)) ((((((((((u, n2), n3), n4), n5), n6), n7), n8), n9), n10), n11) =
-    let k = suc (suc i) in
-    let n0 : k ≡ 0 → ⊥ = λ (e : k ≡ 0). omega (arith, e) in
-    let n1 : k ≡ 1 → ⊥ = λ (e : k ≡ 1). omega (arith, e) in
-    let past = twelve-on k (six-on k n0 n1 n2 n3 n4 n5) n6 n7 n8 n9 n10 n11 in
-    rw (ne-eqb k 1 n1, List·getD-eq-default kinds _ past)
-
-length-known : (begin : Bool) (n : ℕ) → ((begin gives 0 else n) ≡ 0 → ⊥) → n ≡ 0 → ⊥
-length-known true n some none = some refl
-length-known false n some none = some none
-
--- a kind that has such a length: it is the table's, and the event's fields stand in the one order
+-- a kind of the table that is no begin: its event's fields stand in the one order
 record Later (s : List ℕ) (k : ℕ) : Type 0 where
-  pub length-is : laterLength k ≡ lengthOf k
-  pub enough : 2 ≤ laterLength k
-  pub most : laterLength k ≤ 8
-  pub fields-are : fieldsOf (eventOf k (fieldsAt s (rowOf k))) ≡ laterFields s (laterLength k)
+  pub enough : 2 ≤ lengthOf k
+  pub most : lengthOf k ≤ 8
+  pub fields-are : fieldsOf (eventOf k (fieldsAt s (rowOf k))) ≡ laterFields s (lengthOf k)
 
-later : (s : List ℕ) (k : ℕ) → (laterLength k ≡ 0 → ⊥) → Later s k
-unfolding rowOf eventOf laterLength
-later s k some =
-    let known = length-known (eqb k 1) (lengthOf k) some in
-    each-kind (λ (k : ℕ). (laterLength k ≡ 0 → ⊥) → Later s k)
-    (λ none. absurd (none refl))
-    (λ _. record { length-is = refl; enough = lit≤ tt; most = lit≤ tt; fields-are = refl })
-    (λ _. record { length-is = refl; enough = lit≤ tt; most = lit≤ tt; fields-are = refl })
-    (λ _. record { length-is = refl; enough = lit≤ tt; most = lit≤ tt; fields-are = refl })
-    (λ _. record { length-is = refl; enough = lit≤ tt; most = lit≤ tt; fields-are = refl })
-    (λ _. record { length-is = refl; enough = lit≤ tt; most = lit≤ tt; fields-are = refl })
-    (λ _. record { length-is = refl; enough = lit≤ tt; most = lit≤ tt; fields-are = refl })
-    (λ _. record { length-is = refl; enough = lit≤ tt; most = lit≤ tt; fields-are = refl })
-    (λ _. record { length-is = refl; enough = lit≤ tt; most = lit≤ tt; fields-are = refl })
-    (λ _. record { length-is = refl; enough = lit≤ tt; most = lit≤ tt; fields-are = refl })
-    (λ _. record { length-is = refl; enough = lit≤ tt; most = lit≤ tt; fields-are = refl })
-    k
-    known
-    some
+later : (s : List ℕ) (k : ℕ) → (lengthOf k ≡ 0 → ⊥) → k ≢ 1 → Later s k
+unfolding rowOf eventOf
+later s =
+    each-kind (λ (k : ℕ). k ≢ 1 → Later s k)
+    (λ no-begin. absurd (no-begin refl))
+    (λ _. record { enough = lit≤ tt; most = lit≤ tt; fields-are = refl })
+    (λ _. record { enough = lit≤ tt; most = lit≤ tt; fields-are = refl })
+    (λ _. record { enough = lit≤ tt; most = lit≤ tt; fields-are = refl })
+    (λ _. record { enough = lit≤ tt; most = lit≤ tt; fields-are = refl })
+    (λ _. record { enough = lit≤ tt; most = lit≤ tt; fields-are = refl })
+    (λ _. record { enough = lit≤ tt; most = lit≤ tt; fields-are = refl })
+    (λ _. record { enough = lit≤ tt; most = lit≤ tt; fields-are = refl })
+    (λ _. record { enough = lit≤ tt; most = lit≤ tt; fields-are = refl })
+    (λ _. record { enough = lit≤ tt; most = lit≤ tt; fields-are = refl })
+    (λ _. record { enough = lit≤ tt; most = lit≤ tt; fields-are = refl })
 
 -- a record with a kind's length, whose fields all end within the trace, is read, and its numbers stand there
 pub scan-later :
     (s : List ℕ) (at k n : ℕ) (f : Fields) → at + 10 ≤ length s → n ≡ word s at → k ≡ word s (at + 2)
-    → n ≡ laterLength k → (laterLength k ≡ 0 → ⊥) → f ≡ laterFields (drop at s) n
+    → n ≡ lengthOf k → n ≢ 0 → k ≢ 1 → f ≡ laterFields (drop at s) n
     → record { refusal = 0; kind = k; fields = f; next = at + n + 2 } ≡ scanOf (readAt s at)
 unfolding readAt
-scan-later s at k n f room n-is k-is fits some f-is =
+scan-later s at k n f room n-is k-is fits some no-begin f-is =
     let t = drop at s in
-    let l = later t k some in
+    let known : lengthOf k ≡ 0 → ⊥ = λ (none : lengthOf k ≡ 0). some (fits ∙ none) in
+    let l = later t k known no-begin in
     let length-at : word t 0 ≡ n = rw (word-drop s at 0, add-zero at) (sym n-is) in
     let kind-at : word t 2 ≡ k = word-drop s at 2 ∙ sym k-is in
-    let kind-is = made t k (λ (none : lengthOf k ≡ 0). some (l .length-is ∙ none)) .kind-is in
+    let kind-is = made t k known .kind-is in
     let inside : n + 2 ≤ length t = simp length-drop (omega arith) in
     let framed : Framed t (n + 2) = record { enough = omega arith; inside = inside; length-is = omega arith } in
     let read = →read t k (n + 2) framed kind-at (omega arith) in
     let past : at + n + 2 ≡ at + (n + 2) = omega arith in
     rw (read, kind-is, l .fields-are, ← fits, ← f-is, past)
+
+-- `notRead` has no kind: what a scan with a kind promises holds of it
+pub no-kind : (r w : Scan) → r ≡ notRead → r .kind ≢ 0 → r ≡ w
+no-kind r w none some = absurd (some (ap (λ (x : Scan). x .kind) none))
 
 -- ---- what was scanned is what was read
 

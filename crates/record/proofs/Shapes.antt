@@ -79,12 +79,12 @@ NoArm k =
     (((((((((Unit {0} × (k ≡ 1 → ⊥)) × (k ≡ 2 → ⊥)) × (k ≡ 3 → ⊥)) × (k ≡ 4 → ⊥)) × (k ≡ 5 → ⊥)) × (k ≡ 6 → ⊥))
     × (k ≡ 7 → ⊥)) × (k ≡ 8 → ⊥)) × (k ≡ 10 → ⊥)) × (k ≡ 11 → ⊥)
 
-pub six-on :
+six-on :
     (k : ℕ) → (k ≡ 0 → ⊥) → (k ≡ 1 → ⊥) → (k ≡ 2 → ⊥) → (k ≡ 3 → ⊥) → (k ≡ 4 → ⊥) → (k ≡ 5 → ⊥)
     → 6 ≤ k
 six-on k n0 n1 n2 n3 n4 n5 = omega arith
 
-pub twelve-on :
+twelve-on :
     (k : ℕ) → 6 ≤ k → (k ≡ 6 → ⊥) → (k ≡ 7 → ⊥) → (k ≡ 8 → ⊥) → (k ≡ 9 → ⊥) → (k ≡ 10 → ⊥) → (k ≡ 11 → ⊥)
     → 12 ≤ k
 twelve-on k from-six n6 n7 n8 n9 n10 n11 = omega arith

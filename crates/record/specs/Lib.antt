@@ -1,6 +1,6 @@
 -- What a reader has to believe of this crate, in document 01's order: Bytes, Table, Events, Fields, Answers, Reading,
--- Scanning, Writing and Parts. Of these `putWord`, `RowFits`, `putField`, `putFields`, `laterLength`, `laterField` and
--- `laterFields` serve the private functions' contracts only.
+-- Scanning, Writing and Parts. Of these `putWord`, `RowFits`, `putField`, `putFields`, `laterField` and `laterFields`
+-- serve the private functions' contracts only.
 pub mod Tests
 pub mod Bytes
 pub mod Table
