@@ -1,8 +1,8 @@
 -- Cells read back: a store leaves its value in its own cell and every other cell as it was, whatever the rows and
 -- columns, and keeps the length. Assumes nothing.
-use mathlib.Core.Path.{_≡_, refl}
+use mathlib.Core.Path.{_≡_, refl, ap, _∙_}
 use mathlib.Core.Bool.{Bool, true, false, cond}
-use mathlib.Core.List.{List}
+use mathlib.Core.List.{List, [], _∷_}
 use Prim.Native.Nat.{ℕ, zero, suc, _+_, _-_, _*_, _≤_, _<_}
 use native.Mathlib.Omega.{arith}
 use borrow.Author.Tests.{eqb-false, ne-eqb, ltb-false, lt-ltb, le-ltb, leb-true, le-leb}
@@ -10,7 +10,7 @@ use lib.Dec.{eqb, leb, ltb}
 use lib.ListN.{length, set, getD, replicate, length-set}
 use lib.Seq.{getD-set-same, getD-set-other}
 use Rattle.model.proofs.Searching.{false-true}
-use Rattle.area.specs.Cells.{getRow, putRow, hasRow, cell, putCell}
+use Rattle.area.specs.Cells.{getRow, putRow, hasRow}
 
 pub length-put : (l : List ℕ) (e k v : ℕ) → length (putRow l e k v) ≡ length l
 unfolding putRow
@@ -72,19 +72,69 @@ put-other l e k v e′ k′ differ =
         let narrow′ = ltb-false 15 k′ q′ in
         differ (omega arith) (omega arith))
 
+set-back : (l : List ℕ) (i : ℕ) → set l i (getD l i 0) ≡ l
+set-back [] i = refl
+set-back (x ∷ xs) zero = refl
+set-back (x ∷ xs) (suc i) = ap (λ (r : List ℕ). x ∷ r) (set-back xs i)
+
+-- a number that is stored where it stands
+pub put-back : (l : List ℕ) (e k : ℕ) → putRow l e k (getRow l e k) ≡ l
+unfolding getRow putRow
+put-back l e k = by-tests (eqb e 0) (ltb 2048 e) (ltb 15 k)
+  where
+    there : ℕ
+    there = 16 * (e - 1) + k
+
+    by-tests :
+        (none high wide : Bool)
+        → cond none l (cond high l (cond wide l
+        (set l there (cond none 0 (cond high 0 (cond wide 0 (getD l there 0))))))) ≡ l
+    by-tests true high wide = refl
+    by-tests false true wide = refl
+    by-tests false false true = refl
+    by-tests false false false = set-back l there
+
 -- there is no row 0
 pub row-zero : (l : List ℕ) (k : ℕ) → getRow l 0 k ≡ 0
 unfolding getRow
 row-zero l k = refl
 
--- there is no slot from 2,048 on
-pub no-slot : (l : List ℕ) (i : ℕ) → 2048 ≤ i → cell l i ≡ 0
-unfolding getRow
-no-slot l i past = rw (ne-eqb (suc i) 0 (λ z. omega arith), lt-ltb 2048 (suc i) (omega arith))
-
-pub put-no-slot : (l : List ℕ) (i v : ℕ) → 2048 ≤ i → putCell l i v ≡ l
+pub put-row-zero : (l : List ℕ) (k v : ℕ) → putRow l 0 k v ≡ l
 unfolding putRow
-put-no-slot l i v past = rw (ne-eqb (suc i) 0 (λ z. omega arith), lt-ltb 2048 (suc i) (omega arith))
+put-row-zero l k v = refl
+
+-- the row with i rows before it: there is none from 2,048 on, and none has a column from 16 on
+module _ (l : List ℕ) (i k : ℕ) where
+  pub no-row : 2048 ≤ i → getRow l (suc i) k ≡ 0
+  unfolding getRow
+  no-row past = rw (ne-eqb (suc i) 0 (λ z. omega arith), lt-ltb 2048 (suc i) (omega arith))
+
+  pub put-no-row : (v : ℕ) → 2048 ≤ i → putRow l (suc i) k v ≡ l
+  unfolding putRow
+  put-no-row v past = rw (ne-eqb (suc i) 0 (λ z. omega arith), lt-ltb 2048 (suc i) (omega arith))
+
+  module _ (there : i < 2048) where
+    pub no-column : 15 < k → getRow l (suc i) k ≡ 0
+    unfolding getRow
+    no-column past =
+        rw (ne-eqb (suc i) 0 (λ z. omega arith), le-ltb 2048 (suc i) (omega arith), lt-ltb 15 k past)
+
+    pub put-no-column : (v : ℕ) → 15 < k → putRow l (suc i) k v ≡ l
+    unfolding putRow
+    put-no-column v past =
+        rw (ne-eqb (suc i) 0 (λ z. omega arith), le-ltb 2048 (suc i) (omega arith), lt-ltb 15 k past)
+
+    module _ (column : k ≤ 15) where
+      same-place : 16 * (suc i - 1) + k ≡ 16 * i + k
+      same-place = omega arith
+
+      pub nth-there : getRow l (suc i) k ≡ getD l (16 * i + k) 0
+      nth-there =
+          get-there l (suc i) k (omega arith) (omega arith) (omega arith) ∙ ap (λ (j : ℕ). getD l j 0) same-place
+
+      pub put-nth-there : (v : ℕ) → putRow l (suc i) k v ≡ set l (16 * i + k) v
+      put-nth-there v =
+          put-there l (suc i) k v (omega arith) (omega arith) (omega arith) ∙ ap (λ (j : ℕ). set l j v) same-place
 
 -- what `hasRow` says, and what it needs
 pub has-row→ : (l : List ℕ) (e : ℕ) → hasRow l e ≡ true → (1 ≤ e) × (e ≤ 2048) × (16 * e ≤ length l)

@@ -1,5 +1,5 @@
 -- Rows of 16 numbers, one for each event from 1 to 2,048; and column 13 as a list of cells. Reads and stores are total.
-use Prim.Native.Nat.{ℕ, suc, _+_, _-_, _*_, min}
+use Prim.Native.Nat.{ℕ, suc, _+_, _-_, _*_}
 use mathlib.Core.Bool.{Bool, false, cond}
 use mathlib.Core.List.{List}
 use lib.ListN.{length, getD, set}
@@ -28,6 +28,6 @@ cell l i = getRow l (suc i) 13
 abbrev pub putCell : List ℕ → ℕ → ℕ → List ℕ
 putCell l i v = putRow l (suc i) 13 v
 
--- one more, and at most 65,535
+-- one more, and 0 after 65,535
 unfoldable pub up : ℕ → ℕ
-up x = min (x + 1) 65535
+up x = cond (ltb x 65535) (x + 1) 0

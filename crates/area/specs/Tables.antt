@@ -15,7 +15,7 @@ cutSlot j t = 248 + (8 * j + t)
 abbrev pub lowSlot : ℕ → ℕ → ℕ
 lowSlot j t = 304 + (8 * j + t)
 
--- the commits of thread t in stretch j, 1 to 8: slots 368 to 431
+-- the commits of thread t in stretch j, 1 to 7, once a crash has finished it: slots 368 to 423
 abbrev pub commitsSlot : ℕ → ℕ → ℕ
 commitsSlot j t = 360 + (8 * j + t)
 

@@ -47,91 +47,85 @@ pub fn has_row(numbers: &[u16], e: usize) -> bool
     16 * e <= numbers.len()
 }
 
-// Column k of row e.
-fn at_get(work: &[u16], e: usize, k: usize) -> u16
-    ensures { λ r. ⌜ r ≡ getRow (now (work .entry)) e k ⌝ }
+// Column k of row i + 1, the row with i rows before it.
+fn nth_get(numbers: &[u16], i: usize, k: usize) -> u16
+    ensures { λ r. ⌜ r ≡ getRow (now (numbers .entry)) (suc i) k ⌝ }
 {
-    if e == 0 {
-        return 0;
-    }
-    if 2048 < e {
+    if 2048 <= i {
         return 0;
     }
     if 15 < k {
         return 0;
     }
-    get(work, 16 * (e - 1) + k)
+    get(numbers, 16 * i + k)
 }
 
-fn at_put(work: &mut [u16], e: usize, k: usize, v: u16)
-    ensures { λ _. ⌜ now (work .exit) ≡ putRow (now (work .entry)) e k v ⌝ }
+fn nth_put(numbers: &mut [u16], i: usize, k: usize, v: u16)
+    ensures { λ _. ⌜ now (numbers .exit) ≡ putRow (now (numbers .entry)) (suc i) k v ⌝ }
 {
-    if e == 0 {
-        return;
-    }
-    if 2048 < e {
+    if 2048 <= i {
         return;
     }
     if 15 < k {
         return;
     }
-    put(work, 16 * (e - 1) + k, v);
+    put(numbers, 16 * i + k, v);
 }
 
 // Column k of event e's row.
 pub fn row_get(work: &[u16], e: u16, k: u16) -> u16
     ensures { λ r. ⌜ r ≡ getRow (now (work .entry)) e k ⌝ }
 {
-    at_get(work, e as usize, k as usize)
+    if e == 0 {
+        return 0;
+    }
+    nth_get(work, (e as usize) - 1, k as usize)
 }
 
 pub fn row_put(work: &mut [u16], e: u16, k: u16, v: u16)
     ensures { λ _. ⌜ now (work .exit) ≡ putRow (now (work .entry)) e k v ⌝ }
 {
-    at_put(work, e as usize, k as usize, v);
+    if e == 0 {
+        return;
+    }
+    nth_put(work, (e as usize) - 1, k as usize, v);
 }
 
 // Slot i of the tables, the cells of column 13; module `slots` numbers them.
 pub fn slot_get(work: &[u16], i: usize) -> u16
     ensures { λ r. ⌜ r ≡ cell (now (work .entry)) i ⌝ }
 {
-    if 2048 <= i {
-        return 0;
-    }
-    at_get(work, i + 1, 13)
+    nth_get(work, i, 13)
 }
 
 pub fn slot_put(work: &mut [u16], i: usize, v: u16)
     ensures { λ _. ⌜ now (work .exit) ≡ putCell (now (work .entry)) i v ⌝ }
 {
-    if 2048 <= i {
-        return;
-    }
-    at_put(work, i + 1, 13, v);
+    nth_put(work, i, 13, v);
 }
 
 // The newest store of thread t at location x, in column 15.
 pub fn newest_get(work: &[u16], x: u16, t: u16) -> u16
     ensures { λ r. ⌜ r ≡ getRow (now (work .entry)) (newestRow x t) 15 ⌝ }
 {
-    at_get(work, 1 + 8 * (x as usize) + (t as usize), 15)
+    nth_get(work, 8 * (x as usize) + (t as usize), 15)
 }
 
 pub fn newest_put(work: &mut [u16], x: u16, t: u16, v: u16)
     ensures { λ _. ⌜ now (work .exit) ≡ putRow (now (work .entry)) (newestRow x t) 15 v ⌝ }
 {
-    at_put(work, 1 + 8 * (x as usize) + (t as usize), 15, v);
+    nth_put(work, 8 * (x as usize) + (t as usize), 15, v);
 }
 
 // Column k of thread t's row: in a list of such rows alone, thread 0's is the first.
 pub fn thread_get(rows: &[u16], t: u16, k: u16) -> u16
     ensures { λ r. ⌜ r ≡ getRow (now (rows .entry)) (suc t) k ⌝ }
 {
-    at_get(rows, (t as usize) + 1, k as usize)
+    nth_get(rows, t as usize, k as usize)
 }
 
 pub fn thread_put(rows: &mut [u16], t: u16, k: u16, v: u16)
     ensures { λ _. ⌜ now (rows .exit) ≡ putRow (now (rows .entry)) (suc t) k v ⌝ }
 {
-    at_put(rows, (t as usize) + 1, k as usize, v);
+    nth_put(rows, t as usize, k as usize, v);
 }

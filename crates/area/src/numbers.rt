@@ -3,11 +3,11 @@ ghost use mathlib.Core.Path.{_≡_};
 ghost use Prim.Native.Nat.{max};
 ghost use Rattle.area.specs.Cells.{up};
 
-// One more, and at most 65,535.
+// One more, and 0 after 65,535: the compiler makes one addition of it.
 pub fn next_number(x: u16) -> u16
     ensures { λ r. ⌜ r ≡ up x ⌝ }
 {
-    if x < 65535 { x + 1 } else { x }
+    if x < 65535 { x + 1 } else { 0 }
 }
 
 pub fn larger(a: u16, b: u16) -> u16

@@ -24,7 +24,7 @@ pub fn low(j: u16, t: u16) -> usize
     304 + (8 * (j as usize) + (t as usize))
 }
 
-// The commits of thread t in stretch j.
+// The commits of thread t in stretch j, once it is finished.
 pub fn commits(j: u16, t: u16) -> usize
     ensures { λ r. ⌜ r ≡ commitsSlot j t ⌝ }
 {

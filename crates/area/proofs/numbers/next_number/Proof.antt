@@ -1,5 +1,6 @@
--- Both answers are the smaller of the two. Assumes nothing.
-use native.Mathlib.Omega.{arith}
+-- The definition's test. Assumes nothing.
+use mathlib.Core.Path.{refl}
+use borrow.Author.Tests.{lt-ltb, le-ltb}
 use Rattle.area.specs.Cells.{up}
 use borrow.Author.Needs.{needs}
 use Rattle.area.proofs.numbers.next_number.Statement.{statement}
@@ -10,11 +11,11 @@ add-result c = search needs
 
 returns : tie.Need-returns
 unfolding up
-returns c = omega arith
+returns c = rw (lt-ltb _ _ (c .if1 .taken)) refl
 
 returns-2 : tie.Need-returns-2
 unfolding up
-returns-2 c = omega arith
+returns-2 c = rw (le-ltb _ _ (c .if1 .left)) refl
 
 pub next-number-spec : {M : Type 1} → statement M
 next-number-spec = tie.close (tie.spec add-result returns returns-2)
