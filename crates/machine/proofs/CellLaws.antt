@@ -7,6 +7,7 @@ use mathlib.Core.List.{List}
 use mathlib.Core.Logic.{_⊎_, inl, inr, _≢_}
 use Prim.Native.Nat.{ℕ, zero, suc, _*_, _≤_, _<_, max}
 use native.Mathlib.Omega.{arith}
+use borrow.Author.Tests.{lt-ltb}
 use lib.Dec.{eqb}
 use lib.ListN.{length, replicate}
 use Rattle.record.specs.Tests.{_gives_else_}
@@ -20,7 +21,7 @@ use Rattle.machine.specs.Effects.{clocked, stamped, joined, met}
 
 pub up-is : (x : ℕ) → x ≤ 2049 → up x ≡ suc x
 unfolding up
-up-is x small = omega arith
+up-is x small = rw (lt-ltb x 65535 (omega arith)) (omega arith)
 
 -- ---- one store
 

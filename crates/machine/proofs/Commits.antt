@@ -1,7 +1,7 @@
 -- Commits keep `Sim`: the thread's oldest waiting store, `taken`, takes effect. It becomes the head of its location's
 -- chain, in which it was not, and the thread's commits of the stretch grow by one; the next store of the thread is then
 -- the oldest.
--- In order: the store; the thread; the work area; the chains and the commits; the step.
+-- In order: the store; the thread; the work area; the chains and the rows; the step.
 use mathlib.Core.Path.{_≡_, refl, sym, ap, _∙_}
 use mathlib.Core.Bool.{true, false}
 use mathlib.Core.List.{List}
@@ -12,18 +12,18 @@ use borrow.Author.Tests.{eqb-true, ne-eqb}
 use Rattle.record.specs.declared.events.Event.{Event}
 use Rattle.record.specs.Table.{rowOf}
 use Rattle.model.specs.Trace.{kind, thread, location, is, issue?, commit?, crash?, Issue, Commit, hasLocation?}
-use Rattle.model.specs.Trace.{stretch, commits, place}
+use Rattle.model.specs.Trace.{stretch, place}
 use Rattle.model.specs.Machine.{committed}
 use Rattle.model.specs.Rules.{refusal, Accepted}
 use Rattle.model.specs.Stores.{storeAt, landed}
 use Rattle.model.proofs.Searching.{false-true, same?}
-use Rattle.model.proofs.Counting.{stretch-else, count-it}
+use Rattle.model.proofs.Counting.{stretch-else}
 use Rattle.model.proofs.Roles.{commit-no-crash}
 use Rattle.model.proofs.Acceptance.{store-not-0}
 use Rattle.model.proofs.Limits.{accepted-next, location-below}
-use Rattle.model.proofs.StorePlaces.{count-most, stretch-some, Store, its-place, committed-at, committed-store}
-use Rattle.model.proofs.Unchanged.{count-away, live-away, live-here, store-at-away, skipping-away, landed-away}
-use Rattle.model.proofs.Unchanged.{landed-here, landed-once}
+use Rattle.model.proofs.StorePlaces.{count-most, Store, its-place, committed-at, committed-store}
+use Rattle.model.proofs.Unchanged.{live-away, live-here, store-at-away, skipping-away, landed-away, landed-here}
+use Rattle.model.proofs.Unchanged.{landed-once}
 use Rattle.area.specs.Cells.{getRow, cell, up}
 use Rattle.area.specs.Tables.{lastSlot, commitsSlot}
 use Rattle.area.specs.Rows.{Linked, Rows}
@@ -34,9 +34,9 @@ use Rattle.machine.specs.Effects.{committedWork, commitW}
 use Rattle.machine.specs.Sim.{issued, done, Queue, Sim}
 use Rattle.machine.proofs.CellLaws.{up-is, committed-replaced}
 use Rattle.machine.proofs.CommittedRows.{committed-size, committed-column, committed-slot}
-use Rattle.machine.proofs.CommittedRows.{committed-link-other, committed-link, committed-head, committed-count}
+use Rattle.machine.proofs.CommittedRows.{committed-link-other, committed-link, committed-head}
 use Rattle.machine.proofs.Keep.{linked-but, limits-next, in-time, rows-numbers, queues-with}
-use Rattle.machine.proofs.Keep.{seen-with, stores-keep, others-keep, links-keep, newest-keep}
+use Rattle.machine.proofs.Keep.{seen-with, stores-keep, others-keep, commits-keep, links-keep, newest-keep}
 
 module _ (ev : ℕ → Event) (n : ℕ) (w : World) (sim : Sim ev n w) (passes : refusal ev n ≡ 0)
     (is-commit : Commit ev n) (few : thread ev n < 8) where
@@ -76,9 +76,6 @@ module _ (ev : ℕ → Event) (n : ℕ) (w : World) (sim : Sim ev n w) (passes :
       let has : hasLocation? ev taken ≡ true = rw is-issue refl in
       let below = location-below ev (suc n) accepted taken (omega (arith, taken-store .early)) has in
       omega (arith, sim .limits .few-locations)
-
-  j-small : j ≤ 8
-  j-small = sim .limits .few-crashes
 
   -- ---- the thread
 
@@ -126,55 +123,32 @@ module _ (ev : ℕ → Event) (n : ℕ) (w : World) (sim : Sim ev n w) (passes :
   abbrev link : ℕ
   link = cell l (lastSlot x)
 
-  abbrev count-now : ℕ
-  count-now = suc (done ev n t)
-
   abbrev after : List ℕ
-  after = committedWork l taken x link j t count-now
+  after = committedWork l taken x link
 
   column-stays : (p k : ℕ) → k ≢ 13 → k ≢ 14 → getRow after p k ≡ getRow l p k
-  column-stays = committed-column l taken x link j t count-now
+  column-stays = committed-column l taken x link
 
-  slot-stays : (i : ℕ) → commitsSlot j t ≢ i → lastSlot x ≢ i → cell after i ≡ cell l i
-  slot-stays = committed-slot l taken x link j t count-now
+  slot-stays : (i : ℕ) → lastSlot x ≢ i → cell after i ≡ cell l i
+  slot-stays = committed-slot l taken x link
 
-  -- ---- the chains and the commits
+  -- ---- the chains and the rows
 
   -- the chain of a location as it was
   chain-stays : (y : ℕ) → y < 256 → Linked after (cell l (lastSlot y)) (landed ev n y)
   chain-stays y small =
-      linked-but ev l after taken (committed-link-other l taken x link j t count-now) (cell l (lastSlot y))
+      linked-but ev l after taken (committed-link-other l taken x link) (cell l (lastSlot y))
       (landed ev n y) (landed-once ev (suc n) n accepted (omega arith) is-commit n y (omega arith))
       (sim .rows .chains y small)
 
   chains-next : (y : ℕ) → y < 256 → (x ≡ y) ⊎ (x ≢ y) → Linked after (cell after (lastSlot y)) (landed ev (suc n) y)
   chains-next y small (inl own) =
-      let not-commits : commitsSlot j t ≢ lastSlot x = λ same. omega (arith, stretch-some ev n, x-small) in
-      let head = committed-head l taken x link j t count-now (sim .rows .room) x-small not-commits in
-      let before = committed-link l taken x link j t count-now (sim .rows .room) taken-some taken-small in
+      let head = committed-head l taken x link (sim .rows .room) x-small in
+      let before = committed-link l taken x link (sim .rows .room) taken-some taken-small in
       rw (← own, landed-here ev n is-commit, head) (refl, rw before (chain-stays x x-small))
   chains-next y small (inr other) =
-      rw (
-        landed-away ev n y (λ _ same. other same),
-        slot-stays (lastSlot y) (λ same. omega (arith, stretch-some ev n)) (λ same. other same),
-      )
+      rw (landed-away ev n y (λ _ same. other same), slot-stays (lastSlot y) (λ same. other same))
       (chain-stays y small)
-
-  counts-next :
-      (k u : ℕ) → 1 ≤ k → k ≤ 8 → u < 8 → (j ≡ k) ⊎ (j ≢ k) → (t ≡ u) ⊎ (t ≢ u)
-      → cell after (commitsSlot k u) ≡ commits ev (suc n) k u
-  counts-next k u from-one to-eight few-u (inl same-j) (inl same-t) =
-      rw (← same-j, ← same-t)
-      (committed-count l taken x link j t count-now (sim .rows .room) (omega (arith, j-small))
-      ∙ sym (count-it ev (commit? ev) n j t (is-commit .test) refl refl))
-  counts-next k u from-one to-eight few-u (inl same-j) (inr other) =
-      slot-stays (commitsSlot k u) (λ same. other (omega (arith, few))) (λ same. omega (arith, x-small))
-      ∙ sim .rows .commits-are k u from-one to-eight few-u
-      ∙ sym (count-away ev (commit? ev) n k u (λ _ _ same. other same))
-  counts-next k u from-one to-eight few-u (inr other) either =
-      slot-stays (commitsSlot k u) (λ same. other (omega (arith, few))) (λ same. omega (arith, x-small))
-      ∙ sim .rows .commits-are k u from-one to-eight few-u
-      ∙ sym (count-away ev (commit? ev) n k u (λ _ same _. other same))
 
   rows-next : Rows ev (suc n) after
   rows-next =
@@ -182,28 +156,29 @@ module _ (ev : ℕ → Event) (n : ℕ) (w : World) (sim : Sim ev n w) (passes :
       λ p k less. column-stays p k (λ is-13. omega arith) (λ is-14. omega arith)
       in
       record {
-        room = rw (committed-size l taken x link j t count-now) (sim .rows .room);
+        room = rw (committed-size l taken x link) (sim .rows .room);
         stores = stores-keep ev n l after no-issue low (sim .rows);
         others = others-keep ev n l after low (sim .rows);
         chains = λ y small. chains-next y small (same? x y);
-        commits-are = λ k u from-one to-eight few-u. counts-next k u from-one to-eight few-u (same? j k) (same? t u);
+        commits-are =
+            commits-keep ev n l after no-crash
+            (λ k u from-one _ _. slot-stays (commitsSlot k u) (λ same. omega (arith, x-small))) (sim .rows);
       }
 
   -- ---- the step
 
   with-values :
-      (p y was i c next : ℕ) → p ≡ taken → y ≡ x → was ≡ link → i ≡ j → c ≡ count-now
-      → next ≡ storeAt ev n j t (suc (done ev n t))
+      (p y was next : ℕ) → p ≡ taken → y ≡ x → was ≡ link → next ≡ storeAt ev n j t (suc (done ev n t))
       → Sim ev (suc n)
       (world (withRows (w .state) (putCommitted (w .state .rows) t (committedT (threadAt (w .state) t) next)))
-      (committedWork l p y was i t c))
-  with-values p y was i c next p-is y-is was-is i-is c-is next-is =
+      (committedWork l p y was))
+  with-values p y was next p-is y-is was-is next-is =
       let is-3 = kind-is in
       let no-load = ne-eqb (kind ev n) 4 (λ is-4. omega arith) in
       let new = committedT (threadAt (w .state) t) next in
       let rows = putCommitted (w .state .rows) t new in
       let replaced = committed-replaced (w .state .rows) t (sim .numbers .eight) few next in
-      rw (p-is, y-is, was-is, i-is, c-is)
+      rw (p-is, y-is, was-is)
       (record {
         numbers =
             rows-numbers ev n (w .state) rows (sim .numbers) (in-time ev n (sim .limits) passes) no-crash
@@ -226,7 +201,6 @@ module _ (ev : ℕ → Event) (n : ℕ) (w : World) (sim : Sim ev n w) (passes :
   record Values : Type 0 where
     oldest-is : threadAt (w .state) t .oldest ≡ taken
     location-is : getRow l (threadAt (w .state) t .oldest) 9 ≡ x
-    count-is : up (threadAt (w .state) t .committed) ≡ count-now
     next-is : getRow l (threadAt (w .state) t .oldest) 11 ≡ storeAt ev n j t (suc (done ev n t))
 
   values : Values
@@ -238,7 +212,6 @@ module _ (ev : ℕ → Event) (n : ℕ) (w : World) (sim : Sim ev n w) (passes :
       record {
         oldest-is = is-taken;
         location-is = rw is-taken (row .location-is);
-        count-is = counted-up (threadAt (w .state) t) queue;
         next-is =
             rw is-taken
             (sim .links .next-is taken (taken-store .early) (taken-store .store)
@@ -257,6 +230,5 @@ module _ (ev : ℕ → Event) (n : ℕ) (w : World) (sim : Sim ev n w) (passes :
   pub commit-next : Sim ev (suc n) (commitW w t)
   unfolding commitW
   commit-next =
-      with-values (threadAt (w .state) t .oldest) _ _ (w .state .stretch) _ _ (values .oldest-is)
-      (values .location-is) (ap (λ (y : ℕ). cell l (lastSlot y)) (values .location-is)) (sim .numbers .stretch-is)
-      (values .count-is) (values .next-is)
+      with-values (threadAt (w .state) t .oldest) _ _ _ (values .oldest-is) (values .location-is)
+      (ap (λ (y : ℕ). cell l (lastSlot y)) (values .location-is)) (values .next-is)

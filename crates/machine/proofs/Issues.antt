@@ -186,7 +186,7 @@ module _ (ev : ℕ → Event) (n : ℕ) (w : World) (sim : Sim ev n w) (passes :
     stores = λ p early is-store. own-or-other p early is-store (same? p n);
     others = λ p none. no-row p none (same? p n);
     chains = chains-keep ev n l after no-commit links-stay (λ y _. slots-stay (lastSlot y)) (sim .rows);
-    commits-are = commits-keep ev n l after no-commit (λ k u _ _ _. slots-stay (commitsSlot k u)) (sim .rows);
+    commits-are = commits-keep ev n l after no-crash (λ k u _ _ _. slots-stay (commitsSlot k u)) (sim .rows);
   }
     where
       links-stay : (p : ℕ) → getRow after p 14 ≡ getRow l p 14

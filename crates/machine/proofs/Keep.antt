@@ -230,13 +230,23 @@ module _ (ev : ℕ → Event) (n : ℕ) where
         rw (landed-away ev n x (λ commits _. false-true (sym no-commit ∙ commits .test)), heads x few)
         (linked-same l l′ links (cell l (lastSlot x)) (landed ev n x) (rows .chains x few))
 
+    -- the commits of a stretch that was finished before the event
+    pub commits-kept :
+        (j t : ℕ) → 1 ≤ j → j ≤ 7 → j < stretch ev n → t < 8 → cell l′ (commitsSlot j t) ≡ cell l (commitsSlot j t)
+        → Rows ev n l → cell l′ (commitsSlot j t) ≡ commits ev (suc n) j t
+    commits-kept j t from-one to-seven finished few same rows =
+        same ∙ rows .commits-are j t from-one to-seven finished few
+        ∙ sym (count-away ev (commit? ev) n j t (λ _ in-j _. omega arith))
+
+    -- an event that is no crash finishes no stretch
     pub commits-keep :
-        commit? ev n ≡ false
-        → ((j t : ℕ) → 1 ≤ j → j ≤ 8 → t < 8 → cell l′ (commitsSlot j t) ≡ cell l (commitsSlot j t)) → Rows ev n l
-        → (j t : ℕ) → 1 ≤ j → j ≤ 8 → t < 8 → cell l′ (commitsSlot j t) ≡ commits ev (suc n) j t
-    commits-keep no-commit same rows j t from-one to-eight few =
-        same j t from-one to-eight few ∙ rows .commits-are j t from-one to-eight few
-        ∙ sym (count-away ev (commit? ev) n j t (λ commits _ _. false-true (sym no-commit ∙ commits)))
+        crash? ev n ≡ false
+        → ((j t : ℕ) → 1 ≤ j → j ≤ 7 → t < 8 → cell l′ (commitsSlot j t) ≡ cell l (commitsSlot j t)) → Rows ev n l
+        → (j t : ℕ) → 1 ≤ j → j ≤ 7 → j < stretch ev (suc n) → t < 8
+        → cell l′ (commitsSlot j t) ≡ commits ev (suc n) j t
+    commits-keep no-crash same rows j t from-one to-seven finished few =
+        commits-kept j t from-one to-seven (omega (arith, stretch-else ev n no-crash)) few
+        (same j t from-one to-seven few) rows
 
     -- ---- links and newest stores
 
@@ -265,15 +275,15 @@ module _ (ev : ℕ → Event) (n : ℕ) where
         same (newestRow x t) ∙ newest-are x t few-x few-t
         ∙ sym (newest-away ev n x t (λ store _ _. false-true (sym no-issue ∙ store .test)))
 
-  -- an event that is neither issue nor commit leaves the work area
+  -- an event that is neither issue nor commit nor crash leaves the work area
   module _ (l : List ℕ) (no-issue : issue? ev n ≡ false) where
-    pub rows-keep : commit? ev n ≡ false → Rows ev n l → Rows ev (suc n) l
-    rows-keep no-commit rows = record {
+    pub rows-keep : commit? ev n ≡ false → crash? ev n ≡ false → Rows ev n l → Rows ev (suc n) l
+    rows-keep no-commit no-crash rows = record {
       room = rows .room;
       stores = stores-keep l l no-issue (λ p k _. refl) rows;
       others = others-keep l l (λ p k _. refl) rows;
       chains = chains-keep l l no-commit (λ q. refl) (λ x _. refl) rows;
-      commits-are = commits-keep l l no-commit (λ j t _ _ _. refl) rows;
+      commits-are = commits-keep l l no-crash (λ j t _ _ _. refl) rows;
     }
 
     pub links-same : Links ev n l → Links ev (suc n) l

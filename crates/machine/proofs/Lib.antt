@@ -1,10 +1,10 @@
--- What the functions' proofs cite: which arm a match takes (ArmLaws), one rule after the other (RuleLaws), the load rule
--- (Loading), one turn of each loop (Loops), the long bodies (Bodies). Then that the machine's state follows the
--- definitions: what is read after a step (CellLaws, CommittedRows, IssuedRows), what an event leaves (Keep), the load
--- rule (Searches), and one kind at a time (Quiet, Loads, Commits, Issues). The theorems that others cite: `refusals`,
--- `begin-refusals` (Refusals), `step-next`, `counts-is` (Simulation), `refusal-told`, `counted-told`, `after-told`,
--- `counted-stays` (Taken), `sim-start` (Start), `step-leaves`, `sim-but-judging` (Frames), `store-is`, `order-is`
--- (Standings).
+-- What the functions' proofs cite: which arm a match takes (ArmLaws), one rule after the other (RuleLaws), the load
+-- rule (Loading), one turn of each loop (Loops), the long bodies (Bodies). Then that the machine's state follows the
+-- definitions: what is read after a step (CellLaws, CommittedRows, FinishedRows, IssuedRows), what an event leaves
+-- (Keep), the load rule (Searches), and one kind at a time (Quiet, Loads, Commits, Issues). The theorems that others
+-- cite: `refusals`, `begin-refusals` (Refusals), `step-next`, `counts-is` (Simulation), `refusal-told`, `counted-told`,
+-- `after-told`, `counted-stays` (Taken), `sim-start` (Start), `step-leaves`, `sim-but-judging` (Frames), `store-is`,
+-- `order-is` (Standings).
 pub mod ArmLaws
 pub mod RuleLaws
 pub mod Loading
@@ -12,6 +12,7 @@ pub mod Loops
 pub mod Bodies
 pub mod CellLaws
 pub mod CommittedRows
+pub mod FinishedRows
 pub mod IssuedRows
 pub mod Keep
 pub mod Searches

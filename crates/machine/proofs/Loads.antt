@@ -1,35 +1,36 @@
--- Loads keep `Sim`: a load from a store of the stretch joins the store's clock into what its thread has seen, and any
--- other load changes nothing. The row of the source says which it is, for only the stores so far have a stretch there.
+-- Loads keep `Sim`: a crossing load changes nothing, for by the load rule its source is none or of an earlier stretch;
+-- any other load has a store of the stretch for its source, whose clock joins what its thread has seen.
 use mathlib.Core.Path.{_≡_, refl, sym, _∙_}
-use mathlib.Core.Bool.{Bool, true, false}
+use mathlib.Core.Bool.{true, _&&_}
 use mathlib.Core.List.{List}
 use mathlib.Core.Logic.{_⊎_, inl, inr, _≢_}
-use Prim.Native.Nat.{ℕ, suc, _≤_, _<_}
+use Prim.Native.Nat.{ℕ, suc, _<_}
 use native.Mathlib.Omega.{arith}
-use borrow.Author.Tests.{eqb-true, eqb-false, ne-eqb}
+use borrow.Author.Tests.{eqb-true, eq-eqb, ne-eqb}
 use lib.Dec.{eqb}
 use lib.ListN.{length}
 use Rattle.record.specs.declared.events.Event.{Event}
 use Rattle.record.specs.Tests.{_gives_else_}
-use Rattle.model.specs.Trace.{kind, thread, source, issue?, Issue, Load, stretch}
+use Rattle.model.specs.Trace.{kind, thread, location, source, Issue, Load, stretch}
+use Rattle.model.specs.Machine.{waiting, current, sourceFits}
 use Rattle.model.specs.Rules.{refusal}
 use Rattle.model.specs.Clocks.{seen}
-use Rattle.model.proofs.Searching.{false-true, test, same?, less?}
-use Rattle.model.proofs.Roles.{load-no-crash, load-no-issue, issue-or-not}
-use Rattle.model.proofs.Acceptance.{store-not-0}
-use Rattle.model.proofs.StorePlaces.{stretch-some}
+use Rattle.model.proofs.Searching.{same?}
+use Rattle.model.proofs.Roles.{load-no-crash, load-no-issue}
+use Rattle.model.proofs.Acceptance.{store-not-0, fitting, own-source, commit-source, crossing-source}
 use Rattle.model.proofs.Unchanged.{seen-away, seen-from, seen-crossing}
 use Rattle.area.specs.Cells.{getRow}
 use Rattle.machine.specs.Threads.{threadOf}
 use Rattle.machine.specs.Twin.{World, world, threadAt, withRows}
-use Rattle.machine.specs.Effects.{met, loadW}
+use Rattle.machine.specs.Effects.{met, passW, meetW, loadW}
 use Rattle.machine.specs.Sim.{Seen, Sim}
 use Rattle.machine.proofs.CellLaws.{length-met, met-other, met-in, thread-met}
 use Rattle.machine.proofs.Keep.{limits-next, in-time, rows-numbers, all-left, queues-keep}
 use Rattle.machine.proofs.Keep.{rows-keep, links-same, newest-same}
+use Rattle.machine.proofs.Searches.{waiting-is, current-is}
 
 module _ (ev : ℕ → Event) (n : ℕ) (w : World) (sim : Sim ev n w) (passes : refusal ev n ≡ 0)
-    (loads : Load ev n) (few : thread ev n < 8) where
+    (loads : Load ev n) (few : thread ev n < 8) (small : location ev n < 256) where
   abbrev t : ℕ
   t = thread ev n
 
@@ -48,18 +49,30 @@ module _ (ev : ℕ → Event) (n : ℕ) (w : World) (sim : Sim ev n w) (passes :
     store : Issue ev s
     in-stretch : stretch ev s ≡ stretch ev n
 
-  row-here : getRow l s 10 ≡ stretch ev n → FromHere
-  row-here is-here = by-role (less? s n) (issue-or-not ev s)
-    where
-      no-row : (s < n → Issue ev s → ⊥) → FromHere
-      no-row none = absurd (omega (arith, stretch-some ev n, sim .rows .others s none))
+  fits : sourceFits ev n ≡ true
+  fits = fitting ev (suc n) (limits-next ev n (sim .limits) passes .accepted) n (omega arith) loads
 
-      by-role : (s < n) ⊎ (n ≤ s) → Issue ev s ⊎ (issue? ev s ≡ false) → FromHere
-      by-role (inr later) either = no-row (λ early _. omega arith)
-      by-role (inl early) (inr no-issue) = no-row (λ _ store. false-true (sym no-issue ∙ store .test))
-      by-role (inl early) (inl store) =
-          let row = sim .rows .stores s early store in
-          record { early = early; store = store; in-stretch = sym (row .stretch-is) ∙ is-here }
+  -- it is, if the load does not cross
+  waiting-here : waiting ev n ≢ 0 → FromHere
+  waiting-here waits =
+      let from = own-source ev n fits waits in
+      record { early = from .earlier; store = from .own .store; in-stretch = from .own .in-stretch }
+
+  current-here : waiting ev n ≡ 0 → current ev n ≢ 0 → FromHere
+  current-here none-waits commits =
+      let from = commit-source ev n fits none-waits commits in
+      record {
+        early = omega (arith, from .earlier, from .before-load);
+        store = from .of-thread .store;
+        in-stretch = from .of-thread .in-stretch ∙ from .in-stretch;
+      }
+
+  -- and is not, if the load crosses
+  elsewhere :
+      waiting ev n ≡ 0 → current ev n ≡ 0 → Issue ev s → s < n → stretch ev s ≡ stretch ev n → ⊥
+  elsewhere none-waits none-current store early in-stretch =
+      let some = store-not-0 ev n (sim .limits .accepted) store in
+      omega (arith, crossing-source ev n fits none-waits none-current some .earlier)
 
   -- with the state of the threads as it was, and what they have seen right
   with-seen :
@@ -80,7 +93,7 @@ module _ (ev : ℕ → Event) (n : ℕ) (w : World) (sim : Sim ev n w) (passes :
             queues-keep ev n (w .state) after no-crash (all-left ev n no-issue no-commit no-on no-off) same
             (sim .queues);
         seen-are = seen-is;
-        rows = rows-keep ev n l no-issue no-commit (sim .rows);
+        rows = rows-keep ev n l no-issue no-commit no-crash (sim .rows);
         links = links-same ev n l no-issue (sim .links);
         newest-are = newest-same ev n l no-issue (sim .newest-are);
       }
@@ -106,28 +119,34 @@ module _ (ev : ℕ → Event) (n : ℕ) (w : World) (sim : Sim ev n w) (passes :
       ∙ sim .seen-are v u few-v few-u
       ∙ sym (seen-away ev n v u (load-no-crash ev loads) (λ _ same. other same))
 
-  pub load-next : Sim ev (suc n) (loadW w t s)
-  unfolding loadW
-  load-next = by-test (test here)
-    where
-      here : Bool
-      here = eqb (getRow l s 10) (w .state .stretch)
+  -- after a load that does not cross, and after one that does
+  meet-next : FromHere → Sim ev (suc n) (meetW w t s)
+  unfolding meetW
+  meet-next from =
+      with-seen (met l t s (w .state .rows)) (length-met l t s (w .state .rows) ∙ sim .numbers .eight)
+      (thread-met l t s (w .state .rows)) (λ v u few-v few-u. met-seen from v u few-v few-u (same? t v))
 
-      by-test :
-          (here ≡ true) ⊎ (here ≡ false)
+  cross-next : waiting ev n ≡ 0 → current ev n ≡ 0 → Sim ev (suc n) (passW w)
+  unfolding passW
+  cross-next none-waits none-current =
+      with-seen (w .state .rows) (sim .numbers .eight) (λ v. refl)
+      (λ v u few-v few-u.
+      sim .seen-are v u few-v few-u ∙ sym (seen-crossing ev n v u loads (elsewhere none-waits none-current)))
+
+  pub load-next : Sim ev (suc n) (loadW w t (location ev n) s)
+  unfolding loadW
+  load-next =
+      rw (waiting-is ev n w sim few small, current-is ev n w sim small)
+      (by-case (same? (waiting ev n) 0) (same? (current ev n) 0))
+    where
+      by-case :
+          (waiting ev n ≡ 0) ⊎ (waiting ev n ≢ 0) → (current ev n ≡ 0) ⊎ (current ev n ≢ 0)
           → Sim ev (suc n)
-          (world (withRows (w .state) (here gives met l t s (w .state .rows) else (w .state .rows))) l)
-      by-test (inl is-here) =
-          let from = row-here (eqb-true _ _ is-here ∙ sim .numbers .stretch-is) in
-          rw is-here
-          (with-seen (met l t s (w .state .rows)) (length-met l t s (w .state .rows) ∙ sim .numbers .eight)
-          (thread-met l t s (w .state .rows)) (λ v u few-v few-u. met-seen from v u few-v few-u (same? t v)))
-      by-test (inr elsewhere) =
-          rw elsewhere
-          (with-seen (w .state .rows) (sim .numbers .eight) (λ v. refl)
-          (λ v u few-v few-u. sim .seen-are v u few-v few-u ∙ sym (seen-crossing ev n v u loads none)))
-        where
-          none : Issue ev s → s < n → stretch ev s ≡ stretch ev n → ⊥
-          none store early in-stretch =
-              let row = sim .rows .stores s early store in
-              eqb-false _ _ elsewhere (row .stretch-is ∙ in-stretch ∙ sym (sim .numbers .stretch-is))
+          ((eqb (waiting ev n) 0 && eqb (current ev n) 0) gives passW w else meetW w t s)
+      by-case (inr waits) either-way = rw (ne-eqb (waiting ev n) 0 waits) (meet-next (waiting-here waits))
+      by-case (inl none-waits) (inr commits) =
+          rw (eq-eqb (waiting ev n) 0 none-waits, ne-eqb (current ev n) 0 commits)
+          (meet-next (current-here none-waits commits))
+      by-case (inl none-waits) (inl none-current) =
+          rw (eq-eqb (waiting ev n) 0 none-waits, eq-eqb (current ev n) 0 none-current)
+          (cross-next none-waits none-current)

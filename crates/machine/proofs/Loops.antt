@@ -5,9 +5,10 @@ use Prim.Native.Nat.{ℕ, suc, _+_, _-_, _*_, _≤_, _<_, max}
 use native.Mathlib.Numerals.{add-one}
 use native.Mathlib.Omega.{arith}
 use lib.ListN.{length, getD, set}
-use Rattle.area.specs.Cells.{getRow, putRow}
+use Rattle.area.specs.Cells.{getRow, putRow, putCell}
+use Rattle.area.specs.Tables.{commitsSlot}
 use Rattle.area.proofs.ReadBack.{get-there, put-there}
-use Rattle.machine.specs.Effects.{clocked, joined}
+use Rattle.machine.specs.Effects.{clocked, joined, finishedWork}
 
 -- a loop's invariant: k turns of at most `top` are done, and the numbers are what the definition says
 pub record Turned (k top : ℕ) (before now expected : List ℕ) : Type 0 where
@@ -54,3 +55,9 @@ joined-more u l t s rows few small from-one to-last =
       add-one,
     )
     refl
+
+pub finished-more :
+    (t j : ℕ) (rows l : List ℕ) (slot count : ℕ) → slot ≡ commitsSlot j t → count ≡ getRow rows (suc t) 11
+    → putCell (finishedWork t j rows l) slot count ≡ finishedWork (t + 1) j rows l
+unfolding finishedWork
+finished-more t j rows l slot count slot-is count-is = rw (slot-is, count-is, add-one) refl

@@ -1,28 +1,36 @@
--- Flushes, fences, skips and crashes keep `Sim`: no store, commit or load is among them, so the work area stays, and so
--- does what the threads have seen, which a crash clears.
+-- Flushes, fences, skips and crashes keep `Sim`: no store, commit or load is among them, so the work area and what the
+-- threads have seen stay, but that a crash notes the commits of its stretch and clears what was seen.
 use mathlib.Core.Path.{_≡_, refl, sym, ap, _∙_}
 use mathlib.Core.Bool.{Bool, true, false}
-use mathlib.Core.Logic.{_≢_}
+use mathlib.Core.List.{List}
+use mathlib.Core.Logic.{_⊎_, inl, inr, _≢_}
 use Prim.Native.Nat.{ℕ, suc, _-_, _≤_, _<_}
 use native.Mathlib.Omega.{arith}
 use borrow.Author.Tests.{eqb-true, ne-eqb}
 use lib.ListN.{length, length-replicate}
 use Rattle.record.specs.declared.events.Event.{Event}
-use Rattle.model.specs.Trace.{kind, thread, is, issue?, commit?, load?, crash?, stretch}
+use Rattle.model.specs.Trace.{kind, thread, is, issue?, commit?, load?, crash?, stretch, commits}
 use Rattle.model.specs.Machine.{skipping}
 use Rattle.model.specs.Rules.{refusal}
-use Rattle.model.proofs.Searching.{false-true}
-use Rattle.model.proofs.Counting.{stretch-crash}
+use Rattle.model.proofs.Searching.{false-true, same?}
+use Rattle.model.proofs.Counting.{stretch-crash, count-skip}
 use Rattle.model.proofs.ClockSteps.{seen-crash}
+use Rattle.model.proofs.StorePlaces.{stretch-some}
 use Rattle.model.proofs.Unchanged.{live-crash, store-at-crash, skipping-crash}
+use Rattle.area.specs.Cells.{getRow, cell}
+use Rattle.area.specs.Tables.{lastSlot, commitsSlot}
+use Rattle.area.specs.Rows.{Rows}
 use Rattle.area.proofs.ReadBack.{cleared-cell}
-use Rattle.machine.specs.Threads.{skippedT, putSkip}
+use Rattle.machine.specs.Threads.{skippedT, threadOf, putSkip}
 use Rattle.machine.specs.Twin.{State, World, threadAt, withRows, crashed}
-use Rattle.machine.specs.Effects.{passW, skipW, crashW}
+use Rattle.machine.specs.Effects.{passW, skipW, finishedWork, crashW}
 use Rattle.machine.specs.Sim.{issued, done, Numbers, Queue, Seen, Sim}
 use Rattle.machine.proofs.CellLaws.{up-is, skip-replaced, thread-cleared}
+use Rattle.machine.proofs.FinishedRows.{finished-size, finished-column, finished-slot, finished-count}
 use Rattle.machine.proofs.Keep.{limits-next, in-time, rows-numbers, all-left, queues-keep}
-use Rattle.machine.proofs.Keep.{queue-skip, queues-with, seen-keep, seen-with, rows-keep, links-same, newest-same}
+use Rattle.machine.proofs.Keep.{queue-skip, queues-with, seen-keep, seen-with, stores-keep, others-keep}
+use Rattle.machine.proofs.Keep.{chains-keep, commits-kept, links-keep, newest-keep, rows-keep, links-same}
+use Rattle.machine.proofs.Keep.{newest-same}
 
 module _ (ev : ℕ → Event) (n : ℕ) (w : World) (sim : Sim ev n w) (passes : refusal ev n ≡ 0) where
   -- the event is none of those that change the work area
@@ -59,7 +67,7 @@ module _ (ev : ℕ → Event) (n : ℕ) (w : World) (sim : Sim ev n w) (passes :
         seen-are =
             seen-keep ev n (w .state .rows) (w .state .rows) (still .no-crash) (still .no-load) (λ e k _. refl)
             (sim .seen-are);
-        rows = rows-keep ev n (w .work) (still .no-issue) (still .no-commit) (sim .rows);
+        rows = rows-keep ev n (w .work) (still .no-issue) (still .no-commit) (still .no-crash) (sim .rows);
         links = links-same ev n (w .work) (still .no-issue) (sim .links);
         newest-are = newest-same ev n (w .work) (still .no-issue) (sim .newest-are);
       }
@@ -90,7 +98,7 @@ module _ (ev : ℕ → Event) (n : ℕ) (w : World) (sim : Sim ev n w) (passes :
         seen-are =
             seen-with ev n (w .state) rows t (skippedT old on) replaced (still .no-crash) (still .no-load)
             (sim .seen-are);
-        rows = rows-keep ev n (w .work) (still .no-issue) (still .no-commit) (sim .rows);
+        rows = rows-keep ev n (w .work) (still .no-issue) (still .no-commit) (still .no-crash) (sim .rows);
         links = links-same ev n (w .work) (still .no-issue) (sim .links);
         newest-are = newest-same ev n (w .work) (still .no-issue) (sim .newest-are);
       }
@@ -130,18 +138,71 @@ module _ (ev : ℕ → Event) (n : ℕ) (w : World) (sim : Sim ev n w) (passes :
     unfolding crashed
     crashed-seen m t u few-t few-u = cleared-cell (length (m .rows)) (suc t) u ∙ sym (seen-crash ev n t u crash)
 
+    -- the work area, with the commits of the stretch that the crash finishes
+    abbrev j : ℕ
+    j = w .state .stretch
+
+    abbrev l : List ℕ
+    l = w .work
+
+    abbrev noted : List ℕ
+    noted = finishedWork 8 j (w .state .rows) l
+
+    j-is : j ≡ stretch ev n
+    j-is = sim .numbers .stretch-is
+
+    no-issue : issue? ev n ≡ false
+    no-issue = let is-9 = crash-kind in ne-eqb (kind ev n) 2 (λ is-2. omega arith)
+
+    no-commit : commit? ev n ≡ false
+    no-commit = let is-9 = crash-kind in ne-eqb (kind ev n) 3 (λ is-3. omega arith)
+
+    column-stays : (p k : ℕ) → k ≢ 13 → getRow noted p k ≡ getRow l p k
+    column-stays = finished-column j (w .state .rows) l 8
+
+    counts-next :
+        (i t : ℕ) → 1 ≤ i → i ≤ 7 → i ≤ stretch ev n → t < 8 → (i ≡ j) ⊎ (i ≢ j)
+        → cell noted (commitsSlot i t) ≡ commits ev (suc n) i t
+    unfolding threadOf
+    counts-next i t from-one to-seven finished few (inl is) =
+        rw is
+        (finished-count j (w .state .rows) l 8 t (sim .rows .room) (omega arith) few
+        ∙ sim .queues t few .committed-is ∙ ap (λ (k : ℕ). commits ev n k t) (sym j-is)
+        ∙ sym (count-skip ev (commit? ev) n j t no-commit))
+    counts-next i t from-one to-seven finished few (inr other) =
+        commits-kept ev n l noted i t from-one to-seven (omega (arith, j-is)) few
+        (finished-slot j (w .state .rows) l 8 (commitsSlot i t) (λ u below same. other (omega arith)))
+        (sim .rows)
+
+    rows-next : Rows ev (suc n) noted
+    rows-next =
+        let low : (p k : ℕ) → k < 11 → getRow noted p k ≡ getRow l p k =
+        λ p k less. column-stays p k (λ is-13. omega arith)
+        in
+        record {
+          room = rw (finished-size j (w .state .rows) l 8) (sim .rows .room);
+          stores = stores-keep ev n l noted no-issue low (sim .rows);
+          others = others-keep ev n l noted low (sim .rows);
+          chains =
+              chains-keep ev n l noted no-commit (λ q. column-stays q 14 (λ is-13. omega arith))
+              (λ x few.
+              finished-slot j (w .state .rows) l 8 (lastSlot x)
+              (λ t below same. omega (arith, j-is, stretch-some ev n)))
+              (sim .rows);
+          commits-are = λ i t from-one to-seven finished few.
+              counts-next i t from-one to-seven (omega (arith, stretch-crash ev n crash)) few (same? i j);
+        }
+
     pub crash-next : Sim ev (suc n) (crashW w)
     unfolding crashW
     crash-next =
-        let kind-is = crash-kind in
-        let no-issue = ne-eqb (kind ev n) 2 (λ is-2. omega arith) in
-        let no-commit = ne-eqb (kind ev n) 3 (λ is-3. omega arith) in
         record {
           numbers = crashed-numbers (w .state) (sim .numbers);
           limits = limits-next ev n (sim .limits) passes;
           queues = λ t _. crashed-queue (w .state) t;
           seen-are = crashed-seen (w .state);
-          rows = rows-keep ev n (w .work) no-issue no-commit (sim .rows);
-          links = links-same ev n (w .work) no-issue (sim .links);
-          newest-are = newest-same ev n (w .work) no-issue (sim .newest-are);
+          rows = rows-next;
+          links = links-keep ev n l noted no-issue (λ p. column-stays p 11 (λ is-13. omega arith)) (sim .links);
+          newest-are =
+              newest-keep ev n l noted no-issue (λ p. column-stays p 15 (λ is-13. omega arith)) (sim .newest-are);
         }

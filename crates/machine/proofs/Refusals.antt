@@ -15,6 +15,7 @@ use Rattle.record.specs.Tests.{_gives_else_}
 use Rattle.model.specs.Trace.{thread, location, source, threads, locations, stretch}
 use Rattle.model.specs.Machine.{sourceFits, skipping}
 use Rattle.model.specs.Rules.{answer, rules, refusal}
+use Rattle.area.specs.Rows.{Sources}
 use Rattle.machine.specs.Arms.{byKind}
 use Rattle.machine.specs.Twin.{World, threadAt, fitsW}
 use Rattle.machine.specs.Turning.{emptyM, onThread, onPlace, refusalK, refusalW, beginRule, beginK, beginRefusal}
@@ -116,7 +117,7 @@ swapped : (b : Bool) (a r : ℕ) → cond b a r ≡ cond (not b) r a
 swapped true a r = refl
 swapped false a r = refl
 
-module _ (ev : ℕ → Event) (n : ℕ) (w : World) (sim : Sim ev n w) where
+module _ (ev : ℕ → Event) (n : ℕ) (w : World) (sim : Sim ev n w) (sources : Sources ev n (w .work)) where
   abbrev begun : 0 < n
   begun = sim .limits .accepted .some-record
 
@@ -167,7 +168,7 @@ module _ (ev : ℕ → Event) (n : ℕ) (w : World) (sim : Sim ev n w) where
       let t-is : t ≡ thread ev n = sym (ap (λ (e : Event). fieldsOf e .thread) is) in
       let x-is : x ≡ location ev n = sym (ap (λ (e : Event). fieldsOf e .location) is) in
       let s-is : s ≡ source ev n = sym (ap (λ (e : Event). fieldsOf e .source) is) in
-      rw (t-is, x-is, s-is, fits-is ev n w sim (rw (← t-is) few-t) (rw (← x-is) few-x))
+      rw (t-is, x-is, s-is, fits-is ev n w sim sources (rw (← t-is) few-t) (rw (← x-is) few-x))
       (under (sourceFits ev n) 0 9 9 (λ _. refl) ∙ swapped (sourceFits ev n) 0 9)
 
   crash-rule :

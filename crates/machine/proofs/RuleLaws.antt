@@ -3,12 +3,14 @@
 use mathlib.Core.Path.{_≡_, refl, sym}
 use mathlib.Core.Bool.{Bool, true, false, _&&_}
 use mathlib.Core.Logic.{_≢_}
-use Prim.Native.Nat.{ℕ}
+use mathlib.Core.List.{List}
+use Prim.Native.Nat.{ℕ, _≤_}
 use native.Mathlib.Omega.{arith}
-use borrow.Author.Tests.{ne-eqb}
-use lib.Dec.{ltb, leb}
+use borrow.Author.Tests.{ne-eqb, ltb-false}
+use lib.Dec.{eqb, ltb, leb}
 use Rattle.record.specs.Tests.{_gives_else_}
-use Rattle.machine.specs.Twin.{World}
+use Rattle.area.specs.Cells.{up}
+use Rattle.machine.specs.Twin.{State, World, world}
 use Rattle.machine.specs.Turning.{threadRule, placeRule}
 use Rattle.machine.specs.Outcomes.{turned, byRule}
 
@@ -64,13 +66,31 @@ module _ (threads e t : ℕ) where
         (k r : ℕ) → k ≡ placeRule threads locations e t x 0 → k ≡ 0 → placeRule threads locations e t x r ≡ r
     at-passes = place-passes (ltb 2048 e) (leb 8 t) (leb threads t) (leb 256 x) (leb locations x)
 
+    -- an event at a place that passes has a number that a store can have
+    pub at-in-time : (k : ℕ) → k ≡ placeRule threads locations e t x 0 → k ≡ 0 → e ≤ 2048
+    at-in-time k = by-test (ltb 2048 e) refl
+      where
+        later : ℕ
+        later = leb 8 t gives 7 else leb threads t gives 7 else leb 256 x gives 8 else leb locations x gives 8 else 0
+
+        by-test : (late : Bool) → ltb 2048 e ≡ late → k ≡ (late gives 13 else later) → k ≡ 0 → e ≤ 2048
+        by-test true is k-is none = absurd (omega arith)
+        by-test false is k-is none = ltb-false 2048 e is
+
 -- ---- outcomes
 
--- the rule gives the number k, which is not 0
+-- a state, field by field
+abbrev pub stateFrom : ℕ → ℕ → ℕ → ℕ → List ℕ → State
+stateFrom e j threads locations rows =
+    record { event = e; stretch = j; threads = threads; locations = locations; rows = rows }
+
+-- the rule gives the number k, which is not 0: the number of the event stays
 pub stopped :
-    (rule k : ℕ) (w after : World) (counted : Bool) → rule ≡ k → k ≢ 0 → turned k w ≡ byRule rule w counted after
+    (rule k e j threads locations : ℕ) (rows l : List ℕ) (after : World) (counted : Bool) → rule ≡ k → k ≢ 0
+    → turned k (world (stateFrom (eqb k 0 gives up e else e) j threads locations rows) l)
+    ≡ byRule rule (world (stateFrom e j threads locations rows) l) counted after
 unfolding byRule
-stopped rule k w after counted is some = rw (is, ne-eqb k 0 some) refl
+stopped rule k e j threads locations rows l after counted is some = rw (is, ne-eqb k 0 some) refl
 
 -- the rule gives 0
 pub passes :

@@ -1,34 +1,37 @@
 -- The load rule's searches: under `Sim` the machine finds in its tables what the definitions search for. By the laws of
--- model's proofs/LoadRule.antt, the newest store and the newest committed store of a location are enough.
+-- model's proofs/LoadRule.antt, the newest store and the newest committed store of a location are enough. And a noted
+-- source is a store of an earlier stretch, as `Sources` says.
 -- In order: `waiting`; `current`; `past`; the rule.
-use mathlib.Core.Path.{_≡_, refl, sym, _∙_}
+use mathlib.Core.Path.{_≡_, refl, sym, _∙_, ap₂}
 use mathlib.Core.Bool.{Bool, true, false, cond, _&&_, _||_, not}
 use mathlib.Core.List.{List, [], _∷_}
 use mathlib.Core.Logic.{_⊎_, inl, inr, _≢_}
 use Prim.Native.Nat.{ℕ, suc, _≤_, _<_}
 use native.Mathlib.Omega.{arith}
-use borrow.Author.Tests.{eqb-true, eq-eqb, ne-eqb, lt-ltb, le-ltb, le-leb, lt-leb, ltb-true}
+use borrow.Author.Tests.{eqb-true, eqb-false, eq-eqb, ne-eqb, lt-ltb, le-ltb, le-leb, lt-leb, ltb-true}
 use lib.Dec.{eqb, ltb, leb}
 use Rattle.record.specs.declared.events.Event.{Event}
 use Rattle.record.specs.Tests.{_gives_else_}
 use Rattle.record.specs.Table.{rowOf}
-use Rattle.model.specs.Trace.{kind, thread, location, source, issue?, hasThread?, Issue, stretch, commits, place}
+use Rattle.model.specs.Trace.{kind, thread, location, source, issue?, hasThread?, Issue, stretch, issues}
+use Rattle.model.specs.Trace.{commits, place}
 use Rattle.model.specs.Machine.{committedBy, waiting, current, past, sourceFits}
-use Rattle.model.specs.Stores.{newestAt, landed}
-use Rattle.model.proofs.Searching.{false-true, test, same?, less?, parts}
-use Rattle.model.proofs.Counting.{earlier-stretch}
+use Rattle.model.specs.Stores.{storeAt, newestAt, landed}
+use Rattle.model.proofs.Searching.{false-true, test, same?, less?, both, parts}
+use Rattle.model.proofs.Counting.{stretch-mono, earlier-stretch, count-mono, count-lt}
 use Rattle.model.proofs.Roles.{issue-or-not}
 use Rattle.model.proofs.ClockSteps.{vc-own}
 use Rattle.model.proofs.Limits.{thread-below}
-use Rattle.model.proofs.StorePlaces.{fails, stretch-some}
-use Rattle.model.proofs.LoadRule.{Made, newest-made, waiting-newest, waiting-none, headOf, head-store}
+use Rattle.model.proofs.Acceptance.{store-not-0}
+use Rattle.model.proofs.StorePlaces.{fails, stretch-some, Store, store-at-is, store-at-none}
+use Rattle.model.proofs.LoadRule.{Made, newest-made, Waits, waiting-newest, waiting-none, headOf, head-store}
 use Rattle.model.proofs.LoadRule.{head-early, current-head, current-none}
 use Rattle.area.specs.Cells.{getRow, cell}
-use Rattle.area.specs.Tables.{lastSlot, commitsSlot}
-use Rattle.area.specs.Rows.{Linked, StoreRow}
+use Rattle.area.specs.Tables.{lastSlot, commitsSlot, loadSourceSlot}
+use Rattle.area.specs.Rows.{Linked, StoreRow, Past, Sources}
 use Rattle.area.proofs.ReadBack.{row-zero}
 use Rattle.machine.specs.Twin.{World, waitingIn, currentIn, pastIn, waitingW, currentW, pastW, fitsW}
-use Rattle.machine.specs.Sim.{Sim}
+use Rattle.machine.specs.Sim.{issued, Sim}
 
 -- the first link is the list's head
 linked-head : (ev : ℕ → Event) (l : List ℕ) (h : ℕ) (ps : List ℕ) → Linked l h ps → h ≡ headOf ev ps
@@ -63,53 +66,82 @@ module _ (ev : ℕ → Event) (n : ℕ) (w : World) (sim : Sim ev n w) where
 
   -- ---- waiting
 
-  waiting-in : ℕ → ℕ
-  waiting-in p =
-      eqb (getRow l p 10) (stretch ev n) gives (ltb (committedBy ev n) (getRow l p t) gives p else 0) else 0
+  -- by the thread's oldest waiting store, or 0, and its newest store at the location
+  waiting-in : ℕ → ℕ → ℕ
+  waiting-in o p = eqb o 0 gives 0 else (leb o p gives p else 0)
 
-  waiting-found :
-      (p : ℕ) → newestAt ev n x t ≡ p → Made ev n x t p → StoreRow ev l p → t < 8
-      → (stretch ev p ≡ stretch ev n) ⊎ (stretch ev p ≢ stretch ev n)
-      → (committedBy ev n < suc (place ev p)) ⊎ (suc (place ev p) ≤ committedBy ev n)
-      → waiting-in p ≡ waiting ev n
-  unfolding waiting-in
-  waiting-found p newest made row few (inr elsewhere) either =
-      rw (row .stretch-is, ne-eqb (stretch ev p) (stretch ev n) elsewhere)
-      (sym (waiting-none ev n n p (sim .limits .accepted) newest (λ _ waits. elsewhere (waits .in-stretch))))
-  waiting-found p newest made row few (inl here) (inr done) =
-      rw (
-        row .stretch-is,
-        eq-eqb (stretch ev p) (stretch ev n) here,
-        row .clock-is t few,
-        vc-own ev p t (made .store) (sym (made .by-t)),
-        le-ltb _ _ done,
-      )
-      (sym (waiting-none ev n n p (sim .limits .accepted) newest (λ _ waits. omega (arith, waits .not-yet))))
-  waiting-found p newest made row few (inl here) (inl not-yet) =
-      rw (
-        row .stretch-is,
-        eq-eqb (stretch ev p) (stretch ev n) here,
-        row .clock-is t few,
-        vc-own ev p t (made .store) (sym (made .by-t)),
-        lt-ltb _ _ not-yet,
-      )
-      (sym (waiting-newest ev n p newest (record { made = made; in-stretch = here; not-yet = omega arith })))
+  module _ (p : ℕ) (newest : newestAt ev n x t ≡ p) where
+    none-waits : (p ≢ 0 → Waits ev n p → ⊥) → waiting ev n ≡ 0
+    none-waits = waiting-none ev n n p (sim .limits .accepted) newest
 
-  waiting-by-newest : t < 8 → (p : ℕ) → newestAt ev n x t ≡ p → (p ≡ 0) ⊎ (p ≢ 0) → waiting-in p ≡ waiting ev n
-  unfolding waiting-in
-  waiting-by-newest few p newest (inl none) =
-      rw (none, row-zero l 10, ne-eqb 0 (stretch ev n) (λ is-0. omega (arith, stretch-some ev n)))
-      (sym (waiting-none ev n n p (sim .limits .accepted) newest (λ some. absurd (some none))))
-  waiting-by-newest few p newest (inr some) =
-      let made : Made ev n x t p = rw newest at (newest-made ev n x t (λ is-0. some (sym newest ∙ is-0))) in
-      waiting-found p newest made (sim .rows .stores p (made .early) (made .store)) few
-      (same? (stretch ev p) (stretch ev n)) (less? (committedBy ev n) (suc (place ev p)))
+    -- no store waits in an empty queue
+    none-queued : issued ev n t ≤ committedBy ev n → Waits ev n p → ⊥
+    none-queued empty waits =
+        omega (
+          arith,
+          waits .not-yet,
+          count-lt ev (issue? ev) p n (waits .made .store .test) (waits .made .early),
+          ap₂ (issues ev n) (waits .in-stretch) (waits .made .by-t),
+        )
+
+    -- places grow, so of a thread's stores in the stretch those from the oldest waiting one on wait
+    module _ (o : ℕ) (oldest : Store ev n (stretch ev n) t (committedBy ev n) o) where
+      none-earlier : p < o → Waits ev n p → ⊥
+      none-earlier earlier waits =
+          omega (
+            arith,
+            waits .not-yet,
+            oldest .at-i,
+            count-lt ev (issue? ev) p o (waits .made .store .test) earlier,
+            ap₂ (issues ev o) (waits .in-stretch) (waits .made .by-t),
+          )
+
+      some-store : o ≢ 0
+      some-store = store-not-0 ev n (sim .limits .accepted) (oldest .store)
+
+      all-later : o ≤ p → Waits ev n p
+      all-later later = record {
+        made = made;
+        in-stretch = in-stretch;
+        not-yet =
+            omega (
+              arith,
+              oldest .at-i,
+              count-mono ev (issue? ev) o p (stretch ev n) t later,
+              ap₂ (issues ev p) in-stretch (made .by-t),
+            );
+      }
+        where
+          made : Made ev n x t p
+          made = rw newest at (newest-made ev n x t (λ is-0. some-store (omega (arith, newest))))
+
+          in-stretch : stretch ev p ≡ stretch ev n
+          in-stretch =
+              let up = stretch-mono ev o p later in
+              let down = stretch-mono ev p n (omega (arith, made .early)) in
+              omega (arith, oldest .in-j)
+
+      waiting-queued : (p < o) ⊎ (o ≤ p) → waiting-in o p ≡ waiting ev n
+      unfolding waiting-in
+      waiting-queued (inl earlier) =
+          rw (ne-eqb o 0 some-store, lt-leb o p earlier) (sym (none-waits (λ _. none-earlier earlier)))
+      waiting-queued (inr later) =
+          rw (ne-eqb o 0 some-store, le-leb o p later) (sym (waiting-newest ev n p newest (all-later later)))
+
+    waiting-by-queue :
+        (committedBy ev n < issued ev n t) ⊎ (issued ev n t ≤ committedBy ev n)
+        → waiting-in (storeAt ev n (stretch ev n) t (committedBy ev n)) p ≡ waiting ev n
+    unfolding waiting-in
+    waiting-by-queue (inl some) =
+        waiting-queued _ (store-at-is ev n (stretch ev n) t (committedBy ev n) some) (less? p _)
+    waiting-by-queue (inr empty) =
+        rw (store-at-none ev n (stretch ev n) t (committedBy ev n) empty) (sym (none-waits (λ _. none-queued empty)))
 
   pub waiting-is : t < 8 → x < 256 → waitingW w t x ≡ waiting ev n
   unfolding waitingIn waiting-in
   waiting-is few-t few-x =
-      rw (sim .newest-are x t few-x few-t, sim .queues t few-t .committed-is, sim .numbers .stretch-is)
-      (waiting-by-newest few-t (newestAt ev n x t) refl (same? (newestAt ev n x t) 0))
+      rw (sim .newest-are x t few-x few-t, sim .queues t few-t .oldest-is)
+      (waiting-by-queue (newestAt ev n x t) refl (less? (committedBy ev n) (issued ev n t)))
 
   -- ---- current
 
@@ -177,8 +209,8 @@ module _ (ev : ℕ → Event) (n : ℕ) (w : World) (sim : Sim ev n w) where
       refl
   past-of-store p early store row (inl earlier) (inl here) =
       let few = store-thread p early store in
-      let in-range : stretch ev p ≤ 8 = omega (arith, sim .limits .few-crashes) in
-      let of-stretch = sim .rows .commits-are (stretch ev p) (thread ev p) (stretch-some ev p) in-range few in
+      let in-range : stretch ev p ≤ 7 = omega (arith, sim .limits .few-crashes) in
+      let of-stretch = sim .rows .commits-are (stretch ev p) (thread ev p) (stretch-some ev p) in-range earlier few in
       rw (
         ne-eqb (stretch ev p) 0 (λ is-0. omega (arith, stretch-some ev p)),
         lt-leb _ _ earlier,
@@ -220,23 +252,41 @@ module _ (ev : ℕ → Event) (n : ℕ) (w : World) (sim : Sim ev n w) where
 
   -- ---- the rule
 
-  pub fits-is : t < 8 → x < 256 → fitsW w t x (source ev n) ≡ sourceFits ev n
+  →past : (s : ℕ) → Past ev n x s → past ev n s ≡ true
+  →past s it =
+      both _ _
+      (both _ _ (both _ _ (it .store .test) (eq-eqb _ _ (it .to-x))) (lt-ltb _ _ (it .earlier)))
+      (lt-ltb _ _ (it .kept))
+
+  pub fits-is : Sources ev n l → t < 8 → x < 256 → fitsW w t x (source ev n) ≡ sourceFits ev n
   unfolding fitsW sourceFits
-  fits-is few-t few-x =
-      rw (waiting-is few-t few-x, current-is few-x, past-is (source ev n))
-      (by-tests (eqb (waiting ev n) 0) (eqb (current ev n) 0) (eqb (source ev n) 0))
+  fits-is sources few-t few-x =
+      rw (waiting-is few-t few-x, current-is few-x, past-is s)
+      (by-tests (eqb (waiting ev n) 0) (eqb (current ev n) 0) (eqb s 0) (eqb s noted) refl refl)
     where
       s : ℕ
       s = source ev n
 
+      noted : ℕ
+      noted = cell l (loadSourceSlot x)
+
+      -- a noted source is one
+      past-noted : eqb s 0 ≡ false → eqb s noted ≡ true → past ev n s ≡ true
+      past-noted some is-noted =
+          let same : s ≡ noted = eqb-true s noted is-noted in
+          rw same (→past noted (sources x few-x (λ is-0. eqb-false s 0 some (same ∙ is-0))))
+
       by-tests :
-          (none-waits none-current none : Bool)
+          (none-waits none-current none is-noted : Bool) → eqb s 0 ≡ none → eqb s noted ≡ is-noted
           → (none-waits gives
-          (none-current gives (none gives true else past ev n s) else eqb s (current ev n)) else
+          (none-current gives
+          (none gives true else is-noted gives true else past ev n s) else
+          eqb s (current ev n)) else
           eqb s (waiting ev n))
           ≡ cond (not none-waits) (eqb s (waiting ev n))
           (cond (not none-current) (eqb s (current ev n)) (none || past ev n s))
-      by-tests true true true = refl
-      by-tests true true false = refl
-      by-tests true false none = refl
-      by-tests false none-current none = refl
+      by-tests true true true is-noted some same = refl
+      by-tests true true false true some same = sym (past-noted some same)
+      by-tests true true false false some same = refl
+      by-tests true false none is-noted some same = refl
+      by-tests false none-current none is-noted some same = refl

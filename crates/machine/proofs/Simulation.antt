@@ -48,7 +48,7 @@ module _ (ev : ℕ → Event) (n : ℕ) (w : World) (sim : Sim ev n w) (passes :
   unfolding stepK byKind rowOf
   next-of-load kind-is =
       load-next ev n w sim passes (record { test = eq-eqb (kind ev n) 4 kind-is })
-      (few-own ev n (sim .limits) passes 4 kind-is refl)
+      (few-own ev n (sim .limits) passes 4 kind-is refl) (small-own ev n (sim .limits) passes 4 kind-is refl)
 
   next-of-crash : kind ev n ≡ 9 → Sim ev (suc n) (stepK w 9 (fieldsOf (ev n)))
   unfolding stepK byKind

@@ -10,8 +10,7 @@ use borrow.Author.Tests.{eqb-true, ne-eqb}
 use lib.ListN.{length, replicate, length-replicate}
 use Rattle.record.specs.declared.events.Event.{Event}
 use Rattle.model.specs.Search.{last}
-use Rattle.model.specs.Trace.{kind, is, commit?, crash?, Issue, threads, locations, stretch}
-use Rattle.model.specs.Trace.{count, commits}
+use Rattle.model.specs.Trace.{kind, is, crash?, Issue, threads, locations, stretch, count, commits}
 use Rattle.model.specs.Machine.{skipping}
 use Rattle.model.specs.Rules.{refusal, Accepted}
 use Rattle.model.specs.Stores.{newestAt, landed}
@@ -22,9 +21,9 @@ use Rattle.model.proofs.ClockSteps.{seen-zero}
 use Rattle.model.proofs.Acceptance.{begins}
 use Rattle.model.proofs.Limits.{few-threads, few-locations}
 use Rattle.model.proofs.StorePlaces.{store-at-none}
-use Rattle.model.proofs.Unchanged.{count-away, live-away, skipping-away, newest-away, seen-away, landed-away}
+use Rattle.model.proofs.Unchanged.{live-away, skipping-away, newest-away, seen-away, landed-away}
 use Rattle.area.specs.Cells.{getRow}
-use Rattle.area.specs.Tables.{newestRow, lastSlot, commitsSlot}
+use Rattle.area.specs.Tables.{newestRow, lastSlot}
 use Rattle.area.specs.Rows.{Rows}
 use Rattle.area.proofs.ReadBack.{cleared-cell}
 use Rattle.machine.specs.Threads.{fresh}
@@ -125,12 +124,7 @@ module _ (ev : ℕ → Event) (passes : refusal ev 0 ≡ 0) where
             landed-0 x,
           )
           (clear (suc (lastSlot x)) 13);
-      commits-are = λ j t _ _ _.
-          clear (suc (commitsSlot j t)) 13
-          ∙ sym
-          (count-away ev (commit? ev) 0 j t
-          (λ commits _ _. false-true (sym (no-other 3 (λ is-1. omega arith)) ∙ commits))
-          ∙ count-0 (commit? ev) j t);
+      commits-are = λ j t from-one _ finished _. absurd (omega (arith, stretch-1));
     }
 
     links-start : Links ev 1 l

@@ -11,7 +11,7 @@ use Rattle.record.specs.Fields.{fieldsOf}
 use Rattle.area.specs.Cells.{getRow, putRow, hasRow, cell, putCell, up}
 use Rattle.area.specs.Tables.{newestRow, lastSlot, commitsSlot}
 use Rattle.machine.specs.Threads.{issuedT, committedT, skippedT, putIssued, putCommitted, putSkip}
-use Rattle.machine.specs.Twin.{World, world, threadAt, withRows, ticked, crashed}
+use Rattle.machine.specs.Twin.{World, world, threadAt, withRows, ticked, crashed, crossingW}
 use Rattle.machine.specs.Arms.{byKind}
 
 -- ---- clocks, where the rows of the threads stand in `rows` and those of stores in l
@@ -53,13 +53,9 @@ issueW w t x =
     world (withRows m (putIssued (m .rows) t (issuedT old (m .event))))
     (issuedWork (m .rows) (w .work) (old .newest) (m .event) t (up (old .issued)) x (m .stretch))
 
--- the work area after a commit of store p at location x in stretch j: `link` is the store committed before it there, c
--- the thread's commits with it
-abbrev pub committedWork : List ℕ → ℕ → ℕ → ℕ → ℕ → ℕ → ℕ → List ℕ
-committedWork l p x link j t c =
-    let chained = putRow l p 14 link in
-    let headed = putCell chained (lastSlot x) p in
-    putCell headed (commitsSlot j t) c
+-- the work area after a commit of store p at location x: `link` is the store committed before it there
+abbrev pub committedWork : List ℕ → ℕ → ℕ → ℕ → List ℕ
+committedWork l p x link = putCell (putRow l p 14 link) (lastSlot x) p
 
 unfoldable pub commitW : World → ℕ → World
 commitW w t =
@@ -68,27 +64,31 @@ commitW w t =
     let p = old .oldest in
     let x = getRow (w .work) p 9 in
     world (withRows m (putCommitted (m .rows) t (committedT old (getRow (w .work) p 11))))
-    (committedWork (w .work) p x (cell (w .work) (lastSlot x)) (m .stretch) t (up (old .committed)))
+    (committedWork (w .work) p x (cell (w .work) (lastSlot x)))
 
--- the threads' rows after a load by thread t from store s
-abbrev pub loadedRows : World → ℕ → ℕ → List ℕ
-loadedRows w t s =
-    let m = w .state in
-    eqb (getRow (w .work) s 10) (m .stretch) gives met (w .work) t s (m .rows) else m .rows
+unfoldable pub passW : World → World
+passW w = world (ticked (w .state)) (w .work)
 
-unfoldable pub loadW : World → ℕ → ℕ → World
-loadW w t s = world (withRows (w .state) (loadedRows w t s)) (w .work)
+-- store s brings its clock to thread t
+unfoldable pub meetW : World → ℕ → ℕ → World
+meetW w t s = let m = w .state in world (withRows m (met (w .work) t s (m .rows))) (w .work)
+
+-- a load by thread t at location x from s: a crossing load brings no clock
+unfoldable pub loadW : World → ℕ → ℕ → ℕ → World
+loadW w t x s = crossingW w t x gives passW w else meetW w t s
+
+-- the work area with the commits of threads 0 to k - 1 in stretch j, which a crash finishes
+unfoldable pub finishedWork : ℕ → ℕ → List ℕ → List ℕ → List ℕ
+finishedWork zero j rows l = l
+finishedWork (suc t) j rows l = putCell (finishedWork t j rows l) (commitsSlot j t) (getRow rows (suc t) 11)
 
 unfoldable pub crashW : World → World
-crashW w = world (crashed (w .state)) (w .work)
+crashW w = let m = w .state in world (crashed m) (finishedWork 8 (m .stretch) (m .rows) (w .work))
 
 unfoldable pub skipW : World → ℕ → Bool → World
 skipW w t on =
     let m = w .state in
     world (withRows m (putSkip (m .rows) t (skippedT (threadAt m t) on))) (w .work)
-
-unfoldable pub passW : World → World
-passW w = world (ticked (w .state)) (w .work)
 
 -- ---- the effect
 
@@ -99,7 +99,7 @@ stepK w k f =
     byKind k
     (issueW w t (f .location))
     (commitW w t)
-    (loadW w t (f .source))
+    (loadW w t (f .location) (f .source))
     (passW w)
     (passW w)
     (crashW w)

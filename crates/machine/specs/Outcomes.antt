@@ -6,25 +6,34 @@ use mathlib.Core.List.{List}
 use lib.Dec.{eqb}
 use Rattle.record.specs.declared.events.Fields.{Fields}
 use Rattle.record.specs.Tests.{_gives_else_}
+use Rattle.area.specs.Cells.{up}
 use Rattle.machine.specs.declared.state.Step.{Step}
 use Rattle.machine.specs.Arms.{byKind}
-use Rattle.machine.specs.Twin.{World, stateOf, world, threadAt, acrossW}
+use Rattle.machine.specs.declared.state.Machine.{Machine}
+use Rattle.machine.specs.Twin.{State, World, world, threadAt, acrossW}
 use Rattle.machine.specs.Turning.{commitRule, loadRule, fenceRule, crashRule, skipRule}
 use Rattle.machine.specs.Turning.{inTime, onThread, onPlace, countedW}
-use Rattle.machine.specs.Effects.{issueW, commitW, loadW, crashW, skipW, passW}
+use Rattle.machine.specs.Effects.{issueW, commitW, passW, meetW, loadW, crashW, skipW}
 
 pub record Outcome : Type 0 where
   pub refusal : ℕ
   pub counted : Bool
   pub after : World
 
-abbrev pub outcome : Step → List ℕ → List ℕ → Outcome
-outcome r rows l =
+-- the state after event e, which led to r: an event that passes is followed by the next number
+abbrev pub stateAfter : Machine → ℕ → Step → List ℕ → State
+stateAfter m e r rows =
     record {
-      refusal = r .refusal;
-      counted = r .counted;
-      after = world (stateOf (r .machine) (r .event) rows) l;
+      event = eqb (r .refusal) 0 gives up e else e;
+      stretch = r .stretch;
+      threads = m .threads;
+      locations = m .locations;
+      rows = rows;
     }
+
+abbrev pub outcome : Machine → ℕ → Step → List ℕ → List ℕ → Outcome
+outcome m e r rows l =
+    record { refusal = r .refusal; counted = r .counted; after = world (stateAfter m e r rows) l }
 
 -- the rule of number k turns the event away, and all is as it was
 abbrev pub turned : ℕ → World → Outcome
@@ -45,15 +54,15 @@ commitO w t = byRule (onThread (w .state) t (commitRule (w .state) t)) w false (
 
 -- a load that may have one source only
 abbrev pub onlyO : World → ℕ → ℕ → ℕ → Outcome
-onlyO w t s only = byRule (eqb s only gives 0 else 9) w false (loadW w t s)
+onlyO w t s only = byRule (eqb s only gives 0 else 9) w false (meetW w t s)
 
 -- a crossing load
 abbrev pub acrossO : World → ℕ → ℕ → ℕ → Outcome
 acrossO w t x s =
-    byRule (acrossW w x s gives 0 else 9) w (not (threadAt (w .state) t .skip)) (loadW w t s)
+    byRule (acrossW w x s gives 0 else 9) w (not (threadAt (w .state) t .skip)) (passW w)
 
 abbrev pub loadO : World → ℕ → ℕ → ℕ → Outcome
-loadO w t x s = byRule (onPlace (w .state) t x (loadRule w t x s)) w (countedW w t x) (loadW w t s)
+loadO w t x s = byRule (onPlace (w .state) t x (loadRule w t x s)) w (countedW w t x) (loadW w t x s)
 
 abbrev pub flushO : World → ℕ → ℕ → Outcome
 flushO w t x = byRule (onPlace (w .state) t x 0) w false (passW w)

@@ -3,6 +3,8 @@
 use Prim.Native.Nat.{ℕ, suc}
 use mathlib.Core.Bool.{Bool, false, not}
 use mathlib.Core.List.{List}
+use mathlib.Core.Path.{_≡_}
+use mathlib.Core.Logic.{_≢_}
 use lib.Dec.{eqb}
 use Rattle.record.specs.Tests.{_gives_else_}
 use Rattle.area.specs.Cells.{getRow, putRow, up}
@@ -62,6 +64,10 @@ threadOf rows t =
       committed = getRow rows (suc t) 11;
       skip = not (eqb (getRow rows (suc t) 12) 0);
     }
+
+-- a queue that is not empty has this oldest store
+abbrev pub KeepsOldest : List ℕ → ℕ → ℕ → Type 0
+KeepsOldest rows t oldest = getRow rows (suc t) 8 ≢ 0 → oldest ≡ getRow rows (suc t) 8
 
 -- the rows with what an issue changes in thread t's state
 unfoldable pub putIssued : List ℕ → ℕ → Thread → List ℕ

@@ -8,7 +8,7 @@ use Rattle.record.specs.Tests.{_gives_else_}
 use Rattle.record.specs.Events.{kindOf}
 use Rattle.record.specs.Fields.{fieldsOf}
 use Rattle.machine.specs.Arms.{byKind}
-use Rattle.machine.specs.Twin.{State, World, threadAt, waitingW, currentW, fitsW}
+use Rattle.machine.specs.Twin.{State, World, threadAt, crossingW, fitsW}
 
 -- ---- the kinds' own rules
 
@@ -98,7 +98,7 @@ beginRefusal e = beginK (kindOf e) (fieldsOf e)
 
 -- a load by thread t at location x is crossing, and the thread is in no skip
 abbrev pub countedW : World → ℕ → ℕ → Bool
-countedW w t x = eqb (waitingW w t x) 0 && eqb (currentW w x) 0 && not (threadAt (w .state) t .skip)
+countedW w t x = crossingW w t x && not (threadAt (w .state) t .skip)
 
 -- the event is a counted load
 unfoldable pub countsK : World → ℕ → Fields → Bool

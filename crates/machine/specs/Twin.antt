@@ -1,13 +1,13 @@
--- The machine's state, the rows of its threads and the work area together, and the searches of the load rule in them, as
--- total functions.
+-- The machine's state, the rows of its threads and the work area together, and the searches of the load rule in them,
+-- as total functions.
 use Prim.Native.Nat.{ℕ}
-use mathlib.Core.Bool.{Bool, true, false}
+use mathlib.Core.Bool.{Bool, true, false, _&&_}
 use mathlib.Core.List.{List}
 use lib.ListN.{length, replicate}
-use lib.Dec.{eqb, leb, ltb}
+use lib.Dec.{eqb, leb}
 use Rattle.record.specs.Tests.{_gives_else_}
 use Rattle.area.specs.Cells.{getRow, cell, up}
-use Rattle.area.specs.Tables.{newestRow, lastSlot, commitsSlot}
+use Rattle.area.specs.Tables.{newestRow, lastSlot, commitsSlot, loadSourceSlot}
 use Rattle.machine.specs.declared.threads.Thread.{Thread}
 use Rattle.machine.specs.declared.state.Machine.{Machine}
 use Rattle.machine.specs.Threads.{threadOf}
@@ -75,11 +75,12 @@ crashed st =
 
 -- ---- the load rule: j is the stretch, l the work area
 
--- the newest store of thread t at location x, if it is of the stretch and waits; else 0
-unfoldable pub waitingIn : ℕ → List ℕ → List ℕ → ℕ → ℕ → ℕ
-waitingIn j rows l t x =
+-- the newest store of thread t at location x, if the thread has a waiting store and the oldest came no later; else 0
+unfoldable pub waitingIn : List ℕ → List ℕ → ℕ → ℕ → ℕ
+waitingIn rows l t x =
     let p = getRow l (newestRow x t) 15 in
-    eqb (getRow l p 10) j gives (ltb (threadOf rows t .committed) (getRow l p t) gives p else 0) else 0
+    let o = threadOf rows t .oldest in
+    eqb o 0 gives 0 else (leb o p gives p else 0)
 
 -- the last store committed at location x, if it is of the stretch; else 0
 unfoldable pub currentIn : ℕ → List ℕ → ℕ → ℕ
@@ -95,15 +96,19 @@ pastIn j l x s =
     eqb (getRow l s 9) x gives leb (getRow l s t) (cell l (commitsSlot i t)) else
     false
 
--- a crossing load at location x may have source s
+-- a crossing load at location x may have source s: none, that of the last counted load there, or such a store
 abbrev pub acrossIn : ℕ → List ℕ → ℕ → ℕ → Bool
-acrossIn j l x s = eqb s 0 gives true else pastIn j l x s
+acrossIn j l x s = eqb s 0 gives true else eqb s (cell l (loadSourceSlot x)) gives true else pastIn j l x s
 
 abbrev pub waitingW : World → ℕ → ℕ → ℕ
-waitingW w t x = waitingIn (w .state .stretch) (w .state .rows) (w .work) t x
+waitingW w t x = waitingIn (w .state .rows) (w .work) t x
 
 abbrev pub currentW : World → ℕ → ℕ
 currentW w x = currentIn (w .state .stretch) (w .work) x
+
+-- a load by thread t at location x is crossing: no store waits there, and none of the stretch is committed
+abbrev pub crossingW : World → ℕ → ℕ → Bool
+crossingW w t x = eqb (waitingW w t x) 0 && eqb (currentW w x) 0
 
 abbrev pub pastW : World → ℕ → ℕ → Bool
 pastW w x s = pastIn (w .state .stretch) (w .work) x s

@@ -9,20 +9,17 @@ use record::Fields;
 
 // ---- the load rule
 
-// The newest waiting store of thread t at location x, 0 if there is none.
-pub(crate) fn waiting(m: Machine, rows: &[u16], work: &[u16], t: u16, x: u16) -> u16
-    ensures { λ r. ⌜ r ≡ waitingIn (m .stretch) (now (rows .entry)) (now (work .entry)) t x ⌝ }
+// The newest waiting store of thread t at location x, 0 if there is none: the thread's newest store there, unless the
+// oldest that waits came later.
+pub(crate) fn waiting(rows: &[u16], work: &[u16], t: u16, x: u16) -> u16
+    ensures { λ r. ⌜ r ≡ waitingIn (now (rows .entry)) (now (work .entry)) t x ⌝ }
 {
-    let p = area::newest_get(work, x, t);
-    if area::row_get(work, p, 10) != m.stretch {
+    let own = threads::thread_of(rows, t);
+    if own.oldest == 0 {
         return 0;
     }
-    let s = threads::thread_of(rows, t);
-    if s.committed < area::row_get(work, p, t) {
-        p
-    } else {
-        0
-    }
+    let p = area::newest_get(work, x, t);
+    if own.oldest <= p { p } else { 0 }
 }
 
 // The last store committed at location x in the stretch, 0 if there is none.
@@ -55,11 +52,15 @@ fn past(m: Machine, work: &[u16], x: u16, s: u16) -> bool
     area::row_get(work, s, t) <= area::slot_get(work, area::slots::commits(j, t))
 }
 
-// A crossing load at location x may have source s.
+// A crossing load at location x may have source s: none, that of the last counted load there, or another store of an
+// earlier stretch. The second is the third too; it is asked first since it is cheap.
 pub(crate) fn fits_across(m: Machine, work: &[u16], x: u16, s: u16) -> bool
     ensures { λ r. ⌜ r ≡ acrossIn (m .stretch) (now (work .entry)) x s ⌝ }
 {
     if s == 0 {
+        return true;
+    }
+    if s == area::slot_get(work, area::slots::load_source(x)) {
         return true;
     }
     past(m, work, x, s)
@@ -68,7 +69,7 @@ pub(crate) fn fits_across(m: Machine, work: &[u16], x: u16, s: u16) -> bool
 // ---- the rules that kinds share
 
 // 13: "event 2,049"; 7: "no such thread". No begin has more than eight threads.
-pub(crate) fn thread_rule(m: Machine, e: u16, t: u16) -> u16
+pub(crate) fn thread_rule(m: Machine, e: usize, t: u16) -> u16
     ensures { λ r. ⌜ r ≡ threadRule (m .threads) e t 0 ⌝ }
 {
     if 2048 < e {
@@ -81,7 +82,7 @@ pub(crate) fn thread_rule(m: Machine, e: u16, t: u16) -> u16
 }
 
 // 13, 7, or 8: "no such location". No begin has more than 256 locations.
-pub(crate) fn place_rule(m: Machine, e: u16, t: u16, x: u16) -> u16
+pub(crate) fn place_rule(m: Machine, e: usize, t: u16, x: u16) -> u16
     ensures { λ r. ⌜ r ≡ placeRule (m .threads) (m .locations) e t x 0 ⌝ }
 {
     let k = thread_rule(m, e, t);

@@ -1,9 +1,10 @@
-// What an event does. Each function makes the tests of its kind, in document 01's order, and turns the event away by the
-// first that fails; else it takes the step. An event that is turned away changes nothing.
+// What an event does. Each function makes the tests of its kind, in document 01's order, and turns the event away by
+// the first that fails; else it takes the step. An event that is turned away changes nothing.
 ghost use mathlib.Core.Path.{_≡_};
 ghost use mathlib.Core.List.{List};
 ghost use Prim.Native.Nat.{ℕ};
 ghost use Rattle.machine.specs.Twin.{stateOf, world};
+ghost use Rattle.machine.specs.Effects.{finishedWork};
 ghost use Rattle.machine.specs.Outcomes.{outcome, issueO, commitO, onlyO, acrossO, loadO, flushO, fenceO};
 ghost use Rattle.machine.specs.Outcomes.{crashO, skipO, stepO};
 use crate::clocks;
@@ -14,40 +15,41 @@ use crate::threads;
 use record::Fields;
 
 // "the store joins its thread's queue": its row, the link of the store before it, and the newest store at the location.
-fn issue(m: Machine, e: u16, rows: &mut [u16], work: &mut [u16], t: u16, x: u16) -> Step
-    ensures { λ r. ⌜ (outcome r (now (rows .exit)) (now (work .exit))
+fn issue(m: Machine, e: usize, rows: &mut [u16], work: &mut [u16], t: u16, x: u16) -> Step
+    ensures { λ r. ⌜ (outcome m e r (now (rows .exit)) (now (work .exit))
         ≡ issueO (world (stateOf m e (now (rows .entry))) (now (work .entry))) t x) ⌝ }
 {
     let k = rules::place_rule(m, e, t, x);
     if k != 0 {
-        return m.refuse(e, k);
+        return m.refuse(k);
     }
+    let store = e as u16;
     let old = threads::thread_of(rows, t);
-    let new = old.issue(e);
-    area::row_put(work, old.newest, 11, e);
-    clocks::stamp(rows, t, work, e);
-    area::row_put(work, e, t, new.issued);
-    area::row_put(work, e, 8, t);
-    area::row_put(work, e, 9, x);
-    area::row_put(work, e, 10, m.stretch);
-    area::newest_put(work, x, t, e);
+    let new = old.issue(store);
+    area::row_put(work, old.newest, 11, store);
+    clocks::stamp(rows, t, work, store);
+    area::row_put(work, store, t, new.issued);
+    area::row_put(work, store, 8, t);
+    area::row_put(work, store, 9, x);
+    area::row_put(work, store, 10, m.stretch);
+    area::newest_put(work, x, t, store);
     threads::put_issued(rows, t, new);
-    m.pass(e, false)
+    m.pass(false)
 }
 
-// "the oldest waiting store of the thread takes effect": it heads its location's chain of committed stores. 10: "commit,
-// empty queue".
-fn commit(m: Machine, e: u16, rows: &mut [u16], work: &mut [u16], t: u16) -> Step
-    ensures { λ r. ⌜ (outcome r (now (rows .exit)) (now (work .exit))
+// "the oldest waiting store of the thread takes effect": it heads its location's chain of committed stores. 10:
+// "commit, empty queue".
+fn commit(m: Machine, e: usize, rows: &mut [u16], work: &mut [u16], t: u16) -> Step
+    ensures { λ r. ⌜ (outcome m e r (now (rows .exit)) (now (work .exit))
         ≡ commitO (world (stateOf m e (now (rows .entry))) (now (work .entry))) t) ⌝ }
 {
     let k = rules::thread_rule(m, e, t);
     if k != 0 {
-        return m.refuse(e, k);
+        return m.refuse(k);
     }
     let old = threads::thread_of(rows, t);
     if old.issued == old.committed {
-        return m.refuse(e, 10);
+        return m.refuse(10);
     }
     let p = old.oldest;
     let x = area::row_get(work, p, 9);
@@ -56,48 +58,52 @@ fn commit(m: Machine, e: u16, rows: &mut [u16], work: &mut [u16], t: u16) -> Ste
     let new = old.commit(next);
     area::row_put(work, p, 14, link);
     area::slot_put(work, area::slots::last(x), p);
-    area::slot_put(work, area::slots::commits(m.stretch, t), new.committed);
     threads::put_committed(rows, t, new);
-    m.pass(e, false)
+    m.pass(false)
 }
 
 // A load whose source must be store `only`, of the stretch: it brings the store's clock to its thread. 9: "source
 // against the load rule".
-fn load_only(m: Machine, e: u16, rows: &mut [u16], work: &[u16], t: u16, s: u16, only: u16) -> Step
-    ensures { λ r. ⌜ (outcome r (now (rows .exit)) (now (work .entry))
+fn load_only(
+    m: Machine,
+    e: usize,
+    rows: &mut [u16],
+    work: &[u16],
+    t: u16,
+    s: u16,
+    only: u16,
+) -> Step
+    ensures { λ r. ⌜ (outcome m e r (now (rows .exit)) (now (work .entry))
         ≡ onlyO (world (stateOf m e (now (rows .entry))) (now (work .entry))) t s only) ⌝ }
 {
     if s != only {
-        return m.refuse(e, 9);
-    }
-    if area::row_get(work, s, 10) != m.stretch {
-        return m.pass(e, false);
+        return m.refuse(9);
     }
     clocks::meet(rows, t, work, s);
-    m.pass(e, false)
+    m.pass(false)
 }
 
 // A crossing load, which brings no clock. It counts if its thread is in no skip.
-fn load_across(m: Machine, e: u16, rows: &[u16], work: &[u16], t: u16, x: u16, s: u16) -> Step
-    ensures { λ r. ⌜ (outcome r (now (rows .entry)) (now (work .entry))
+fn load_across(m: Machine, e: usize, rows: &[u16], work: &[u16], t: u16, x: u16, s: u16) -> Step
+    ensures { λ r. ⌜ (outcome m e r (now (rows .entry)) (now (work .entry))
         ≡ acrossO (world (stateOf m e (now (rows .entry))) (now (work .entry))) t x s) ⌝ }
 {
     if !rules::fits_across(m, work, x, s) {
-        return m.refuse(e, 9);
+        return m.refuse(9);
     }
     let own = threads::thread_of(rows, t);
-    m.pass(e, !own.skip)
+    m.pass(!own.skip)
 }
 
-fn load(m: Machine, e: u16, rows: &mut [u16], work: &[u16], t: u16, x: u16, s: u16) -> Step
-    ensures { λ r. ⌜ (outcome r (now (rows .exit)) (now (work .entry))
+fn load(m: Machine, e: usize, rows: &mut [u16], work: &[u16], t: u16, x: u16, s: u16) -> Step
+    ensures { λ r. ⌜ (outcome m e r (now (rows .exit)) (now (work .entry))
         ≡ loadO (world (stateOf m e (now (rows .entry))) (now (work .entry))) t x s) ⌝ }
 {
     let k = rules::place_rule(m, e, t, x);
     if k != 0 {
-        return m.refuse(e, k);
+        return m.refuse(k);
     }
-    let p = rules::waiting(m, rows, work, t, x);
+    let p = rules::waiting(rows, work, t, x);
     if p != 0 {
         return load_only(m, e, rows, work, t, s, p);
     }
@@ -108,74 +114,90 @@ fn load(m: Machine, e: u16, rows: &mut [u16], work: &[u16], t: u16, x: u16, s: u
     load_across(m, e, rows, work, t, x, s)
 }
 
-fn flush(m: Machine, e: u16, t: u16, x: u16) -> Step
-    ensures { λ r. ⌜ ((rows l : List ℕ) → outcome r rows l ≡ flushO (world (stateOf m e rows) l) t x) ⌝ }
+fn flush(m: Machine, e: usize, t: u16, x: u16) -> Step
+    ensures { λ r. ⌜ ((rows l : List ℕ) → outcome m e r rows l ≡ flushO (world (stateOf m e rows) l) t x) ⌝ }
 {
     let k = rules::place_rule(m, e, t, x);
     if k != 0 {
-        return m.refuse(e, k);
+        return m.refuse(k);
     }
-    m.pass(e, false)
+    m.pass(false)
 }
 
 // 11: "mfence, queue not empty". An sfence, kind 7, has no rule of its own.
-fn fence(m: Machine, e: u16, rows: &[u16], kind: u16, t: u16) -> Step
-    ensures { λ r. ⌜ ((l : List ℕ) → outcome r (now (rows .entry)) l
+fn fence(m: Machine, e: usize, rows: &[u16], kind: u16, t: u16) -> Step
+    ensures { λ r. ⌜ ((l : List ℕ) → outcome m e r (now (rows .entry)) l
         ≡ fenceO (world (stateOf m e (now (rows .entry))) l) kind t) ⌝ }
 {
     let k = rules::thread_rule(m, e, t);
     if k != 0 {
-        return m.refuse(e, k);
+        return m.refuse(k);
     }
     if kind == 7 {
-        return m.pass(e, false);
+        return m.pass(false);
     }
     let own = threads::thread_of(rows, t);
     if own.issued == own.committed {
-        m.pass(e, false)
+        m.pass(false)
     } else {
-        m.refuse(e, 11)
+        m.refuse(11)
+    }
+}
+
+// The commits of each thread in stretch j, which a crash finishes, go to their table.
+fn note_commits(j: u16, rows: &[u16], work: &mut [u16])
+    ensures { λ _. ⌜ now (work .exit) ≡ finishedWork 8 j (now (rows .entry)) (now (work .entry)) ⌝ }
+{
+    let mut t: u16 = 0;
+    while t < 8 {
+        area::slot_put(
+            work,
+            area::slots::commits(j, t),
+            area::thread_get(rows, t, 11),
+        );
+        t += 1;
     }
 }
 
 // "drops waiting stores, ends skips and starts counts afresh". 13: "eighth crash".
-fn crash(m: Machine, e: u16, rows: &mut [u16]) -> Step
-    ensures { λ r. ⌜ ((l : List ℕ) → outcome r (now (rows .exit)) l
-        ≡ crashO (world (stateOf m e (now (rows .entry))) l)) ⌝ }
+fn crash(m: Machine, e: usize, rows: &mut [u16], work: &mut [u16]) -> Step
+    ensures { λ r. ⌜ (outcome m e r (now (rows .exit)) (now (work .exit))
+        ≡ crashO (world (stateOf m e (now (rows .entry))) (now (work .entry)))) ⌝ }
 {
     if 2048 < e {
-        return m.refuse(e, 13);
+        return m.refuse(13);
     }
     if m.stretch == 8 {
-        return m.refuse(e, 13);
+        return m.refuse(13);
     }
+    note_commits(m.stretch, rows, work);
     area::clear(rows);
     let after = m.crash();
-    after.pass(e, false)
+    after.pass(false)
 }
 
 // A skip on or off, kind 10 or 11.
-fn skip(m: Machine, e: u16, rows: &mut [u16], kind: u16, t: u16) -> Step
-    ensures { λ r. ⌜ ((l : List ℕ) → outcome r (now (rows .exit)) l
+fn skip(m: Machine, e: usize, rows: &mut [u16], kind: u16, t: u16) -> Step
+    ensures { λ r. ⌜ ((l : List ℕ) → outcome m e r (now (rows .exit)) l
         ≡ skipO (world (stateOf m e (now (rows .entry))) l) kind t) ⌝ }
 {
     let k = rules::thread_rule(m, e, t);
     if k != 0 {
-        return m.refuse(e, k);
+        return m.refuse(k);
     }
     let old = threads::thread_of(rows, t);
     let r = rules::skip_rule(kind, old.skip);
     if r != 0 {
-        return m.refuse(e, r);
+        return m.refuse(r);
     }
     let new = old.with_skip(kind == 10);
     threads::put_skip(rows, t, new);
-    m.pass(e, false)
+    m.pass(false)
 }
 
 // A later event, by its kind and fields. 5: a begin.
-pub fn step(m: Machine, e: u16, rows: &mut [u16], work: &mut [u16], kind: u16, f: Fields) -> Step
-    ensures { λ r. ⌜ (outcome r (now (rows .exit)) (now (work .exit))
+pub fn step(m: Machine, e: usize, rows: &mut [u16], work: &mut [u16], kind: u16, f: Fields) -> Step
+    ensures { λ r. ⌜ (outcome m e r (now (rows .exit)) (now (work .exit))
         ≡ stepO (world (stateOf m e (now (rows .entry))) (now (work .entry))) kind f) ⌝ }
 {
     let t = f.thread;
@@ -185,8 +207,8 @@ pub fn step(m: Machine, e: u16, rows: &mut [u16], work: &mut [u16], kind: u16, f
         4 => load(m, e, rows, work, t, f.location, f.source),
         5..=6 => flush(m, e, t, f.location),
         7..=8 => fence(m, e, rows, kind, t),
-        9 => crash(m, e, rows),
+        9 => crash(m, e, rows, work),
         10..=11 => skip(m, e, rows, kind, t),
-        _ => m.refuse(e, 5),
+        _ => m.refuse(5),
     }
 }

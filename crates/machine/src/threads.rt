@@ -1,8 +1,10 @@
 // A thread's state: its queue, its counts of the stretch, and whether it is in a skip, columns 8 to 12 of its row. The
 // methods hand the thread's new state back. The queue's stores are linked in the work area; here are its ends.
 ghost use mathlib.Core.Path.{_≡_};
+ghost use Prim.Native.Nat.{suc};
+ghost use Rattle.area.specs.Cells.{putRow};
 ghost use Rattle.machine.specs.Threads.{firstOf, bit, issuedT, committedT, skippedT, threadOf};
-ghost use Rattle.machine.specs.Threads.{putIssued, putCommitted, putSkip};
+ghost use Rattle.machine.specs.Threads.{KeepsOldest, putIssued, putCommitted, putSkip};
 
 pub struct Thread {
     // The oldest waiting store, 0 if there is none; the newest store of the stretch, waiting or not.
@@ -67,11 +69,23 @@ pub(crate) fn thread_of(rows: &[u16], t: u16) -> Thread
     }
 }
 
+// The oldest waiting store becomes this one. That of a queue that is not empty is this one already, and stays.
+fn put_oldest(rows: &mut [u16], t: u16, oldest: u16)
+    requires { ⌜ KeepsOldest (now rows) t oldest ⌝ }
+    ensures { λ _. ⌜ now (rows .exit) ≡ putRow (now (rows .entry)) (suc t) 8 oldest ⌝ }
+{
+    if area::thread_get(rows, t, 8) != 0 {
+        return;
+    }
+    area::thread_put(rows, t, 8, oldest);
+}
+
 // It becomes this one: what an issue changes.
 pub(crate) fn put_issued(rows: &mut [u16], t: u16, s: Thread)
+    requires { ⌜ KeepsOldest (now rows) t (s .oldest) ⌝ }
     ensures { λ _. ⌜ now (rows .exit) ≡ putIssued (now (rows .entry)) t s ⌝ }
 {
-    area::thread_put(rows, t, 8, s.oldest);
+    put_oldest(rows, t, s.oldest);
     area::thread_put(rows, t, 9, s.newest);
     area::thread_put(rows, t, 10, s.issued);
 }

@@ -1,7 +1,7 @@
 -- What an accepted trace has passed, and what that says of its loads: the list of refusals read backwards, for if the
 -- answer of a list of tests is 0, then every test in it failed.
 -- In order: the list read backwards, once; what an event has passed; what a counted load is; where a load's source
--- comes from (`source-from`, `counted-source`).
+-- comes from (`own-source`, `commit-source` and `crossing-source`, by case; `source-from`, `counted-source`).
 use Prim.Native.Nat.{ℕ, zero, suc, _≤_, _<_}
 use native.Mathlib.Omega.{arith}
 use mathlib.Core.Path.{_≡_, refl}
@@ -124,6 +124,7 @@ module _ (ev : ℕ → Event) where
     pub commit : ℕ
     pub commits : Commit ev commit
     pub before-load : commit < l
+    pub earlier : s < commit
     pub in-stretch : stretch ev commit ≡ stretch ev l
     pub of-thread : Beside commit s
     pub at-place : place ev s ≡ committedBy ev commit
@@ -163,6 +164,7 @@ module _ (ev : ℕ → Event) where
         commit = c;
         commits = record { test = commit-here .0 };
         before-load = chosen .0;
+        earlier = found .0;
         in-stretch = eqb-true _ _ (commit-here .1);
         of-thread = beside-is c (current ev l) (place-fits .0);
         at-place = eqb-true _ _ (place-fits .1);
@@ -181,8 +183,23 @@ module _ (ev : ℕ → Event) where
         kept = ltb-true _ _ (outer .1);
       }
 
-  -- the third case of the load rule
-  crossing-source :
+  -- the load rule's first case, its second, and its third
+  pub own-source : (l : ℕ) → sourceFits ev l ≡ true → waiting ev l ≢ 0 → FromOwn l (source ev l)
+  unfolding sourceFits
+  own-source l fits waits =
+      let is-it : source ev l ≡ waiting ev l = eqb-true _ _ (rw (ne-eqb (waiting ev l) 0 waits) at fits) in
+      rw is-it (waiting-is-own l waits)
+
+  pub commit-source :
+      (l : ℕ) → sourceFits ev l ≡ true → waiting ev l ≡ 0 → current ev l ≢ 0 → FromCommit l (source ev l)
+  unfolding sourceFits
+  commit-source l fits none-waits commits =
+      let is-it : source ev l ≡ current ev l =
+      eqb-true _ _ (rw (eq-eqb (waiting ev l) 0 none-waits, ne-eqb (current ev l) 0 commits) at fits)
+      in
+      rw is-it (current-is-committed l commits)
+
+  pub crossing-source :
       (l : ℕ) → sourceFits ev l ≡ true → waiting ev l ≡ 0 → current ev l ≡ 0 → source ev l ≢ 0
       → FromPast l (source ev l)
   unfolding sourceFits
@@ -199,22 +216,16 @@ module _ (ev : ℕ → Event) where
   module _ (N : ℕ) (accepted : Accepted ev N) where
     -- the source of a load, if it is a store
     pub source-from : (l : ℕ) → l < N → Load ev l → source ev l ≢ 0 → From l (source ev l)
-    unfolding sourceFits
-    source-from l inside loads some =
-        by-case (same? (waiting ev l) 0) (same? (current ev l) 0) (fitting N accepted l inside loads)
+    source-from l inside loads some = by-case (same? (waiting ev l) 0) (same? (current ev l) 0)
       where
+        fits : sourceFits ev l ≡ true
+        fits = fitting N accepted l inside loads
+
         by-case :
-            (waiting ev l ≡ 0) ⊎ (waiting ev l ≢ 0) → (current ev l ≡ 0) ⊎ (current ev l ≢ 0)
-            → sourceFits ev l ≡ true → From l (source ev l)
-        by-case (inr waits) either-way fits =
-            let is-it : source ev l ≡ waiting ev l = eqb-true _ _ (rw (ne-eqb (waiting ev l) 0 waits) at fits) in
-            rw is-it (from-own (waiting-is-own l waits))
-        by-case (inl none-waits) (inr commits) fits =
-            let is-it : source ev l ≡ current ev l =
-            eqb-true _ _ (rw (eq-eqb (waiting ev l) 0 none-waits, ne-eqb (current ev l) 0 commits) at fits)
-            in
-            rw is-it (from-commit (current-is-committed l commits))
-        by-case (inl none-waits) (inl none-current) fits =
+            (waiting ev l ≡ 0) ⊎ (waiting ev l ≢ 0) → (current ev l ≡ 0) ⊎ (current ev l ≢ 0) → From l (source ev l)
+        by-case (inr waits) either-way = from-own (own-source l fits waits)
+        by-case (inl none-waits) (inr commits) = from-commit (commit-source l fits none-waits commits)
+        by-case (inl none-waits) (inl none-current) =
             from-past (crossing-source l fits none-waits none-current some)
 
     -- the source of a counted load, if it is a store

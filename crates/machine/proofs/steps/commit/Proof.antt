@@ -20,7 +20,7 @@ returns c =
     let entry = at-thread-rule .before .before .before in
     let args = entry .args in
     rw (c .refuse .ensures)
-    (stopped _ _ _ _ _
+    (stopped _ _ _ _ _ _ _ _ _ _
     (thread-stops (args .m .threads) (args .e) (args .t) _ _ (at-thread-rule .thread-rule .ensures) (λ is. omega arith))
     (λ is. omega arith))
 
@@ -43,7 +43,7 @@ returns-2 c =
     let first : at-thread-rule .thread-rule .result ≡ 0 = omega arith in
     let empty = rw (at-thread-of .thread-of .ensures) at (eq-eqb _ _ (at-if2 .if2 .taken)) in
     rw (c .refuse2 .ensures)
-    (stopped _ _ _ _ _
+    (stopped _ _ _ _ _ _ _ _ _ _
     (thread-passes (args .m .threads) (args .e) (args .t) _ _ (at-thread-rule .thread-rule .ensures) first
     ∙ rw empty refl)
     (λ is. omega arith))
@@ -72,12 +72,6 @@ last-requires-2 c κs = search needs
 slot-put-requires : tie.Need-slot-put-requires
 slot-put-requires c κs = search needs
 
-commits-requires : tie.Need-commits-requires
-commits-requires c κs = search needs
-
-slot-put-requires-2 : tie.Need-slot-put-requires-2
-slot-put-requires-2 c κs = search needs
-
 put-committed-requires : tie.Need-put-committed-requires
 put-committed-requires c κs = search needs
 
@@ -93,9 +87,7 @@ same-length-3 c = search needs
 returns-3 : tie.Need-returns-3
 returns-3 c =
     let at-put-committed = c .before .before .before in
-    let at-slot-put2 = at-put-committed .before .before .before .before in
-    let at-commits = at-slot-put2 .before in
-    let at-slot-put = at-commits .before .before .before .before in
+    let at-slot-put = at-put-committed .before .before .before .before in
     let at-last2 = at-slot-put .before in
     let at-row-put = at-last2 .before .before .before .before in
     let at-commit = at-row-put .before .before in
@@ -112,7 +104,7 @@ returns-3 c =
     let first : at-thread-rule .thread-rule .result ≡ 0 = omega (arith, at-if1 .if1 .left) in
     let waits = rw (at-thread-of .thread-of .ensures) at (ne-eqb _ _ (at-if2 .if2 .left)) in
     rw (thread-passes (args .m .threads) (args .e) (args .t) _ _ (at-thread-rule .thread-rule .ensures) first, waits)
-    (commit-body _ _ _ _ _ _ _ _ _ _ _ _ _ _ _ _ _ _
+    (commit-body _ _ _ _ _ _ _ _ _ _ _ _ _ _ _ _
     (at-thread-of .thread-of .ensures)
     (at-row-get .row-get .ensures)
     (at-row-get2 .row-get2 .ensures)
@@ -122,8 +114,6 @@ returns-3 c =
     (at-row-put .row-put .ensures)
     (at-last2 .last2 .ensures)
     (at-slot-put .slot-put .ensures)
-    (at-commits .commits .ensures)
-    (at-slot-put2 .slot-put2 .ensures)
     (at-put-committed .put-committed .ensures)
     (c .pass .ensures))
 
@@ -146,8 +136,6 @@ commit-spec =
     row-put-requires
     last-requires-2
     slot-put-requires
-    commits-requires
-    slot-put-requires-2
     put-committed-requires
     pass-requires
     same-length-2

@@ -21,7 +21,7 @@ returns c l =
     let entry = at-thread-rule .before .before in
     let args = entry .args in
     rw (c .refuse .ensures)
-    (stopped _ _ _ _ _
+    (stopped _ _ _ _ _ _ _ _ _ _
     (thread-stops (args .m .threads) (args .e) (args .t) _ _ (at-thread-rule .thread-rule .ensures) (λ is. omega arith))
     (λ is. omega arith))
 
@@ -80,7 +80,7 @@ returns-4 c l =
     let first : at-thread-rule .thread-rule .result ≡ 0 = omega (arith, at-if1 .if1 .left) in
     let waits = rw (at-thread-of .thread-of .ensures) at (ne-eqb _ _ (at-if3 .if3 .left)) in
     rw (c .refuse2 .ensures)
-    (stopped _ _ _ _ _
+    (stopped _ _ _ _ _ _ _ _ _ _
     (thread-passes (args .m .threads) (args .e) (args .t) _ _ (at-thread-rule .thread-rule .ensures) first
     ∙ rw (ne-eqb _ _ (at-if2 .if2 .left), waits) refl)
     (λ is. omega arith))

@@ -17,7 +17,7 @@ refuse-requires c κs = search needs
 returns : tie.Need-returns
 returns c rows l =
     rw (c .refuse .ensures)
-    (stopped _ _ _ _ _ (sym (c .before .before .place-rule .ensures)) (λ is. omega arith))
+    (stopped _ _ _ _ _ _ _ _ _ _ (sym (c .before .before .place-rule .ensures)) (λ is. omega arith))
 
 pass-requires : tie.Need-pass-requires
 pass-requires c κs = search needs

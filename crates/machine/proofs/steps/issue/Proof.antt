@@ -1,8 +1,8 @@
 -- The rule, then the calls, one after the other: `issue-body` puts together what they ensure. Assumes nothing.
 use mathlib.Core.Path.{_≡_, sym, _∙_}
 use native.Mathlib.Omega.{arith}
-use Rattle.machine.proofs.RuleLaws.{stopped}
-use Rattle.machine.proofs.Bodies.{issue-body}
+use Rattle.machine.proofs.RuleLaws.{at-in-time, stopped}
+use Rattle.machine.proofs.Bodies.{issue-keeps, issue-body}
 use borrow.Author.Needs.{needs}
 use Rattle.machine.proofs.steps.issue.Statement.{statement}
 use Rattle.machine.proofs.steps.issue.Tie as tie
@@ -16,7 +16,18 @@ refuse-requires c κs = search needs
 returns : tie.Need-returns
 returns c =
     rw (c .refuse .ensures)
-    (stopped _ _ _ _ _ (sym (c .before .before .place-rule .ensures)) (λ is. omega arith))
+    (stopped _ _ _ _ _ _ _ _ _ _ (sym (c .before .before .place-rule .ensures)) (λ is. omega arith))
+
+cast-store : tie.Need-cast-store
+cast-store c =
+    let at-place-rule = c .before in
+    let args = at-place-rule .before .before .before .args in
+    let passes : at-place-rule .place-rule .result ≡ 0 = omega (arith, c .if1 .left) in
+    let small =
+    at-in-time (args .m .threads) (args .e) (args .t) (args .m .locations) (args .x) _
+    (at-place-rule .place-rule .ensures) passes
+    in
+    omega (arith, small)
 
 thread-of-requires : tie.Need-thread-of-requires
 thread-of-requires c κs = search needs
@@ -46,7 +57,16 @@ newest-put-requires : tie.Need-newest-put-requires
 newest-put-requires c κs = search needs
 
 put-issued-requires : tie.Need-put-issued-requires
-put-issued-requires c κs = search needs
+put-issued-requires c κs =
+    let at-newest-put = c .before .before .before in
+    let at-row-put5 = at-newest-put .before .before .before .before in
+    let at-row-put4 = at-row-put5 .before .before .before .before in
+    let at-row-put3 = at-row-put4 .before .before .before .before in
+    let at-row-put2 = at-row-put3 .before .before .before .before in
+    let at-stamp = at-row-put2 .before .before .before .before in
+    let at-row-put = at-stamp .before .before .before .before .before in
+    let at-issue = at-row-put .before .before in
+    issue-keeps _ _ _ _ _ (at-issue .before .thread-of .ensures) (at-issue .issue .ensures)
 
 pass-requires : tie.Need-pass-requires
 pass-requires c κs = search needs
@@ -102,6 +122,7 @@ issue-spec =
     place-rule-requires
     refuse-requires
     returns
+    cast-store
     thread-of-requires
     issue-requires
     row-put-requires

@@ -20,7 +20,7 @@ returns c =
     let entry = at-place-rule .before .before .before in
     let args = entry .args in
     rw (c .refuse .ensures)
-    (stopped _ _ _ _ _
+    (stopped _ _ _ _ _ _ _ _ _ _
     (at-stops (args .m .threads) (args .e) (args .t) (args .m .locations) (args .x) _ _
     (at-place-rule .place-rule .ensures) (λ is. omega arith))
     (λ is. omega arith))

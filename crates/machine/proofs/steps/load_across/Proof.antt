@@ -1,11 +1,10 @@
--- The rule; the source of a crossing load is none, or of an earlier stretch, so no clock comes with it. Assumes nothing.
+-- The rule; behind it nothing changes. Assumes nothing.
 use mathlib.Core.Path.{refl}
 use native.Mathlib.Omega.{arith}
 use borrow.Author.Tests.{not-true, not-false}
 use Rattle.machine.specs.Twin.{withRows}
 use Rattle.machine.specs.Effects.{passW}
 use Rattle.machine.proofs.RuleLaws.{stopped, passes}
-use Rattle.machine.proofs.Loading.{across-passes}
 use borrow.Author.Needs.{needs}
 use Rattle.machine.proofs.steps.load_across.Statement.{statement}
 use Rattle.machine.proofs.steps.load_across.Tie as tie
@@ -22,7 +21,7 @@ returns c =
     let at-fits-across = at-if1 .before in
     let called = at-fits-across .fits-across in
     let off = rw (called .ensures) at (not-true (called .result) (at-if1 .if1 .taken)) in
-    rw (c .refuse .ensures) (stopped _ _ _ _ _ (rw off refl) (λ is. omega arith))
+    rw (c .refuse .ensures) (stopped _ _ _ _ _ _ _ _ _ _ (rw off refl) (λ is. omega arith))
 
 thread-of-requires : tie.Need-thread-of-requires
 thread-of-requires c κs = search needs
@@ -38,8 +37,7 @@ returns-2 c =
     let at-fits-across = at-if1 .before in
     let called = at-fits-across .fits-across in
     let on = rw (called .ensures) at (not-false (called .result) (at-if1 .if1 .left)) in
-    rw (c .pass .ensures, at-thread-of .thread-of .ensures, across-passes _ _ _ _ on)
-    (passes _ _ _ _ (rw on refl))
+    rw (c .pass .ensures, at-thread-of .thread-of .ensures) (passes _ _ _ _ (rw on refl))
 
 pub load-across-spec : {M : Type 1} → statement M
 load-across-spec =

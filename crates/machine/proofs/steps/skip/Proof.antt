@@ -20,7 +20,7 @@ returns c l =
     let entry = at-thread-rule .before .before in
     let args = entry .args in
     rw (c .refuse .ensures)
-    (stopped _ _ _ _ _
+    (stopped _ _ _ _ _ _ _ _ _ _
     (thread-stops (args .m .threads) (args .e) (args .t) _ _ (at-thread-rule .thread-rule .ensures) (λ is. omega arith))
     (λ is. omega arith))
 
@@ -47,7 +47,7 @@ returns-2 c l =
     let first : at-thread-rule .thread-rule .result ≡ 0 = omega (arith, at-if1 .if1 .left) in
     let own = rw (at-thread-of .thread-of .ensures) at (at-skip-rule .skip-rule .ensures) in
     rw (c .refuse2 .ensures)
-    (stopped _ _ _ _ _
+    (stopped _ _ _ _ _ _ _ _ _ _
     (thread-passes (args .m .threads) (args .e) (args .t) _ _ (at-thread-rule .thread-rule .ensures) first ∙ sym own)
     (λ is. omega arith))
 

@@ -76,12 +76,15 @@ returns-3 c =
 same-length-7 : tie.Need-same-length-7
 same-length-7 c = search needs
 
+same-length-8 : tie.Need-same-length-8
+same-length-8 c = search needs
+
 returns-4 : tie.Need-returns-4
 unfolding stepO byKind
 returns-4 c =
-    let at-crash = c .before .before in
-    let at-match = at-crash .before .before in
-    rw (at-match .match .keys4) (at-crash .crash .ensures _)
+    let at-crash = c .before .before .before .before in
+    let at-match = at-crash .before .before .before in
+    rw (at-match .match .keys4) (at-crash .crash .ensures)
 
 returns-5 : tie.Need-returns-5
 unfolding stepO
@@ -91,15 +94,15 @@ returns-5 c =
     let low = behind-load _ (at-low .if1 .left) (others .0 .0 .0 .1) (others .0 .0 .1) (others .0 .1) in
     c .flush .ensures _ _ ∙ flush-arm _ _ _ _ _ _ _ _ _ low (le-of-suc-le-suc (c .before .if2 .taken))
 
-same-length-8 : tie.Need-same-length-8
-same-length-8 c = search needs
+same-length-9 : tie.Need-same-length-9
+same-length-9 c = search needs
 
 returns-6 : tie.Need-returns-6
 unfolding stepO
 returns-6 c = c .fence .ensures _ ∙ fence-arm _ _ _ _ _ _ _ _ _ (omega arith) (omega arith)
 
-same-length-9 : tie.Need-same-length-9
-same-length-9 c = search needs
+same-length-10 : tie.Need-same-length-10
+same-length-10 c = search needs
 
 returns-7 : tie.Need-returns-7
 unfolding stepO
@@ -141,10 +144,11 @@ step-spec =
     same-length-6
     returns-3
     same-length-7
+    same-length-8
     returns-4
     returns-5
-    same-length-8
-    returns-6
     same-length-9
+    returns-6
+    same-length-10
     returns-7
     returns-8)
