@@ -33,7 +33,7 @@ use Rattle.marks.specs.Testing.{inCut, walkHits, hitAt, hits, loadHits}
 use Rattle.marks.specs.Judged.{lastIn}
 use Rattle.marks.proofs.Turns.{hits-end, hits-turn}
 use Rattle.marks.proofs.Frames.{within-judging, marked-leaves, loaded-leaves, linked-leaves, rows-leave}
-use Rattle.marks.proofs.Says.{Fit, fits, PlaceOf, AtMost, Says, in-cut→, →in-cut, mark-says}
+use Rattle.marks.proofs.Says.{Fit, fits, PlaceOf, AtMost, Says, in-cut→, →in-cut, fit-can-mark, mark-says}
 use Rattle.marks.proofs.Walking.{AllFit}
 use Rattle.marks.proofs.Stepping.{Judging, all-fit, chain-short, chain-linked, source-fits, load-step}
 
@@ -143,7 +143,7 @@ module _ (ev : ℕ → Event) where
   walk-finds (q ∷ ps) zero n w h s F O C rows links fit enough says = absurd (omega arith)
   walk-finds (q ∷ ps) (suc k) n w h s F O C rows links fit enough says =
       let leaves = within-judging (marked-leaves w q) in
-      rw (links .0, hits-turn k w q s (λ is-0. omega (arith, fit .0 .from-1)))
+      rw (links .0, hits-turn k w q s (λ is-0. omega (arith, fit .0 .from-1)), fit-can-mark ev n w rows q (fit .0))
       (finds-more C s q ps (inCut w q) _ (in-cut→ ev n w rows q (fit .0) says) (→in-cut ev n w rows q (fit .0) says)
       (walk-finds ps k n (marked w q) (getRow w q 14) s (λ p. eqb q p || F p) O C (rows-leave leaves rows)
       (linked-leaves leaves (getRow w q 14) ps (links .1)) (fit .1) (omega arith)

@@ -8,6 +8,7 @@ use mathlib.Core.List.{List, [], _∷_, _++_}
 use lib.ListN.{length, drop, length-append}
 use lib.Seq.{drop-cons, set-at, append-snoc, drop-length}
 use lib.Dec.{ltb}
+use borrow.Author.Tests.{ltb-true}
 use Rattle.record.specs.declared.events.Event.{Event}
 use Rattle.model.specs.Trace.{stretch, commits}
 use Rattle.model.specs.Rules.{Accepted}
@@ -86,17 +87,19 @@ module _ (ev : ℕ → Event) (N : ℕ) (accepted : Accepted ev N) (w : List ℕ
   module _ (rows : Rows ev N w) where
     done-at-is : (i : ℕ) → i < 56 → doneAt w (stretch ev N) i ≡ finished ev N (i / 8 + 1) (i % 8)
     unfolding finished
-    done-at-is i there = by-test (ltb (i / 8 + 1) (stretch ev N))
+    done-at-is i there = by-test (ltb (i / 8 + 1) (stretch ev N)) refl
       where
-        commits-at : cell w (368 + i) ≡ commits ev N (i / 8 + 1) (i % 8)
-        commits-at =
+        commits-at : i / 8 + 1 < stretch ev N → cell w (368 + i) ≡ commits ev N (i / 8 + 1) (i % 8)
+        commits-at done =
             let at-slot : 368 + i ≡ commitsSlot (i / 8 + 1) (i % 8) = omega arith in
             ap (λ (k : ℕ). cell w k) at-slot
-            ∙ rows .commits-are (i / 8 + 1) (i % 8) (omega arith) (omega arith) (omega arith)
+            ∙ rows .commits-are (i / 8 + 1) (i % 8) (omega arith) (omega arith) done (omega arith)
 
-        by-test : (b : Bool) → cond b (cell w (368 + i)) 0 ≡ cond b (commits ev N (i / 8 + 1) (i % 8)) 0
-        by-test true = commits-at
-        by-test false = refl
+        by-test :
+            (b : Bool) → ltb (i / 8 + 1) (stretch ev N) ≡ b
+            → cond b (cell w (368 + i)) 0 ≡ cond b (commits ev N (i / 8 + 1) (i % 8)) 0
+        by-test true done = commits-at (ltb-true (i / 8 + 1) (stretch ev N) done)
+        by-test false _ = refl
 
     done-table : tabulate 56 (doneAt w (stretch ev N)) ≡ cutOf (finished ev N)
     unfolding cutOf

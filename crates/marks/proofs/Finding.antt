@@ -22,7 +22,7 @@ use Rattle.area.specs.Rows.{StoreRow, Rows}
 use Rattle.area.proofs.ReadBack.{row-zero}
 use Rattle.marks.specs.Marking.{ownIn}
 use Rattle.marks.specs.Testing.{inCut, isForbidden, isObserved, missingIn, observedIn, missingBy, observedBy}
-use Rattle.marks.proofs.Says.{Fit, own-is, in-cut→, →in-cut}
+use Rattle.marks.proofs.Says.{Fit, fit-later, own-is, in-cut→, →in-cut}
 use Rattle.marks.proofs.Stepping.{Judging}
 use Rattle.marks.proofs.Breaking.{marked-fits}
 
@@ -50,9 +50,14 @@ observed-bits true false = refl
 observed-bits false true = refl
 observed-bits false false = refl
 
+-- over the first N events, whose loads the marks tell of; the rows may be those of more events
 module _
-    (ev : ℕ → Event) (N : ℕ) (accepted : Accepted ev N) (few : N ≤ 2049)
-    (w : List ℕ) (rows : Rows ev N w) (judging : Judging ev N w) where
+    (ev : ℕ → Event) (N M : ℕ) (accepted : Accepted ev N) (few : N ≤ 2049) (within : N ≤ M)
+    (w : List ℕ) (rows : Rows ev M w) (judging : Judging ev N w) where
+  -- a marked store, among the rows
+  marked-row : (p : ℕ) → marked? ev N p ≡ true → Fit ev M p
+  marked-row p marked = fit-later ev N M p within (marked-fits ev N accepted p marked)
+
   flag-forbidden : (p : ℕ) → 1 ≤ p → p ≤ 2048 → isForbidden (getRow w p 12) ≡ marked? ev N p
   flag-forbidden p from-1 to-2048 =
       ap isForbidden (judging .flags p from-1 to-2048) ∙ forbidden-bits (marked? ev N p) (observed? ev N p)
@@ -74,14 +79,14 @@ module _
           false-true (sym (ap isForbidden no-flag) ∙ forbidden)
       to-hit (inr some) (forbidden, in-cut) =
           let marked : marked? ev N p ≡ true = sym (flag-forbidden p (omega arith) to-2048) ∙ forbidden in
-          →hit ev N accepted p marked (in-cut→ ev N w rows p (marked-fits ev N accepted p marked) judging in-cut)
+          →hit ev N accepted p marked (in-cut→ ev M w rows p (marked-row p marked) judging in-cut)
 
       from-hit : hit? ev N p ≡ true → missingIn w p ≡ true
       from-hit hit =
           let (marked, inside) = hit→ ev N accepted p hit in
-          let fit = marked-fits ev N accepted p marked in
+          let fit = marked-row p marked in
           both _ _ (flag-forbidden p (fit .from-1) (fit .to-2048) ∙ marked)
-          (→in-cut ev N w rows p fit judging inside)
+          (→in-cut ev M w rows p fit judging inside)
 
   pub missing-is : missingBy w N ≡ missingOf ev N
   unfolding missingBy missingOf
@@ -92,8 +97,8 @@ module _
   -- ---- observed
 
   module _ (m : ℕ) (marked : marked? ev N m ≡ true) where
-    fit : Fit ev N m
-    fit = marked-fits ev N accepted m marked
+    fit : Fit ev M m
+    fit = marked-row m marked
 
     row : StoreRow ev w m
     row = rows .stores m (fit .early) (fit .store)
@@ -108,7 +113,7 @@ module _
     observed-row q passes =
         let observed = observed→ ev N q passes in
         let kept = observed-is-kept ev N accepted q observed in
-        let it = rows .stores q (kept .early) (kept .store) in
+        let it = rows .stores q (omega (arith, kept .early)) (kept .store) in
         record {
           from-1 = positive q (observed .2 .some-store);
           stretch-is = it .stretch-is;
@@ -133,7 +138,7 @@ module _
         (sym (row .stretch-is) ∙ (sym in-stretch ∙ it .stretch-is))
         in
         both _ _ (both _ _ (both _ _ forbidden observed) same-stretch)
-        (lt-ltb (place ev m) (vc ev q (thread ev m)) (omega (arith, own-is ev N w rows m fit, it .clock-is)))
+        (lt-ltb (place ev m) (vc ev q (thread ev m)) (omega (arith, own-is ev M w rows m fit, it .clock-is)))
 
     from-pair : (q : ℕ) → q ≤ 2048 → pair? ev N m q ≡ true → observedIn w m q ≡ true
     unfolding pair?
@@ -148,7 +153,7 @@ module _
         in
         let covers : place ev m < vc ev q (thread ev m) = ltb-true _ _ (with-clock .1) in
         both _ _ (both _ _ (flag-observed q (it .from-1) to-2048 ∙ observed) (eq-eqb _ _ in-stretch))
-        (le-leb (ownIn w m) (getRow w q (getRow w m 8)) (omega (arith, own-is ev N w rows m fit, it .clock-is)))
+        (le-leb (ownIn w m) (getRow w q (getRow w m 8)) (omega (arith, own-is ev M w rows m fit, it .clock-is)))
 
     observed-is-pair : (q : ℕ) → q ≤ 2048 → observedIn w m q ≡ pair? ev N m q
     observed-is-pair q to-2048 = same-test _ _ to from

@@ -17,8 +17,8 @@ use Rattle.area.specs.Cells.{getRow, putRow, cell, putCell}
 use Rattle.area.specs.Tables.{lastSlot, cutSlot, commitsSlot, loadLastSlot, loadSourceSlot}
 use Rattle.area.specs.Rows.{Linked, StoreRow, Rows, JudgingSlot, ButJudging}
 use Rattle.area.proofs.ReadBack.{length-put, put-other}
-use Rattle.marks.specs.Marking.{observe, lower, putMark, ownIn, lowIn, marked, walked, raised}
-use Rattle.marks.specs.Marking.{seenFrom, loaded}
+use Rattle.marks.specs.Marking.{forbid, observe, lower, putMark, ownIn, lowIn, canMark, marked}
+use Rattle.marks.specs.Marking.{walked, raised, seenFrom, loaded}
 use Rattle.marks.specs.Testing.{cutIn}
 use Rattle.marks.specs.Judged.{lastIn, repeated, noted, judged}
 
@@ -91,9 +91,9 @@ rows-leave {ev} {n} {w} {v} leaves rows = record {
   chains = λ x there.
       rw (leaves .slots (lastSlot x) (machine x there))
       (linked-leaves leaves (cell w (lastSlot x)) (landed ev n x) (rows .chains x there));
-  commits-are = λ j t from-1 to-8 there.
-      leaves .slots (commitsSlot j t) (commits-slot j t from-1 to-8 there)
-      ∙ rows .commits-are j t from-1 to-8 there;
+  commits-are = λ j t from-1 to-7 finished there.
+      leaves .slots (commitsSlot j t) (commits-slot j t from-1 to-7 there)
+      ∙ rows .commits-are j t from-1 to-7 finished there;
 }
   where
     machine : (x : ℕ) → x < 256 → JudgingSlot x → ⊥
@@ -103,8 +103,8 @@ rows-leave {ev} {n} {w} {v} leaves rows = record {
         by-case (inl marks) = omega (arith, marks .0)
         by-case (inr loads) = omega (arith, loads .0)
 
-    commits-slot : (j t : ℕ) → 1 ≤ j → j ≤ 8 → t < 8 → JudgingSlot (commitsSlot j t) → ⊥
-    commits-slot j t from-1 to-8 there ours = by-case (ours .in-range)
+    commits-slot : (j t : ℕ) → 1 ≤ j → j ≤ 7 → t < 8 → JudgingSlot (commitsSlot j t) → ⊥
+    commits-slot j t from-1 to-7 there ours = by-case (ours .in-range)
       where
         by-case :
             ((256 ≤ commitsSlot j t) × (commitsSlot j t < 368)) ⊎ ((496 ≤ commitsSlot j t) × (commitsSlot j t < 1008))
@@ -156,14 +156,24 @@ put-mark-other w i v k differs = by-tests (ltb i 256) (ltb 367 i)
 -- marking a store leaves the cut of its stretch and thread
 pub marked-keeps-cut : (w : List ℕ) (p : ℕ) → cell (marked w p) (cutIn w p) ≡ cell w (cutIn w p)
 unfolding marked
-marked-keeps-cut w p =
-    put-other (putMark w (lowIn w p) _) p 12 _ (suc (cutIn w p)) 13 (λ same-row same-column. omega arith)
-    ∙ put-mark-other w (lowIn w p) _ (cutIn w p) (λ same. omega arith)
+marked-keeps-cut w p = by-test (canMark w p) _ (put-mark-other w (lowIn w p) _ (cutIn w p) (λ same. omega arith))
+  where
+    by-test :
+        (can : Bool) (v : List ℕ) → cell v (cutIn w p) ≡ cell w (cutIn w p)
+        → cell (cond can (putRow v p 12 (forbid (getRow w p 12))) w) (cutIn w p) ≡ cell w (cutIn w p)
+    by-test false v kept = refl
+    by-test true v kept = put-other v p 12 _ (suc (cutIn w p)) 13 (λ same-row same-column. omega arith) ∙ kept
 
 pub marked-leaves : (w : List ℕ) (p : ℕ) → ButMarks w (marked w p)
 unfolding marked
 marked-leaves w p =
-    then (put-mark-leaves w (lowIn w p) (lower (cell w (lowIn w p)) (ownIn w p))) (flag-leaves _ p _)
+    by-test (canMark w p) (put-mark-leaves w (lowIn w p) (lower (cell w (lowIn w p)) (ownIn w p)))
+  where
+    by-test :
+        (can : Bool) {v : List ℕ} → ButMarks w v
+        → ButMarks w (cond can (putRow v p 12 (forbid (getRow w p 12))) w)
+    by-test false low = no-change w
+    by-test true {v} low = then low (flag-leaves v p _)
 
 pub walked-leaves : (n : ℕ) (w : List ℕ) (h s : ℕ) → ButMarks w (walked n w h s)
 unfolding walked
@@ -185,8 +195,13 @@ raised-leaves (suc u) w s j = then (raised-leaves u w s j) (put-mark-leaves (rai
 seen-leaves : (w : List ℕ) (s : ℕ) → ButMarks w (seenFrom w s)
 unfolding seenFrom
 seen-leaves w s =
-    let flagged = putRow w s 12 (observe (getRow w s 12)) in
-    then (flag-leaves w s (observe (getRow w s 12))) (raised-leaves 8 flagged s (getRow w s 10))
+    let j = getRow w s 10 in
+    then (flag-leaves w s (observe (getRow w s 12))) (by-tests _ j (eqb j 0) (ltb 7 j))
+  where
+    by-tests : (v : List ℕ) (j : ℕ) (none past : Bool) → ButMarks v (cond none v (cond past v (raised 8 v s j)))
+    by-tests v j true past = no-change v
+    by-tests v j false true = no-change v
+    by-tests v j false false = raised-leaves 8 v s j
 
 pub loaded-leaves : (w : List ℕ) (h s : ℕ) → ButMarks w (loaded w h s)
 unfolding loaded

@@ -1,8 +1,8 @@
--- For the fold over a trace: the invariant of judging, its start, its steps and its two ends. While no pair is found,
--- the rows of the machine and the marks say what the definitions say of the first n events. A counted load that breaks
--- gives the ruling of every accepted trace that begins with these events, so later records need nothing of the marks.
--- In order: `Good`; `good-start`; the machine's steps, `good-quiet`; the counted load, `good-load` and `good-breaks`;
--- `good-robust`.
+-- For the fold over a trace: the invariants of judging, their start, their steps and their two ends. While no pair is
+-- found, the rows of the machine and the marks say what the definitions say of the first n events. Behind a counted
+-- load that breaks the marks stay those of the events up to it; at the end of an accepted trace they give its ruling.
+-- In order: `Good` and `Broke`; `good-start`; the machine's steps, `good-quiet` and `broke-stays`; the counted load,
+-- `good-load` and `good-breaks`; the ends, `broke-ruling` and `good-robust`.
 use Prim.Native.Nat.{ℕ, suc, _≤_, _<_}
 use native.Mathlib.Omega.{arith}
 use mathlib.Core.Path.{_≡_, refl, sym, _∙_, ap₂}
@@ -12,7 +12,7 @@ use mathlib.Core.List.{List}
 use lib.ListN.{length}
 use Rattle.record.specs.declared.events.Event.{Event}
 use Rattle.model.specs.Search.{some, most}
-use Rattle.model.specs.Trace.{location, source, commit?, Issue, stretch, count}
+use Rattle.model.specs.Trace.{location, source, commit?, crash?, Issue, stretch, count}
 use Rattle.model.specs.Machine.{counted}
 use Rattle.model.specs.Stores.{landed}
 use Rattle.model.specs.Rules.{Accepted}
@@ -21,8 +21,8 @@ use Rattle.model.specs.Verdict.{forbidden?, observed?, bad?, closure}
 use Rattle.model.specs.Verdict.{missingOf, observedOf, rulingOf}
 use Rattle.model.specs.Answers.{cutOf, shareOf}
 use Rattle.model.proofs.Searching.{false-true, test, same?}
-use Rattle.model.proofs.Counting.{count-skip}
-use Rattle.model.proofs.Roles.{load-no-issue, load-no-commit}
+use Rattle.model.proofs.Counting.{stretch-else, count-skip}
+use Rattle.model.proofs.Roles.{load-no-issue, load-no-commit, load-no-crash}
 use Rattle.model.proofs.Acceptance.{event-bound, counted-crosses}
 use Rattle.model.proofs.Ranges.{load-has-location, location-bound}
 use Rattle.model.proofs.RulingSteps.{marked?, uncounted-no-worse, robust-ruling, broken-ruling}
@@ -45,13 +45,21 @@ use Rattle.marks.proofs.Noting.{Loads, loads-start, loads-later, last-i
 use Rattle.marks.proofs.Noting.{noted-says, noted-loads}
 
 module _ (ev : ℕ → Event) where
-  -- ---- the invariant
+  -- ---- the invariants
 
   pub record Good (n : ℕ) (w : List ℕ) : Type 0 where
     pub rows : Rows ev n w
     pub judging : Judging ev n w
     pub no-pair : bad? ev n ≡ false
     pub loads : Loads ev n w
+
+  -- behind the first load that breaks
+  pub record Broke (load : ℕ) (w : List ℕ) : Type 0 where
+    pub accepted : Accepted ev (suc load)
+    pub no-pair-before : bad? ev load ≡ false
+    pub pair : bad? ev (suc load) ≡ true
+    pub judging : Judging ev (suc load) w
+    pub loads : Loads ev (suc load) w
 
   -- ---- the start: a cleared work area
 
@@ -63,7 +71,7 @@ module _ (ev : ℕ → Event) where
       stores = λ p early store. absurd (omega arith);
       others = λ p none. empty p 10;
       chains = λ x there. empty (suc (lastSlot x)) 13;
-      commits-are = λ j t from-1 to-8 there. empty (suc (commitsSlot j t)) 13;
+      commits-are = λ j t from-1 to-7 finished there. empty (suc (commitsSlot j t)) 13;
     };
     judging = record {
       flags = λ e from-1 to-2048. empty e 12;
@@ -100,17 +108,24 @@ module _ (ev : ℕ → Event) where
       loads = loads-kept n (suc n) (omega arith) (good .loads);
     }
 
+    -- that of any event
+    pub broke-stays : (load : ℕ) → Broke load w → Broke load v
+    broke-stays load broke = record {
+      accepted = broke .accepted;
+      no-pair-before = broke .no-pair-before;
+      pair = broke .pair;
+      judging = judging-kept (suc load) (broke .judging);
+      loads = loads-kept (suc load) (suc load) (omega arith) (broke .loads);
+    }
+
   -- ---- a counted load
 
-  -- event n's load judged: the work area after it, whether it breaks, and the missing store that is then found
+  -- event n's load judged: the work area after it, and whether it breaks
   abbrev pub afterLoad : ℕ → List ℕ → List ℕ
   afterLoad n w = judged w (location ev n) (source ev n)
 
   abbrev pub breaksThere : ℕ → List ℕ → Bool
   breaksThere n w = breaks w (location ev n) (source ev n)
-
-  abbrev pub missingThere : ℕ → List ℕ → ℕ
-  missingThere n w = missingBy (afterLoad n w) (suc n)
 
   module _
       (n : ℕ) (accepted : Accepted ev (suc n)) (counts : counted ev n ≡ true) (w : List ℕ) (good : Good n w) where
@@ -127,7 +142,7 @@ module _ (ev : ℕ → Event) where
     x-there =
         location-bound ev (suc n) accepted n (omega arith) (load-has-location ev (counted-crosses ev n counts .loads))
 
-    -- a load is neither issue nor commit, so the rows stay those of the first events
+    -- a load is neither issue nor commit nor crash, so the rows stay those of the first events
     rows-next : (v : List ℕ) → Rows ev n v → Rows ev (suc n) v
     rows-next v rows = record {
       room = rows .room;
@@ -135,12 +150,16 @@ module _ (ev : ℕ → Event) where
       others = λ p none. rows .others p (λ early store. none (omega arith) store);
       chains = λ y there.
           rw (landed-away ev n y (λ commits _. false-true (sym no-commit ∙ commits .test))) (rows .chains y there);
-      commits-are = λ i t from-1 to-8 there.
-          rows .commits-are i t from-1 to-8 there ∙ sym (count-skip ev _ n i t no-commit);
+      commits-are = λ i t from-1 to-7 finished there.
+          rows .commits-are i t from-1 to-7 (rw (stretch-else ev n no-crash) at finished) there
+          ∙ sym (count-skip ev _ n i t no-commit);
     }
       where
         no-commit : commit? ev n ≡ false
         no-commit = load-no-commit ev (counted-crosses ev n counts .loads)
+
+        no-crash : crash? ev n ≡ false
+        no-crash = load-no-crash ev (counted-crosses ev n counts .loads)
 
         earlier : (p : ℕ) → p < suc n → Issue ev p → (p ≡ n) ⊎ (p ≢ n) → p < n
         earlier p early store (inr differs) = omega arith
@@ -212,25 +231,35 @@ module _ (ev : ℕ → Event) where
       loads = judged-loads;
     }
 
-    -- A COUNTED LOAD that breaks: the ruling of every accepted trace that begins with these events
-    pub good-breaks :
-        (N : ℕ) → Accepted ev N → n < N → breaksThere n w ≡ true
-        → rulingOf ev N ≡ broken n (missingThere n w) (observedBy (afterLoad n w) (suc n) (missingThere n w))
-    good-breaks N whole inside breaks-it =
-        broken-ruling ev N n whole inside (good .no-pair) bad ∙ sym (ap₂ (broken n) missing observed)
-      where
-        bad : bad? ev (suc n) ≡ true
-        bad = sym breaks-is-bad ∙ breaks-it
+    -- A COUNTED LOAD that breaks leaves the marks of the events up to it
+    pub good-breaks : breaksThere n w ≡ true → Broke n (afterLoad n w)
+    good-breaks breaks-it = record {
+      accepted = accepted;
+      no-pair-before = good .no-pair;
+      pair = sym breaks-is-bad ∙ breaks-it;
+      judging = judged-judging;
+      loads = judged-loads;
+    }
 
-        few : suc n ≤ 2049
-        few = omega (arith, event-bound ev (suc n) accepted n (omega arith))
+  -- ---- the end of a broken trace
 
-        missing : missingBy (judged w x s) (suc n) ≡ missingOf ev (suc n)
-        missing = missing-is ev (suc n) accepted few (judged w x s) judged-rows judged-judging
+  pub broke-ruling :
+      (N load : ℕ) (w : List ℕ) → Accepted ev N → load < N → Rows ev N w → Broke load w
+      → rulingOf ev N
+      ≡ broken load (missingBy w (suc load)) (observedBy w (suc load) (missingBy w (suc load)))
+  broke-ruling N load w whole inside rows broke =
+      broken-ruling ev N load whole inside (broke .no-pair-before) (broke .pair)
+      ∙ sym (ap₂ (broken load) missing observed)
+    where
+      few : suc load ≤ 2049
+      few = omega (arith, event-bound ev N whole load inside)
 
-        observed :
-            observedBy (judged w x s) (suc n) (missingBy (judged w x s) (suc n)) ≡ observedOf ev (suc n)
-        observed = rw missing (observed-is ev (suc n) accepted few (judged w x s) judged-rows judged-judging bad)
+      missing : missingBy w (suc load) ≡ missingOf ev (suc load)
+      missing = missing-is ev (suc load) N (broke .accepted) few inside w rows (broke .judging)
+
+      observed : observedBy w (suc load) (missingBy w (suc load)) ≡ observedOf ev (suc load)
+      observed =
+          rw missing (observed-is ev (suc load) N (broke .accepted) few inside w rows (broke .judging) (broke .pair))
 
   -- ---- the end of a robust trace
 

@@ -1,6 +1,6 @@
 -- The last counted load of each location, in its two slots: `Loads` says that all it marks and observes is marked and
 -- observed, so a load that repeats it changes nothing; and noting a load keeps that. A load is noted by its location's
--- last store, which names the whole chain.
+-- last store, which names the whole chain. Its source, by the load rule, is a store of an earlier stretch (`Sources`).
 use Prim.Native.Nat.{ℕ, suc, _≤_, _<_}
 use native.Mathlib.Omega.{arith}
 use mathlib.Core.Path.{_≡_, refl, sym, _∙_}
@@ -11,12 +11,14 @@ use lib.ListN.{length}
 use lib.Dec.{eqb}
 use borrow.Author.Tests.{eqb-true, lt-ltb}
 use Rattle.record.specs.declared.events.Event.{Event}
-use Rattle.model.specs.Trace.{location, source}
+use Rattle.model.specs.Trace.{thread, location, source, commit?, stretch}
 use Rattle.model.specs.Machine.{counted}
 use Rattle.model.specs.Stores.{landed}
 use Rattle.model.specs.Rules.{Accepted}
 use Rattle.model.specs.Verdict.{observed?}
 use Rattle.model.proofs.Searching.{false-true, same?, parts, or-left}
+use Rattle.model.proofs.Counting.{stretch-mono, count-mono}
+use Rattle.model.proofs.Acceptance.{counted-source}
 use Rattle.model.proofs.Closure.{→observed}
 use Rattle.model.proofs.LoadRule.{headOf}
 use Rattle.model.proofs.RulingSteps.{marked?}
@@ -24,7 +26,7 @@ use Rattle.model.proofs.ChainOrder.{passed, load-marks}
 use Rattle.model.proofs.RepeatedLoads.{same-chain, marked-later, observed-later, Repeats}
 use Rattle.area.specs.Cells.{getRow, cell, putCell}
 use Rattle.area.specs.Tables.{loadLastSlot, loadSourceSlot}
-use Rattle.area.specs.Rows.{Linked, Rows}
+use Rattle.area.specs.Rows.{Linked, Rows, Past, Sources}
 use Rattle.area.proofs.ReadBack.{length-put, put-same, put-other}
 use Rattle.marks.specs.Judged.{lastIn, repeated, noted}
 use Rattle.marks.proofs.Frames.{ButLoad, noted-leaves}
@@ -33,13 +35,14 @@ use Rattle.marks.proofs.Stepping.{Judging}
 
 module _ (ev : ℕ → Event) where
   -- the slots of location x: the head of its chain when m events had been, and a source. What stands in that chain
-  -- before the source is marked, and the source is observed.
+  -- before the source is marked, and the source is observed and of an earlier stretch.
   pub record Noted (n : ℕ) (w : List ℕ) (x : ℕ) : Type 0 where
     pub m : ℕ
     pub early : m ≤ n
     pub last-is : cell w (loadLastSlot x) ≡ headOf ev (landed ev m x)
     pub marked : (p : ℕ) → passed (cell w (loadSourceSlot x)) p (landed ev m x) ≡ true → marked? ev n p ≡ true
     pub observed : cell w (loadSourceSlot x) ≢ 0 → observed? ev n (cell w (loadSourceSlot x)) ≡ true
+    pub past : cell w (loadSourceSlot x) ≢ 0 → Past ev n x (cell w (loadSourceSlot x))
 
   abbrev pub Loads : ℕ → List ℕ → Type 0
   Loads n w = (x : ℕ) → x < 256 → Noted n w x
@@ -53,9 +56,18 @@ module _ (ev : ℕ → Event) where
     last-is = empty (suc (loadLastSlot x)) 13;
     marked = λ p passes. false-true passes;
     observed = λ some. absurd (some (empty (suc (loadSourceSlot x)) 13));
+    past = λ some. absurd (some (empty (suc (loadSourceSlot x)) 13));
   }
 
   -- ---- events that note nothing
+
+  past-later : (n m x s : ℕ) → n ≤ m → Past ev n x s → Past ev m x s
+  past-later n m x s within it = record {
+    store = it .store;
+    to-x = it .to-x;
+    earlier = omega (arith, it .earlier, stretch-mono ev n m within);
+    kept = omega (arith, it .kept, count-mono ev (commit? ev) n m (stretch ev s) (thread ev s) within);
+  }
 
   noted-there :
       (n m x : ℕ) (w v : List ℕ) → n ≤ m → cell v (loadLastSlot x) ≡ cell w (loadLastSlot x)
@@ -66,6 +78,7 @@ module _ (ev : ℕ → Event) where
     last-is = same-last ∙ it .last-is;
     marked = λ p passes. marked-later ev n m p within (it .marked p (rw same-source at passes));
     observed = λ some. rw same-source (observed-later ev n m _ within (it .observed (rw same-source at some)));
+    past = λ some. rw same-source (past-later n m x _ within (it .past (rw same-source at some)));
   }
 
   pub loads-later :
@@ -75,6 +88,10 @@ module _ (ev : ℕ → Event) where
       let same-last = same (loadLastSlot x) (omega arith) (omega arith) in
       let same-source = same (loadSourceSlot x) (omega arith) (omega arith) in
       noted-there n m x w v within same-last same-source (loads x there)
+
+  -- the sources noted after n events are those of an earlier stretch at any later event
+  pub loads-sources : (n m : ℕ) (w : List ℕ) → n ≤ m → Loads n w → Sources ev m w
+  loads-sources n m w within loads x there some = past-later n m x _ within (loads x there .past some)
 
   -- ---- the head of a chain
 
@@ -176,6 +193,16 @@ module _ (ev : ℕ → Event) where
         observes some =
             →observed ev (suc n) s (n, omega arith, record { here = counts; from = refl; some-store = some })
 
+        is-past : s ≢ 0 → Past ev (suc n) x s
+        is-past some =
+            let from = counted-source ev (suc n) accepted n (omega arith) counts some in
+            past-later n (suc n) x s (omega arith) (record {
+              store = from .store;
+              to-x = from .to-it;
+              earlier = from .earlier;
+              kept = from .kept;
+            })
+
         by-location : (y ≡ x) ⊎ (y ≢ x) → Noted (suc n) (noted w h x s) y
         by-location (inl is-x) = rw is-x (record {
           m = n;
@@ -183,6 +210,7 @@ module _ (ev : ℕ → Event) where
           last-is = last-noted w room h x s x-there ∙ is-head;
           marked = λ p passes. marks p (rw source-is at passes);
           observed = λ some. rw source-is (observes (rw source-is at some));
+          past = λ some. rw source-is (is-past (rw source-is at some));
         })
         by-location (inr differs) =
             let others = other-noted w room h x s x-there in

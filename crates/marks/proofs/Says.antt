@@ -26,8 +26,9 @@ use Rattle.area.specs.Cells.{getRow, putRow, cell, putCell}
 use Rattle.area.specs.Tables.{cutSlot, lowSlot}
 use Rattle.area.specs.Rows.{StoreRow, Rows}
 use Rattle.area.proofs.ReadBack.{length-put, put-same, put-other}
-use Rattle.marks.specs.Marking.{forbid, observe, lower, putMark, ownIn, marked}
+use Rattle.marks.specs.Marking.{forbid, observe, lower, putMark, ownIn, canMark, marked}
 use Rattle.marks.specs.Testing.{cutIn, inCut}
+use Rattle.marks.proofs.Turns.{can-mark}
 
 -- ---- flags, and the lower of two places
 
@@ -96,6 +97,17 @@ module _ (ev : ℕ → Event) where
 
       positive : (p : ℕ) → p ≢ 0 → 1 ≤ p
       positive p some = omega arith
+
+  pub fit-later : (n m p : ℕ) → n ≤ m → Fit n p → Fit m p
+  fit-later n m p within fit = record {
+    store = fit .store;
+    early = omega (arith, fit .early);
+    from-1 = fit .from-1;
+    to-2048 = fit .to-2048;
+    stretch-from-1 = fit .stretch-from-1;
+    stretch-to-7 = fit .stretch-to-7;
+    thread-below-8 = fit .thread-below-8;
+  }
 
   -- ---- what the marks say
 
@@ -190,6 +202,11 @@ module _ (ev : ℕ → Event) where
       →in-cut inside = le-leb (ownIn w q) cut (omega (arith, own-is, cut-is))
 
     -- marking it
+    pub fit-can-mark : canMark w q ≡ true
+    fit-can-mark =
+        can-mark w q (stretch ev q) (thread ev q) (sym (row .stretch-is)) (sym (row .thread-is))
+        (fit .stretch-from-1) (fit .stretch-to-7) (omega (arith, fit .thread-below-8))
+
     abbrev slot : ℕ
     slot = lowSlot (stretch ev q) (thread ev q)
 
@@ -203,6 +220,7 @@ module _ (ev : ℕ → Event) where
     unfolding marked
     marked-is =
         rw (
+          fit-can-mark,
           own-is,
           row .thread-is,
           row .stretch-is,

@@ -8,38 +8,56 @@ use native.Mathlib.Omega.{arith}
 use mathlib.Core.Path.{_≡_, refl, sym, _∙_, ap}
 use mathlib.Core.List.{List, [], _∷_, _++_}
 use mathlib.Core.Bool.{Bool, true, false, cond, _&&_, _||_, not}
+use mathlib.Core.Logic.{_⊎_, inl, inr}
 use lib.ListN.{set}
 use lib.Dec.{eqb, leb}
-use borrow.Author.Tests.{eq-eqb, ne-eqb, lt-ltb, le-ltb}
+use borrow.Author.Tests.{eq-eqb, ne-eqb, lt-ltb, le-ltb, leb-true, le-leb}
 use Rattle.model.specs.Search.{some, firstFrom}
 use Rattle.model.specs.Answers.{tabulate, sum, percent}
-use Rattle.model.proofs.Searching.{or-left}
+use Rattle.model.proofs.Searching.{test, both, parts, or-left}
 use Rattle.area.specs.Cells.{getRow, putRow, cell, putCell}
 use Rattle.area.specs.Tables.{cutSlot, lowSlot, lastSlot, loadLastSlot, loadSourceSlot}
-use Rattle.marks.specs.Marking.{forbid, observe, lower, putMark, marked, walked}
+use Rattle.marks.specs.Marking.{forbid, observe, lower, putMark, canMark, marked, walked}
 use Rattle.marks.specs.Marking.{raisedAt, raised, seenFrom, loaded}
-use Rattle.marks.specs.Testing.{inCut, walkHits, hits, loadHits}
+use Rattle.marks.specs.Testing.{markHits, walkHits, hits, loadHits}
 use Rattle.marks.specs.Judged.{lastIn, repeated, noted, judged, breaks}
 use Rattle.marks.specs.Ending.{cutAt, copied, doneAt}
 use Rattle.marks.proofs.Frames.{marked-keeps-cut}
 
 -- ---- marking and the walk
 
-pub mark-steps :
-    (w w₁ w₂ : List ℕ) (p j t own f i old low f′ : ℕ)
-    → j ≡ getRow w p 10 → t ≡ getRow w p 8 → own ≡ getRow w p t → f ≡ getRow w p 12
-    → i ≡ lowSlot j t → old ≡ cell w i → low ≡ lower old own → w₁ ≡ putMark w i low
-    → f′ ≡ forbid f → w₂ ≡ putRow w₁ p 12 f′ → w₂ ≡ marked w p
-unfolding marked
-mark-steps w w₁ w₂ p j t own f i old low f′ j-is t-is own-is f-is i-is old-is low-is put-low f′-is put-flag =
-    put-flag ∙ rw (put-low, f′-is, low-is, old-is, own-is, f-is, i-is, t-is, j-is)
+module _ (w : List ℕ) (p j t : ℕ) (j-is : j ≡ getRow w p 10) (t-is : t ≡ getRow w p 8) where
+  pub can-mark : 1 ≤ j → j ≤ 7 → t ≤ 7 → canMark w p ≡ true
+  unfolding canMark
+  can-mark from-1 to-7 there =
+      rw (← j-is, ← t-is) (both (leb 1 j) _ (le-leb 1 j from-1) (both (leb j 7) _ (le-leb j 7 to-7) (le-leb t 7 there)))
 
-pub mark-tests :
-    (w v : List ℕ) (p j t own i cut : ℕ)
-    → j ≡ getRow w p 10 → t ≡ getRow w p 8 → own ≡ getRow w p t → v ≡ marked w p → i ≡ cutSlot j t → cut ≡ cell v i
-    → leb own cut ≡ inCut w p
-mark-tests w v p j t own i cut j-is t-is own-is v-is i-is cut-is =
-    rw (cut-is, i-is, v-is, own-is, t-is, j-is, marked-keeps-cut w p)
+  -- a store that no finished stretch can have is left
+  pub mark-none : (1 ≤ j → j ≤ 7 → t ≤ 7 → ⊥) → (false ≡ markHits w p) × (w ≡ marked w p)
+  unfolding canMark marked
+  mark-none not-so = by-test (test (canMark w p))
+    where
+      by-test : (canMark w p ≡ true) ⊎ (canMark w p ≡ false) → (false ≡ markHits w p) × (w ≡ marked w p)
+      by-test (inr fails) = (rw fails, rw fails)
+      by-test (inl passes) =
+          let (from-1, others) = parts (leb 1 (getRow w p 10)) _ passes in
+          let (to-7, there) = parts (leb (getRow w p 10) 7) _ others in
+          absurd
+          (not-so (rw j-is (leb-true 1 _ from-1)) (rw j-is (leb-true _ 7 to-7)) (rw t-is (leb-true _ 7 there)))
+
+  module _ (own : ℕ) (own-is : own ≡ getRow w p t) (can : canMark w p ≡ true) where
+    pub mark-steps :
+        (w₁ w₂ : List ℕ) (f i old low f′ : ℕ)
+        → f ≡ getRow w p 12 → i ≡ lowSlot j t → old ≡ cell w i → low ≡ lower old own → w₁ ≡ putMark w i low
+        → f′ ≡ forbid f → w₂ ≡ putRow w₁ p 12 f′ → w₂ ≡ marked w p
+    unfolding marked
+    mark-steps w₁ w₂ f i old low f′ f-is i-is old-is low-is put-low f′-is put-flag =
+        put-flag ∙ rw (can, put-low, f′-is, low-is, old-is, own-is, f-is, i-is, t-is, j-is)
+
+    pub mark-tests :
+        (v : List ℕ) (i cut : ℕ) → v ≡ marked w p → i ≡ cutSlot j t → cut ≡ cell v i → leb own cut ≡ markHits w p
+    mark-tests v i cut v-is i-is cut-is =
+        rw (can, cut-is, i-is, v-is, own-is, t-is, j-is, marked-keeps-cut w p)
 
 pub walk-end : (n : ℕ) (w : List ℕ) (p stop : ℕ) → p ≡ 0 → w ≡ walked n w p stop
 unfolding walked
@@ -70,7 +88,7 @@ hits-end (suc n) w p stop end = rw (eq-eqb p 0 end)
 
 pub hits-turn :
     (n : ℕ) (w : List ℕ) (p stop : ℕ) → (p ≡ 0 → ⊥)
-    → walkHits (suc n) w p stop ≡ (not (eqb p stop) && (inCut w p || walkHits n (marked w p) (getRow w p 14) stop))
+    → walkHits (suc n) w p stop ≡ (not (eqb p stop) && (markHits w p || walkHits n (marked w p) (getRow w p 14) stop))
 unfolding walkHits
 hits-turn n w p stop store = rw (ne-eqb p 0 store) (by-test (eqb p stop) _)
   where
@@ -89,10 +107,10 @@ hits-none n w p stop none = rw none
 
 pub hits-more :
     (n : ℕ) (w : List ℕ) (p stop : ℕ) (hit : Bool) → 0 < n → (p ≡ 0 → ⊥) → (p ≡ stop → ⊥)
-    → ((hit || inCut w p) || walkHits (n - 1) (marked w p) (getRow w p 14) stop) ≡ (hit || walkHits n w p stop)
+    → ((hit || markHits w p) || walkHits (n - 1) (marked w p) (getRow w p 14) stop) ≡ (hit || walkHits n w p stop)
 hits-more zero w p stop hit some store not-stop = absurd (not-suc-le-zero some)
 hits-more (suc n) w p stop hit some store not-stop =
-    rw (hits-turn n w p stop store, ne-eqb p stop not-stop, sub-one) (regroup hit (inCut w p) _)
+    rw (hits-turn n w p stop store, ne-eqb p stop not-stop, sub-one) (regroup hit (markHits w p) _)
   where
     regroup : (a b c : Bool) → ((a || b) || c) ≡ (a || (not false && (b || c)))
     regroup true b c = refl
@@ -114,12 +132,25 @@ pub raise-more : (u : ℕ) (w : List ℕ) (s j : ℕ) → raisedAt (raised u w s
 unfolding raised
 raise-more u w s j = rw add-one
 
-pub see-steps :
-    (w w₁ w₂ : List ℕ) (s j f f′ : ℕ)
-    → j ≡ getRow w s 10 → f ≡ getRow w s 12 → f′ ≡ observe f → w₁ ≡ putRow w s 12 f′ → w₂ ≡ raised 8 w₁ s j
-    → w₂ ≡ seenFrom w s
-unfolding seenFrom
-see-steps w w₁ w₂ s j f f′ j-is f-is f′-is put-flag all-raised = all-raised ∙ rw (put-flag, f′-is, f-is, j-is)
+module _
+    (w w₁ : List ℕ) (s j f f′ : ℕ)
+    (j-is : j ≡ getRow w s 10) (f-is : f ≡ getRow w s 12) (f′-is : f′ ≡ observe f)
+    (put-flag : w₁ ≡ putRow w s 12 f′) where
+  flagged : w₁ ≡ putRow w s 12 (observe (getRow w s 12))
+  flagged = put-flag ∙ rw (f′-is, f-is)
+
+  pub see-before : j ≡ 0 → w₁ ≡ seenFrom w s
+  unfolding seenFrom
+  see-before before = rw (← j-is, eq-eqb j 0 before) flagged
+
+  pub see-past : (j ≡ 0 → ⊥) → 7 < j → w₁ ≡ seenFrom w s
+  unfolding seenFrom
+  see-past from-1 past = rw (← j-is, ne-eqb j 0 from-1, lt-ltb 7 j past) flagged
+
+  pub see-steps : (w₂ : List ℕ) → (j ≡ 0 → ⊥) → j ≤ 7 → w₂ ≡ raised 8 w₁ s j → w₂ ≡ seenFrom w s
+  unfolding seenFrom
+  see-steps w₂ from-1 to-7 all-raised =
+      rw (← j-is, ne-eqb j 0 from-1, le-ltb 7 j to-7, ← flagged) all-raised
 
 -- ---- a counted load
 

@@ -230,7 +230,11 @@ module _ (ev : ℕ → Event) where
           (seenFrom w s)
       unfolding seenFrom
       see-says =
-          rw (rows .stores s (fit .early) (fit .store) .stretch-is)
+          rw (
+            rows .stores s (fit .early) (fit .store) .stretch-is,
+            ne-eqb (stretch ev s) 0 (λ is-0. omega (arith, fit .stretch-from-1)),
+            le-ltb 7 (stretch ev s) (fit .stretch-to-7),
+          )
           (says-same ev (λ p. refl) (λ p. refl) all-threads
           (raise-says 8 flagged (omega arith) (rows-leave (within-judging (flag-leaves w s _)) rows) F with-s C
           flagged-says))

@@ -2,9 +2,9 @@
 -- the flag 1 of its row, and the lowest forbidden place of its stretch and thread. Then the source becomes observed:
 -- the flag 2, and the cut of its stretch is raised to its clock, so that the cut is the closure of what is observed.
 use Prim.Native.Nat.{ℕ, zero, suc, _+_, max}
-use mathlib.Core.Bool.{cond}
+use mathlib.Core.Bool.{Bool, cond, _&&_}
 use mathlib.Core.List.{List}
-use lib.Dec.{eqb, ltb}
+use lib.Dec.{eqb, leb, ltb}
 use Rattle.area.specs.Cells.{getRow, putRow, cell, putCell}
 use Rattle.area.specs.Tables.{cutSlot, lowSlot}
 
@@ -36,10 +36,15 @@ ownIn w p = getRow w p (getRow w p 8)
 abbrev pub lowIn : List ℕ → ℕ → ℕ
 lowIn w p = lowSlot (getRow w p 10) (getRow w p 8)
 
--- store p becomes forbidden
+-- store p can be of a finished stretch: one of 1 to 7, and a thread 0 to 7
+unfoldable pub canMark : List ℕ → ℕ → Bool
+canMark w p = leb 1 (getRow w p 10) && (leb (getRow w p 10) 7 && leb (getRow w p 8) 7)
+
+-- store p becomes forbidden, if it can be of a finished stretch
 unfoldable pub marked : List ℕ → ℕ → List ℕ
 marked w p =
-    putRow (putMark w (lowIn w p) (lower (cell w (lowIn w p)) (ownIn w p))) p 12 (forbid (getRow w p 12))
+    let v = putMark w (lowIn w p) (lower (cell w (lowIn w p)) (ownIn w p)) in
+    cond (canMark w p) (putRow v p 12 (forbid (getRow w p 12))) w
 
 -- the stores of the chain from h on become forbidden, up to store s, for at most n stores
 unfoldable pub walked : ℕ → List ℕ → ℕ → ℕ → List ℕ
@@ -57,9 +62,13 @@ unfoldable pub raised : ℕ → List ℕ → ℕ → ℕ → List ℕ
 raised zero w s j = w
 raised (suc u) w s j = raisedAt (raised u w s j) s j u
 
--- store s becomes observed
+-- store s becomes observed: its flag, and the cut of its stretch, if that can be finished: a finished stretch is one of
+-- 1 to 7
 unfoldable pub seenFrom : List ℕ → ℕ → List ℕ
-seenFrom w s = raised 8 (putRow w s 12 (observe (getRow w s 12))) s (getRow w s 10)
+seenFrom w s =
+    let j = getRow w s 10 in
+    let v = putRow w s 12 (observe (getRow w s 12)) in
+    cond (eqb j 0) v (cond (ltb 7 j) v (raised 8 v s j))
 
 -- ---- a counted load from s of the location whose chain begins with h
 

@@ -8,7 +8,7 @@ use lib.Dec.{eqb, leb}
 use Rattle.model.specs.Search.{some, first}
 use Rattle.area.specs.Cells.{getRow, cell}
 use Rattle.area.specs.Tables.{cutSlot, lowSlot}
-use Rattle.marks.specs.Marking.{ownIn, marked, loaded}
+use Rattle.marks.specs.Marking.{ownIn, canMark, marked, loaded}
 
 -- ---- the test for broken
 
@@ -20,11 +20,15 @@ cutIn w p = cutSlot (getRow w p 10) (getRow w p 8)
 abbrev pub inCut : List ℕ → ℕ → Bool
 inCut w p = leb (ownIn w p) (cell w (cutIn w p))
 
+-- store p becomes forbidden and is in the cut
+abbrev pub markHits : List ℕ → ℕ → Bool
+markHits w p = canMark w p && inCut w p
+
 -- one of the stores that `walked` makes forbidden is in the cut
 unfoldable pub walkHits : ℕ → List ℕ → ℕ → ℕ → Bool
 walkHits zero w h s = false
 walkHits (suc n) w h s =
-    cond (eqb h 0) false (cond (eqb h s) false (inCut w h || walkHits n (marked w h) (getRow w h 14) s))
+    cond (eqb h 0) false (cond (eqb h s) false (markHits w h || walkHits n (marked w h) (getRow w h 14) s))
 
 -- a forbidden store of stretch j and thread t is in the cut
 abbrev pub hitAt : List ℕ → ℕ → ℕ → Bool

@@ -16,13 +16,20 @@ fn raise_one(work: &mut [u16], s: u16, j: u16, u: u16)
     flags::put_mark(work, i, area::numbers::larger(old, new));
 }
 
-// Store s becomes observed: its flag, and the cut of its stretch.
+// Store s becomes observed: its flag, and the cut of its stretch, if that can be finished: a finished stretch is one of
+// 1 to 7.
 fn see(work: &mut [u16], s: u16)
     ensures { λ _. ⌜ now (work .exit) ≡ seenFrom (now (work .entry)) s ⌝ }
 {
     let j = area::row_get(work, s, 10);
     let f = area::row_get(work, s, 12);
     area::row_put(work, s, 12, flags::observe(f));
+    if j == 0 {
+        return;
+    }
+    if 7 < j {
+        return;
+    }
     let mut u: u16 = 0;
     while u < 8 {
         raise_one(work, s, j, u);

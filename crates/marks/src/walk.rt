@@ -1,17 +1,27 @@
 // The stores on a location's chain become forbidden, from the newest back to a load's source.
 ghost use mathlib.Core.Path.{_≡_};
 ghost use Rattle.marks.specs.Marking.{marked, walked};
-ghost use Rattle.marks.specs.Testing.{inCut, walkHits};
+ghost use Rattle.marks.specs.Testing.{markHits, walkHits};
 use crate::flags;
 
-// Store p becomes forbidden: its flag, and the lowest place of its stretch and thread. It answers whether p is in the
-// cut.
+// Store p becomes forbidden: its flag, and the lowest place of its stretch and thread, if it can be of a finished
+// stretch: one of 1 to 7, and a thread 0 to 7; else it leaves all as it is. It answers whether p becomes forbidden and
+// is in the cut.
 fn mark(work: &mut [u16], p: u16) -> bool
-    ensures { λ r. ⌜ r ≡ inCut (now (work .entry)) p ⌝ }
+    ensures { λ r. ⌜ r ≡ markHits (now (work .entry)) p ⌝ }
     ensures { λ _. ⌜ now (work .exit) ≡ marked (now (work .entry)) p ⌝ }
 {
     let j = area::row_get(work, p, 10);
     let t = area::row_get(work, p, 8);
+    if j == 0 {
+        return false;
+    }
+    if 7 < j {
+        return false;
+    }
+    if 7 < t {
+        return false;
+    }
     let own = area::row_get(work, p, t);
     let f = area::row_get(work, p, 12);
     let i = area::slots::low(j, t);

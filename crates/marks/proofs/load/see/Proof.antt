@@ -1,10 +1,11 @@
--- Invariant: the cut is raised for the threads below u. Measure: the threads that are left. Assumes nothing.
+-- For a stretch that is not one of 1 to 7 the flag is all, which `see-before` and `see-past` say. Invariant: the cut is
+-- raised for the threads below u. Measure: the threads that are left. Assumes nothing.
 use native.Mathlib.Omega.{arith}
 use Prim.Native.Nat.{_-_, _≤_}
 use mathlib.Core.Path.{_≡_, refl, _∙_}
 use lib.ListN.{length}
 use Rattle.marks.specs.Marking.{raised}
-use Rattle.marks.proofs.Turns.{raise-more, see-steps}
+use Rattle.marks.proofs.Turns.{raise-more, see-before, see-past, see-steps}
 use borrow.Author.Needs.{needs}
 use Rattle.marks.proofs.load.see.Statement.{statement}
 use Rattle.marks.proofs.load.see.Tie as tie
@@ -26,6 +27,32 @@ observe-requires c κs = search needs
 
 row-put-requires : tie.Need-row-put-requires Inv-loop μ-loop
 row-put-requires c κs = search needs
+
+same-length : tie.Need-same-length Inv-loop μ-loop
+same-length c = search needs
+
+returns : tie.Need-returns Inv-loop μ-loop
+returns c =
+    let at-row-put = c .before .before .before in
+    let at-observe = at-row-put .before in
+    let at-row-get2 = at-observe .before .before in
+    let at-row-get = at-row-get2 .before .before in
+    see-before _ _ _ _ _ _
+    (at-row-get .row-get .ensures) (at-row-get2 .row-get2 .ensures) (at-observe .observe .ensures)
+    (at-row-put .row-put .ensures) (c .if1 .taken)
+
+same-length-2 : tie.Need-same-length-2 Inv-loop μ-loop
+same-length-2 c = search needs
+
+returns-2 : tie.Need-returns-2 Inv-loop μ-loop
+returns-2 c =
+    let at-row-put = c .before .before .before .before in
+    let at-observe = at-row-put .before in
+    let at-row-get2 = at-observe .before .before in
+    let at-row-get = at-row-get2 .before .before in
+    see-past _ _ _ _ _ _
+    (at-row-get .row-get .ensures) (at-row-get2 .row-get2 .ensures) (at-observe .observe .ensures)
+    (at-row-put .row-put .ensures) (c .before .if1 .left) (omega arith)
 
 loop-holds : tie.Need-loop-holds Inv-loop μ-loop
 unfolding raised
@@ -50,23 +77,24 @@ loop-again c =
       at-raise-one .raise-one .kept .0 ∙ turn .inv .2,
     )
 
-same-length : tie.Need-same-length Inv-loop μ-loop
-same-length c =
+same-length-3 : tie.Need-same-length-3 Inv-loop μ-loop
+same-length-3 c =
     let at-loop = c .before in
-    let at-row-put = at-loop .before .before .before in
+    let at-row-put = at-loop .before .before .before .before .before in
     at-loop .loop .inv .2 ∙ at-row-put .row-put .kept .0
 
-returns : tie.Need-returns Inv-loop μ-loop
-returns c =
+returns-3 : tie.Need-returns-3 Inv-loop μ-loop
+returns-3 c =
     let at-loop = c .before in
-    let at-row-put = at-loop .before .before .before in
+    let at-if1 = at-loop .before .before in
+    let at-row-put = at-if1 .before .before .before in
     let at-observe = at-row-put .before in
     let at-row-get2 = at-observe .before .before in
     let at-row-get = at-row-get2 .before .before in
     let all : at-loop .loop .u ≡ 8 = omega arith in
-    see-steps _ _ _ _ _ _ _
+    see-steps _ _ _ _ _ _
     (at-row-get .row-get .ensures) (at-row-get2 .row-get2 .ensures) (at-observe .observe .ensures)
-    (at-row-put .row-put .ensures) (rw all at (at-loop .loop .inv .0))
+    (at-row-put .row-put .ensures) _ (at-if1 .if1 .left) (omega arith) (rw all at (at-loop .loop .inv .0))
 
 pub see-spec : {M : Type 1} → statement M
 see-spec =
@@ -78,10 +106,14 @@ see-spec =
     row-get-requires-2
     observe-requires
     row-put-requires
+    same-length
+    returns
+    same-length-2
+    returns-2
     loop-holds
     raise-one-requires
     add-u
     loop-less
     loop-again
-    same-length
-    returns)
+    same-length-3
+    returns-3)
