@@ -5,7 +5,7 @@ use mathlib.Core.Path.{_≡_, refl, sym, subst}
 use mathlib.Core.Bool.{Bool, true, false, cond}
 use mathlib.Core.Logic.{_⊎_, inl, inr, _≢_}
 use mathlib.Core.List.{List}
-use Prim.Native.Nat.{ℕ, _≤_}
+use Prim.Native.Nat.{ℕ, suc, _≤_}
 use native.Mathlib.Omega.{arith}
 use borrow.Author.Tests.{eq-eqb, ne-eqb, eqb-true, eqb-false}
 use lib.Dec.{eqb}
@@ -23,9 +23,14 @@ use Rattle.model.proofs.TurnedAway.{accepted-exactly, turned-away-exactly}
 use Rattle.machine.specs.Orders.{storeW, orderW}
 use Rattle.machine.specs.Sim.{Sim}
 use Rattle.machine.proofs.Standings.{store-is, order-is}
-use Rattle.marks.proofs.Good.{good-robust}
+use Rattle.machine.proofs.CellLaws.{up-is}
+use Rattle.marks.specs.Testing.{missingBy}
+use Rattle.marks.proofs.Good.{broke-ruling, good-robust}
+use Rattle.judge.specs.declared.run.Begun.{Begun}
 use Rattle.judge.specs.declared.run.Turn.{Turn}
-use Rattle.judge.specs.Runs.{worldOf, Reached, Turned, AllRead, Ran}
+use Rattle.judge.specs.declared.run.End.{End}
+use Rattle.judge.specs.Runs.{ended, worldOf, Reached, Turned, Began, AllRead, Ran}
+use Rattle.judge.specs.Judging.{evidenceAt}
 use Rattle.judge.specs.Standings.{standingAfter}
 use Rattle.judge.specs.Verdicts.{kindBy, verdictAfter, cutFrom}
 
@@ -39,37 +44,52 @@ kind-is missing observed = by-test (eqb missing observed)
     by-test true = refl
     by-test false = refl
 
+-- the end of a run that came to turn t, with the load that broke the trace, or 0
+abbrev endOf : Turn → ℕ → End
+endOf t load = record { stretch = t .stretch; event = t .event; load = load; refusal = t .refusal }
+
 module _ (bytes : List ℕ) where
   -- a run is over where a record was turned away, or behind the last
   pub run-ends :
-      (n : ℕ) (t : Turn) (rows work : List ℕ) → Turned bytes n t rows work
-      → (t .refusal ≢ 0) ⊎ (length bytes ≤ t .at) → Ran bytes t work
-  run-ends n t rows work turned (inl some-number) = record {
+      (threads locations n : ℕ) (t : Turn) (load : ℕ) (rows work : List ℕ)
+      → Turned bytes threads locations n t load rows work → (t .refusal ≢ 0) ⊎ (length bytes ≤ t .at)
+      → Ran bytes (endOf t load) work
+  run-ends threads locations n t load rows work turned (inl some-number) = record {
     all-read = λ none. absurd (some-number none);
     turned-away = turned .turned-away;
   }
-  run-ends n t rows work turned (inr past) = record {
+  run-ends threads locations n t load rows work turned (inr past) = record {
     all-read = λ none. all-read (turned .passes none);
     turned-away = turned .turned-away;
   }
     where
-      all-read : Reached bytes n t rows work → AllRead bytes (t .event) t work
+      all-read : Reached bytes threads locations n t load rows work → AllRead bytes (t .event) (endOf t load) work
       all-read reached =
           let count-is : t .event ≡ n = reached .state .numbers .event-is in
-          subst (λ (N : ℕ). AllRead bytes N t work) (sym count-is) (record {
+          subst (λ (N : ℕ). AllRead bytes N (endOf t load) work) (sym count-is) (record {
             accepted = record {
               some-record = reached .state .limits .accepted .some-record;
               all-pass = reached .all-pass;
               ends = omega (arith, start-inside bytes n, reached .position);
             };
+            threads = threads;
+            locations = locations;
             rows = rows;
             state = reached .state;
             loads = reached .loads;
           })
 
+  -- a begin that was turned away ends it at once
+  pub begin-ends :
+      (b : Begun) (work : List ℕ) → Began bytes b → b .refusal ≢ 0 → Ran bytes (endOf (ended (b .refusal) 0) 0) work
+  begin-ends b work began some-number = record {
+    all-read = λ none. absurd (some-number none);
+    turned-away = λ _. began .turned-away some-number;
+  }
+
   -- ---- the order query
 
-  module _ (t : Turn) (work : List ℕ) (ran : Ran bytes t work) (p q : ℕ) where
+  module _ (t : End) (work : List ℕ) (ran : Ran bytes t work) (p q : ℕ) where
     refused-standing :
         t .refusal ≢ 0 → answers.orderAnswer (standingAfter t work p q) ≡ readingStanding bytes p q (readingOf bytes)
     unfolding standingAfter
@@ -78,13 +98,17 @@ module _ (bytes : List ℕ) where
         rw (ne-eqb (t .refusal) 0 some-number, is) refl
 
     -- of an accepted trace of N records: 16, or what the rows say
-    module _ (N : ℕ) (rows : List ℕ) (sim : Sim (events bytes) N (worldOf t rows work)) where
+    module _
+        (N threads locations : ℕ) (rows : List ℕ)
+        (sim : Sim (events bytes) N (worldOf bytes threads locations (t .stretch) (t .event) rows work)) where
       by-stores :
           (p-store q-store : Bool) → store? (events bytes) N p ≡ p-store → store? (events bytes) N q ≡ q-store
           → answers.orderAnswer
           (p-store gives (q-store gives orderW work p q else Refused 16 0) else Refused 16 0)
           ≡ standing (events bytes) N p q
-      by-stores true true is-p is-q = order-is (events bytes) N (worldOf t rows work) sim p q is-p is-q
+      by-stores true true is-p is-q =
+          order-is (events bytes) N (worldOf bytes threads locations (t .stretch) (t .event) rows work) sim p q
+          is-p is-q
       by-stores true false is-p is-q = rw (is-p, is-q) refl
       by-stores false q-store is-p is-q = rw is-p refl
 
@@ -93,12 +117,13 @@ module _ (bytes : List ℕ) where
     unfolding standingAfter
     accepted-standing none =
         let N : ℕ = t .event in
-        let is = accepted-exactly bytes N .1 (ran .all-read none .accepted) in
-        let rows = ran .all-read none .rows in
-        let sim = ran .all-read none .state in
-        let stores = store-is (events bytes) N (worldOf t rows work) sim in
+        let all = ran .all-read none in
+        let is = accepted-exactly bytes N .1 (all .accepted) in
+        let w = worldOf bytes (all .threads) (all .locations) (t .stretch) (t .event) (all .rows) work in
+        let stores = store-is (events bytes) N w (all .state) in
         rw (eq-eqb (t .refusal) 0 none, is)
-        (by-stores N rows sim (storeW work p) (storeW work q) (sym (stores p)) (sym (stores q)))
+        (by-stores N (all .threads) (all .locations) (all .rows) (all .state) (storeW work p) (storeW work q)
+        (sym (stores p)) (sym (stores q)))
 
     -- THE ANSWER AFTER A RUN IS THE DEFINITIONS'
     pub standing-is : answers.orderAnswer (standingAfter t work p q) ≡ readingStanding bytes p q (readingOf bytes)
@@ -112,12 +137,12 @@ module _ (bytes : List ℕ) where
 
   -- ---- the verdict
 
-  abbrev Judged : Turn → List ℕ → List ℕ → Type 0
+  abbrev Judged : End → List ℕ → List ℕ → Type 0
   Judged t work cut =
       (answers.verdictAnswer (verdictAfter t work) ≡ readingAnswer bytes (readingOf bytes))
       × (cutFrom t work cut ≡ readingCut bytes cut (readingOf bytes))
 
-  module _ (t : Turn) (work cut : List ℕ) (ran : Ran bytes t work) (right-size : length cut ≡ 56) where
+  module _ (t : End) (work cut : List ℕ) (ran : Ran bytes t work) (right-size : length cut ≡ 56) where
     refused-verdict : t .refusal ≢ 0 → Judged t work cut
     unfolding verdictAfter cutFrom
     refused-verdict some-number =
@@ -139,21 +164,25 @@ module _ (bytes : List ℕ) where
       whole : Accepted (events bytes) N
       whole = all .state .limits .accepted
 
-      broken-verdict : t .found .load ≢ 0 → Judged t work cut
-      unfolding verdictAfter cutFrom
+      broken-verdict : t .load ≢ 0 → Judged t work cut
+      unfolding verdictAfter cutFrom evidenceAt
       broken-verdict some-load =
           let passes = eq-eqb (t .refusal) 0 none in
-          let some = ne-eqb (t .found .load) 0 some-load in
-          let ruling = all .loads .broke some-load N (omega arith) whole in (
-            rw (passes, some, is, ruling, kind-is (t .found .missing) (t .found .observed)) refl,
+          let some = ne-eqb (t .load) 0 some-load in
+          let early = all .loads .early some-load in
+          let few : t .load ≤ 2049 = omega (arith, all .state .limits .few-events) in
+          let ruling =
+          broke-ruling (events bytes) N (t .load) work whole early (all .state .rows) (all .loads .broke some-load)
+          in (
+            rw (passes, some, is, up-is (t .load) few, ruling, kind-is (missingBy work (suc (t .load))) _) refl,
             rw (passes, some, is, ruling) refl,
           )
 
-      robust-verdict : t .found .load ≡ 0 → Judged t work cut
+      robust-verdict : t .load ≡ 0 → Judged t work cut
       unfolding verdictAfter cutFrom
       robust-verdict none-found =
           let passes = eq-eqb (t .refusal) 0 none in
-          let nothing-found = eq-eqb (t .found .load) 0 none-found in
+          let nothing-found = eq-eqb (t .load) 0 none-found in
           let end = good-robust (events bytes) N work cut whole right-size (all .loads .none-yet none-found) in (
             rw (passes, nothing-found, is, end .ruling, all .state .numbers .stretch-is, end .share) refl,
             rw (passes, nothing-found, is, end .ruling, end .cut) refl,
@@ -163,10 +192,10 @@ module _ (bytes : List ℕ) where
     pub verdict-is : Judged t work cut
     verdict-is = by-refusal (same? (t .refusal) 0)
       where
-        by-load : t .refusal ≡ 0 → (t .found .load ≡ 0) ⊎ (t .found .load ≢ 0) → Judged t work cut
+        by-load : t .refusal ≡ 0 → (t .load ≡ 0) ⊎ (t .load ≢ 0) → Judged t work cut
         by-load none (inl none-found) = robust-verdict none none-found
         by-load none (inr some-load) = broken-verdict none some-load
 
         by-refusal : (t .refusal ≡ 0) ⊎ (t .refusal ≢ 0) → Judged t work cut
-        by-refusal (inl none) = by-load none (same? (t .found .load) 0)
+        by-refusal (inl none) = by-load none (same? (t .load) 0)
         by-refusal (inr some-number) = refused-verdict some-number

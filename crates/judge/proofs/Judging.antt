@@ -1,6 +1,6 @@
--- One event of a run: the machine's step, then the judging. What has been found holds after it too. Judging and the
--- machine keep out of each other's cells, so the state goes over, and so do the marks; a counted load's step leaves the
--- work area.
+-- One event of a run: the machine's step, then the judging. What the loads before it have shown holds after it too.
+-- Judging and the machine keep out of each other's cells, so the state goes over, and so do the marks; a counted load's
+-- step leaves the work area.
 use mathlib.Core.Path.{_≡_, refl, _∙_}
 use mathlib.Core.Bool.{Bool, true, false, _&&_, and-false}
 use mathlib.Core.Logic.{_⊎_, inl, inr, _≢_}
@@ -19,40 +19,48 @@ use Rattle.model.proofs.Searching.{test, same?}
 use Rattle.model.proofs.Roles.{begin-no-load}
 use Rattle.model.proofs.Acceptance.{begins}
 use Rattle.area.specs.Cells.{getRow}
-use Rattle.area.specs.Rows.{ButMachine}
+use Rattle.area.specs.Rows.{ButMachine, Sources}
 use Rattle.machine.specs.Twin.{State, World, world}
 use Rattle.machine.specs.Turning.{countsW}
 use Rattle.machine.specs.Effects.{stepW}
 use Rattle.machine.specs.Sim.{Sim}
-use Rattle.machine.proofs.CellLaws.{up-is}
 use Rattle.machine.proofs.Simulation.{step-next, counts-is}
 use Rattle.machine.proofs.Taken.{counted-stays}
 use Rattle.machine.proofs.Frames.{step-leaves, sim-but-judging}
 use Rattle.marks.specs.Judged.{judged}
 use Rattle.marks.proofs.Frames.{judging-leaves}
-use Rattle.marks.proofs.Good.{Good, good-start, good-quiet, good-load, good-breaks}
+use Rattle.marks.proofs.Noting.{loads-sources}
+use Rattle.marks.proofs.Good.{Good, good-start, good-quiet, good-load, good-breaks, broke-stays}
 use Rattle.marks.proofs.Good.{afterLoad, breaksThere}
-use Rattle.judge.specs.declared.loads.Evidence.{Evidence}
-use Rattle.judge.specs.Judging.{nothing, evidenceAt, judgedWork, foundBy, Held}
+use Rattle.judge.specs.Judging.{judgedWork, loadAfter, Held}
 
 module _ (ev : ℕ → Event) where
-  -- while nothing is found, the marks are all there is to hold
-  held-while : (n : ℕ) (found : Evidence) (work : List ℕ) → found .load ≡ 0 → Good ev n work → Held ev n found work
-  held-while n found work none good = record { none-yet = λ _. good; broke = λ some. absurd (some none) }
+  -- while no load broke the trace, the marks are all there is to hold
+  held-while : (n load : ℕ) (work : List ℕ) → load ≡ 0 → Good ev n work → Held ev n load work
+  held-while n load work none good =
+      record { none-yet = λ _. good; early = λ some. absurd (some none); broke = λ some. absurd (some none) }
+
+  -- the sources noted for the locations, before or behind a load that broke the trace
+  pub held-sources : (n load : ℕ) (work : List ℕ) → Held ev n load work → Sources ev n work
+  held-sources n load work held = by-load (same? load 0)
+    where
+      by-load : (load ≡ 0) ⊎ (load ≢ 0) → Sources ev n work
+      by-load (inl none) = loads-sources ev n n work (omega arith) (held .none-yet none .loads)
+      by-load (inr some) = loads-sources ev (suc load) n work (held .early some) (held .broke some .loads)
 
   -- ---- an event that passes, from what the first n events have made
 
   module _
-      (n : ℕ) (w : World) (found : Evidence) (sim : Sim ev n w) (held : Held ev n found (w .work))
+      (n : ℕ) (w : World) (load : ℕ) (sim : Sim ev n w) (held : Held ev n load (w .work))
       (passes : refusal ev n ≡ 0) where
     abbrev stepped : World
     stepped = stepW w (ev n)
 
     abbrev judgedTo : List ℕ
-    judgedTo = judgedWork found (countsW w (ev n)) (stepped .work) (fieldsOf (ev n))
+    judgedTo = judgedWork load (countsW w (ev n)) (stepped .work) (fieldsOf (ev n))
 
-    abbrev foundNext : Evidence
-    foundNext = foundBy found (countsW w (ev n)) (stepped .work) n (fieldsOf (ev n))
+    abbrev loadNext : ℕ
+    loadNext = loadAfter load (countsW w (ev n)) (stepped .work) n (fieldsOf (ev n))
 
     sim-stepped : Sim ev (suc n) stepped
     sim-stepped = step-next ev n w sim passes
@@ -60,7 +68,7 @@ module _ (ev : ℕ → Event) where
     -- THE STATE AFTER THE EVENT
     pub sim-next : Sim ev (suc n) (world (stepped .state) judgedTo)
     unfolding judgedWork
-    sim-next = by-test (countsW w (ev n)) (eqb (found .load) 0)
+    sim-next = by-test (countsW w (ev n)) (eqb load 0)
       where
         after : List ℕ
         after = judged (stepped .work) (location ev n) (source ev n)
@@ -79,25 +87,26 @@ module _ (ev : ℕ → Event) where
     leaves = step-leaves ev n w sim passes
 
     -- nothing is judged behind a load that broke
-    held-broken : found .load ≢ 0 → Held ev (suc n) foundNext judgedTo
-    unfolding foundBy judgedWork
+    held-broken : load ≢ 0 → Held ev (suc n) loadNext judgedTo
+    unfolding loadAfter judgedWork
     held-broken some =
-        rw (ne-eqb (found .load) 0 some, and-false (countsW w (ev n)))
+        rw (ne-eqb load 0 some, and-false (countsW w (ev n)))
         (record {
           none-yet = λ none. absurd (some none);
-          broke = λ _ N within whole. held .broke some N (omega arith) whole;
+          early = λ _. omega (arith, held .early some);
+          broke = λ _. broke-stays ev (w .work) (stepped .work) leaves load (held .broke some);
         })
 
-    module _ (none : found .load ≡ 0) where
+    module _ (none : load ≡ 0) where
       good : Good ev n (w .work)
       good = held .none-yet none
 
       -- an event that is no counted load
-      held-quiet : counted ev n ≡ false → Held ev (suc n) foundNext judgedTo
-      unfolding foundBy judgedWork
+      held-quiet : counted ev n ≡ false → Held ev (suc n) loadNext judgedTo
+      unfolding loadAfter judgedWork
       held-quiet uncounted =
           rw (counts-is ev n w sim passes ∙ uncounted)
-          (held-while (suc n) found (stepped .work) none
+          (held-while (suc n) load (stepped .work) none
           (good-quiet ev (w .work) (stepped .work) leaves n accepted uncounted (sim-stepped .rows) good))
 
       -- a counted load
@@ -110,56 +119,54 @@ module _ (ev : ℕ → Event) where
 
         after-is : judgedTo ≡ afterLoad ev n (w .work)
         unfolding judgedWork
-        after-is = rw (counted-here, eq-eqb (found .load) 0 none, stays) refl
+        after-is = rw (counted-here, eq-eqb load 0 none, stays) refl
 
-        found-is :
-            foundNext ≡ (breaksThere ev n (w .work) gives evidenceAt (afterLoad ev n (w .work)) n else found)
-        unfolding foundBy
-        found-is = rw (counted-here, eq-eqb (found .load) 0 none, stays) refl
+        load-is : loadNext ≡ (breaksThere ev n (w .work) gives n else 0)
+        unfolding loadAfter
+        load-is = rw (counted-here, eq-eqb load 0 none, stays) refl
 
-        held-load : breaksThere ev n (w .work) ≡ false → Held ev (suc n) foundNext judgedTo
+        held-load : breaksThere ev n (w .work) ≡ false → Held ev (suc n) loadNext judgedTo
         held-load fails =
-            rw (found-is, fails, after-is)
-            (held-while (suc n) found (afterLoad ev n (w .work)) none
+            rw (load-is, fails, after-is)
+            (held-while (suc n) 0 (afterLoad ev n (w .work)) refl
             (good-load ev n accepted counts (w .work) good fails))
 
-        held-breaks : breaksThere ev n (w .work) ≡ true → Held ev (suc n) foundNext judgedTo
-        unfolding evidenceAt
+        held-breaks : breaksThere ev n (w .work) ≡ true → Held ev (suc n) loadNext judgedTo
         held-breaks breaks-it =
-            rw (found-is, breaks-it, up-is n (sim .limits .few-events))
+            rw (load-is, breaks-it, after-is)
             (record {
               none-yet = λ is-0. absurd (omega (arith, sim .limits .accepted .some-record));
-              broke = λ _ N within whole.
-                  good-breaks ev n accepted counts (w .work) good N whole (omega arith) breaks-it;
+              early = λ _. omega arith;
+              broke = λ _. good-breaks ev n accepted counts (w .work) good breaks-it;
             })
 
-    -- WHAT IS FOUND AFTER THE EVENT
-    pub held-next : Held ev (suc n) foundNext judgedTo
-    held-next = by-found (same? (found .load) 0)
+    -- WHAT THE LOADS HAVE SHOWN AFTER THE EVENT
+    pub held-next : Held ev (suc n) loadNext judgedTo
+    held-next = by-load (same? load 0)
       where
         by-count :
-            found .load ≡ 0 → (counted ev n ≡ true) ⊎ (counted ev n ≡ false) → Held ev (suc n) foundNext judgedTo
+            load ≡ 0 → (counted ev n ≡ true) ⊎ (counted ev n ≡ false) → Held ev (suc n) loadNext judgedTo
         by-count none (inr uncounted) = held-quiet none uncounted
         by-count none (inl counts) = by-answer (test (breaksThere ev n (w .work)))
           where
             by-answer :
                 (breaksThere ev n (w .work) ≡ true) ⊎ (breaksThere ev n (w .work) ≡ false)
-                → Held ev (suc n) foundNext judgedTo
+                → Held ev (suc n) loadNext judgedTo
             by-answer (inl breaks-it) = held-breaks none counts breaks-it
             by-answer (inr fails) = held-load none counts fails
 
-        by-found : (found .load ≡ 0) ⊎ (found .load ≢ 0) → Held ev (suc n) foundNext judgedTo
-        by-found (inr some) = held-broken some
-        by-found (inl none) = by-count none (test (counted ev n))
+        by-load : (load ≡ 0) ⊎ (load ≢ 0) → Held ev (suc n) loadNext judgedTo
+        by-load (inr some) = held-broken some
+        by-load (inl none) = by-count none (test (counted ev n))
 
   -- ---- the begin, over a cleared work area, which it leaves as it is
 
   pub held-first :
       (st : State) (work : List ℕ) → ((e k : ℕ) → getRow work e k ≡ 0) → Sim ev 1 (world st work)
-      → Held ev 1 nothing work
+      → Held ev 1 0 work
   unfolding counted
   held-first st work empty sim =
-      held-while 1 nothing work refl
+      held-while 1 0 work refl
       (good-quiet ev work work same 0 (sim .limits .accepted) uncounted (sim .rows)
       (good-start ev work (sim .rows .room) empty))
     where

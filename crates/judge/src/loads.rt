@@ -1,19 +1,19 @@
-// Counted loads, judged as they come. The first that breaks the trace leaves its evidence; none after it is judged.
+// Counted loads, judged as they come. The first that breaks the trace is kept; none after it is judged.
 ghost use mathlib.Core.Path.{_≡_};
-ghost use Rattle.judge.specs.Judging.{evidenceAt, judgedWork, foundBy};
+ghost use Rattle.judge.specs.Judging.{loadIn, evidenceAt, judgedWork, notedLoad};
 use marks::evidence;
 use marks::judged;
 use record::Fields;
 
-// The load that breaks the trace, 0 while none does, with the missing and the observed store.
+// The load that breaks the trace, with the missing and the observed store.
 pub struct Evidence {
     pub load: u16,
     pub missing: u16,
     pub observed: u16,
 }
 
-// The evidence over records 0 to `load`, which are all that the work area knows of.
-fn evidence_at(work: &[u16], load: u16) -> Evidence
+// The evidence over records 0 to `load`, whose marks the work area holds: later loads leave none.
+pub(crate) fn evidence_at(work: &[u16], load: u16) -> Evidence
     ensures { λ r. ⌜ r ≡ evidenceAt (now (work .entry)) load ⌝ }
 {
     let n = area::numbers::next_number(load);
@@ -26,25 +26,20 @@ fn evidence_at(work: &[u16], load: u16) -> Evidence
     }
 }
 
-// Event e, which passes, with the fields f, if it is a counted load: what is found with it.
-pub(crate) fn judge_event(
-    found: Evidence,
-    counted: bool,
-    work: &mut [u16],
-    e: u16,
-    f: Fields,
-) -> Evidence
-    ensures { λ r. ⌜ r ≡ foundBy found counted (now (work .entry)) e f ⌝ }
-    ensures { λ _. ⌜ now (work .exit) ≡ judgedWork found counted (now (work .entry)) f ⌝ }
+// Event e, which passes, with the fields f: if it is a counted load and no load before it broke the trace, it is
+// judged, and kept if it breaks the trace. What is kept changes at most once, so it stays in memory, behind the rows of
+// the threads: handed on from turn to turn it would be moved at every record.
+pub(crate) fn judge_event(state: &mut [u16], counted: bool, work: &mut [u16], e: u16, f: Fields)
+    ensures { λ _. ⌜ now (state .exit) ≡ notedLoad (now (state .entry)) counted (now (work .entry)) e f ⌝ }
+    ensures { λ _. ⌜ now (work .exit) ≡ judgedWork (loadIn (now (state .entry))) counted (now (work .entry)) f ⌝ }
 {
     if !counted {
-        return found;
+        return;
     }
-    if found.load != 0 {
-        return found;
+    if area::get(state, 128) != 0 {
+        return;
     }
-    if !judged::judge_load(work, f.location, f.source) {
-        return found;
+    if judged::judge_load(work, f.location, f.source) {
+        area::put(state, 128, e);
     }
-    evidence_at(work, e)
 }

@@ -1,10 +1,10 @@
 // How two stores stand, after a run.
 ghost use mathlib.Core.Path.{_≡_};
 ghost use Rattle.judge.specs.Standings.{standingAfter};
-use crate::run::Turn;
+use crate::run::End;
 use model::Order;
 
-pub(crate) fn standing(t: Turn, work: &[u16], first: u16, second: u16) -> Order
+pub(crate) fn standing(t: End, work: &[u16], first: u16, second: u16) -> Order
     ensures { λ r. ⌜ r ≡ standingAfter t (now (work .entry)) first second ⌝ }
 {
     if t.refusal != 0 {

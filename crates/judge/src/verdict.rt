@@ -2,8 +2,9 @@
 ghost use mathlib.Core.Path.{_≡_};
 ghost use Prim.Native.Nat.{_-_};
 ghost use Rattle.judge.specs.Verdicts.{kindBy, brokenBy, verdictAfter, cutFrom};
+use crate::loads;
 use crate::loads::Evidence;
-use crate::run::Turn;
+use crate::run::End;
 use marks::end;
 use model::Kind;
 use model::Verdict;
@@ -39,7 +40,7 @@ fn broken(events: u16, f: Evidence) -> Verdict
 }
 
 // Only a robust trace changes the cut buffer.
-pub(crate) fn verdict(t: Turn, work: &[u16], cut: &mut [u16]) -> Verdict
+pub(crate) fn verdict(t: End, work: &[u16], cut: &mut [u16]) -> Verdict
     ensures { λ r. ⌜ r ≡ verdictAfter t (now (work .entry)) ⌝ }
     ensures { λ _. ⌜ now (cut .exit) ≡ cutFrom t (now (work .entry)) (now (cut .entry)) ⌝ }
 {
@@ -50,10 +51,10 @@ pub(crate) fn verdict(t: Turn, work: &[u16], cut: &mut [u16]) -> Verdict
         };
     }
     let events = preceding(t.event);
-    if t.found.load != 0 {
-        return broken(events, t.found);
+    if t.load != 0 {
+        return broken(events, loads::evidence_at(work, t.load));
     }
     end::copy_cut(work, cut);
-    let share = end::share(work, t.machine.stretch);
+    let share = end::share(work, t.stretch);
     Verdict::Robust { events, share }
 }

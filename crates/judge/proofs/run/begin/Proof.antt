@@ -5,7 +5,6 @@ use mathlib.Core.List.{List}
 use Prim.Native.Nat.{ℕ}
 use native.Mathlib.Omega.{arith}
 use borrow.Author.Needs.{needs}
-use lib.ListN.{replicate}
 use Rattle.judge.proofs.Records.{was-refused, was-read, first-unread, first-forbidden, first-passes}
 use Rattle.judge.proofs.run.begin.Statement.{statement}
 use Rattle.judge.proofs.run.begin.Tie as tie
@@ -38,7 +37,7 @@ returns c =
     was-refused bytes (at-read .read-at .result) 0 (told .0 .0) k (at-read .read-at .ensures) (told .1)
     (at-number .number-of .ensures)
     in
-    rw (c .refuse .ensures) (first-unread bytes k 1 (replicate 128 0) (replicate 32768 0) 0 unread)
+    rw (c .refuse .ensures) (first-unread bytes k 0 unread)
 
 fields-of-requires : tie.Need-fields-of-requires
 fields-of-requires c κs = search needs
@@ -65,16 +64,13 @@ returns-2 c =
     let past = told .0 .1 .0 in
     let is-read = was-read bytes (at-read .read-at .result) 0 x past (at-read .read-at .ensures) (told .1) in
     rw (c .refuse2 .ensures)
-    (first-forbidden bytes (at-rule .begin-refusal .result) 1 (replicate 128 0)
-    (replicate 32768 0) x past is-read (rw (sym (at-rule .before .kind-of .ensures), sym (at-fields .fields-of .ensures))
+    (first-forbidden bytes (at-rule .begin-refusal .result) x past is-read
+    (rw (sym (at-rule .before .kind-of .ensures), sym (at-fields .fields-of .ensures))
     (sym (at-rule .begin-refusal .ensures))) (λ none. omega arith))
-
-start-requires : tie.Need-start-requires
-start-requires c κs = search needs
 
 returns-3 : tie.Need-returns-3
 returns-3 c =
-    let at-rule = c .before .before in
+    let at-rule = c .before in
     let at-fields = at-rule .before .before in
     let at-record = at-fields .before .before in
     let at-read = at-record .before .before in
@@ -84,7 +80,7 @@ returns-3 c =
     let x = told .0 .0 in
     let past = told .0 .1 .0 in
     let is-read = was-read bytes (at-read .read-at .result) 0 x past (at-read .read-at .ensures) (told .1) in
-    rw (c .start .ensures, at-fields .fields-of .ensures)
+    rw (at-fields .fields-of .ensures)
     (first-passes bytes x past is-read
     (rw (sym (at-rule .before .kind-of .ensures), sym (at-fields .fields-of .ensures))
     (omega (arith, at-rule .begin-refusal .ensures))))
@@ -93,4 +89,4 @@ pub begin-spec : {M : Type 1} → statement M
 begin-spec =
     tie.close
     (tie.spec read-at-requires enum-known-r enum-told number-of-requires refuse-requires returns
-    fields-of-requires kind-of-requires begin-refusal-requires refuse-requires-2 returns-2 start-requires returns-3)
+    fields-of-requires kind-of-requires begin-refusal-requires refuse-requires-2 returns-2 returns-3)

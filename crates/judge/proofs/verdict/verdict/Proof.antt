@@ -17,17 +17,21 @@ returns c =
 preceding-requires : tie.Need-preceding-requires
 preceding-requires c κs = search needs
 
+evidence-at-requires : tie.Need-evidence-at-requires
+evidence-at-requires c κs = search needs
+
 broken-requires : tie.Need-broken-requires
 broken-requires c κs = search needs
 
 returns-2 : tie.Need-returns-2
 unfolding verdictAfter cutFrom
 returns-2 c =
-    let at-events = c .before .before .before in
+    let at-evidence = c .before in
+    let at-events = at-evidence .before .before .before in
     let entry = at-events .before .before .before .before .before in
     let passes = eq-eqb (entry .args .t .refusal) 0 (omega arith) in
-    let some = ne-eqb (entry .args .t .found .load) 0 (λ none. omega arith) in (
-      rw (passes, some, c .broken .ensures, at-events .preceding .ensures) refl,
+    let some = ne-eqb (entry .args .t .load) 0 (λ none. omega arith) in (
+      rw (passes, some, c .broken .ensures, at-evidence .evidence-at .ensures, at-events .preceding .ensures) refl,
       rw (passes, some) refl,
     )
 
@@ -47,7 +51,7 @@ returns-3 c =
     let at-events = at-copy .before .before .before .before in
     let entry = at-events .before .before .before .before .before in
     let passes = eq-eqb (entry .args .t .refusal) 0 (omega arith) in
-    let none = eq-eqb (entry .args .t .found .load) 0 (omega arith) in (
+    let none = eq-eqb (entry .args .t .load) 0 (omega arith) in (
       rw (passes, none, c .share .ensures, at-events .preceding .ensures) refl,
       rw (passes, none, at-copy .copy-cut .ensures) refl,
     )
@@ -55,5 +59,5 @@ returns-3 c =
 pub verdict-spec : {M : Type 1} → statement M
 verdict-spec =
     tie.close
-    (tie.spec returns preceding-requires broken-requires returns-2 copy-cut-requires share-requires same-length
-    returns-3)
+    (tie.spec returns preceding-requires evidence-at-requires broken-requires returns-2 copy-cut-requires share-requires
+    same-length returns-3)
