@@ -32,8 +32,8 @@ fn issue(m: Machine, e: usize, rows: &mut [u16], work: &mut [u16], t: u16, x: u1
     area::row_put(work, store, 8, t);
     area::row_put(work, store, 9, x);
     area::row_put(work, store, 10, m.stretch);
-    area::newest_put(work, x, t, store);
     threads::put_issued(rows, t, new);
+    area::newest_put(work, x, t, store);
     m.pass(false)
 }
 

@@ -53,13 +53,9 @@ row-put-requires-4 c κs = search needs
 row-put-requires-5 : tie.Need-row-put-requires-5
 row-put-requires-5 c κs = search needs
 
-newest-put-requires : tie.Need-newest-put-requires
-newest-put-requires c κs = search needs
-
 put-issued-requires : tie.Need-put-issued-requires
 put-issued-requires c κs =
-    let at-newest-put = c .before .before .before in
-    let at-row-put5 = at-newest-put .before .before .before .before in
+    let at-row-put5 = c .before .before .before in
     let at-row-put4 = at-row-put5 .before .before .before .before in
     let at-row-put3 = at-row-put4 .before .before .before .before in
     let at-row-put2 = at-row-put3 .before .before .before .before in
@@ -67,6 +63,9 @@ put-issued-requires c κs =
     let at-row-put = at-stamp .before .before .before .before .before in
     let at-issue = at-row-put .before .before in
     issue-keeps _ _ _ _ _ (at-issue .before .thread-of .ensures) (at-issue .issue .ensures)
+
+newest-put-requires : tie.Need-newest-put-requires
+newest-put-requires c κs = search needs
 
 pass-requires : tie.Need-pass-requires
 pass-requires c κs = search needs
@@ -76,8 +75,9 @@ same-length c = search needs
 
 same-length-2 : tie.Need-same-length-2
 same-length-2 c =
-    let at-newest-put = c .before .before .before .before .before .before .before in
-    let at-row-put5 = at-newest-put .before .before .before .before in
+    let at-newest-put = c .before .before .before in
+    let at-put-issued = at-newest-put .before .before .before .before in
+    let at-row-put5 = at-put-issued .before .before .before .before in
     let at-row-put4 = at-row-put5 .before .before .before .before in
     let at-row-put3 = at-row-put4 .before .before .before .before in
     let at-row-put2 = at-row-put3 .before .before .before .before in
@@ -89,9 +89,9 @@ same-length-2 c =
 
 returns-2 : tie.Need-returns-2
 returns-2 c =
-    let at-put-issued = c .before .before .before in
-    let at-newest-put = at-put-issued .before .before .before .before in
-    let at-row-put5 = at-newest-put .before .before .before .before in
+    let at-newest-put = c .before .before .before in
+    let at-put-issued = at-newest-put .before .before .before .before in
+    let at-row-put5 = at-put-issued .before .before .before .before in
     let at-row-put4 = at-row-put5 .before .before .before .before in
     let at-row-put3 = at-row-put4 .before .before .before .before in
     let at-row-put2 = at-row-put3 .before .before .before .before in
@@ -131,8 +131,8 @@ issue-spec =
     row-put-requires-3
     row-put-requires-4
     row-put-requires-5
-    newest-put-requires
     put-issued-requires
+    newest-put-requires
     pass-requires
     same-length
     same-length-2
