@@ -1,7 +1,7 @@
 -- What a counted load does to the work area. Every store on its location's chain after its source becomes forbidden:
 -- the flag 1 of its row, and the lowest forbidden place of its stretch and thread. Then the source becomes observed:
 -- the flag 2, and the cut of its stretch is raised to its clock, so that the cut is the closure of what is observed.
-use Prim.Native.Nat.{ℕ, zero, suc, _+_, max}
+use Prim.Native.Nat.{ℕ, zero, suc, _+_, _*_, _/_, max}
 use mathlib.Core.Bool.{Bool, cond, _&&_}
 use mathlib.Core.List.{List}
 use lib.Dec.{eqb, leb, ltb}
@@ -12,7 +12,7 @@ use Rattle.area.specs.Tables.{cutSlot, lowSlot}
 
 -- flags with 1, forbidden
 abbrev pub forbid : ℕ → ℕ
-forbid f = cond (eqb f 0) 1 (cond (eqb f 2) 3 f)
+forbid f = f / 2 * 2 + 1
 
 -- flags with 2, observed
 abbrev pub observe : ℕ → ℕ

@@ -7,13 +7,7 @@ ghost use Rattle.marks.specs.Marking.{forbid, observe, lower, putMark};
 pub fn forbid(f: u16) -> u16
     ensures { λ r. ⌜ r ≡ forbid f ⌝ }
 {
-    if f == 0 {
-        1
-    } else if f == 2 {
-        3
-    } else {
-        f
-    }
+    f / 2 * 2 + 1
 }
 
 pub fn observe(f: u16) -> u16
