@@ -12,7 +12,7 @@ use Rattle.machine.specs.declared.state.Step.{Step}
 use Rattle.machine.specs.Threads.{firstOf, issuedT, committedT, threadOf}
 use Rattle.machine.specs.Threads.{KeepsOldest, putIssued, putCommitted}
 use Rattle.machine.specs.Twin.{stateOf, world, withRows}
-use Rattle.machine.specs.Effects.{stamped, issueW, commitW}
+use Rattle.machine.specs.Effects.{written, issueW, commitW}
 use Rattle.machine.specs.Outcomes.{outcome, byRule}
 
 -- an event that passes
@@ -27,25 +27,19 @@ unfolding threadOf issuedT firstOf
 issue-keeps rows t e old new old-is new-is some = rw (new-is, old-is, ne-eqb (getRow rows (suc t) 8) 0 some) refl
 
 pub issue-body :
-    (m : Machine) (e : ℕ) (r : Step)
-    (rows rows′ l linked with-seen with-clock with-thread with-location with-stretch after : List ℕ) (t x : ℕ)
-    (old new : Thread)
+    (m : Machine) (e : ℕ) (r : Step) (rows rows′ l linked with-row after : List ℕ) (t x : ℕ) (old new : Thread)
     → old ≡ threadOf rows t
     → new ≡ issuedT old e
     → linked ≡ putRow l (old .newest) 11 e
-    → with-seen ≡ stamped rows t e linked
-    → with-clock ≡ putRow with-seen e t (new .issued)
-    → with-thread ≡ putRow with-clock e 8 t
-    → with-location ≡ putRow with-thread e 9 x
-    → with-stretch ≡ putRow with-location e 10 (m .stretch)
-    → after ≡ putRow with-stretch (newestRow x t) 15 e
+    → with-row ≡ written rows t e (new .issued) x (m .stretch) linked
+    → after ≡ putRow with-row (newestRow x t) 15 e
     → rows′ ≡ putIssued rows t new
     → r ≡ passed m
     → outcome m e r rows′ after ≡ byRule 0 (world (stateOf m e rows) l) false (issueW (world (stateOf m e rows) l) t x)
 unfolding byRule issueW issuedT withRows
-issue-body m e r rows rows′ l linked with-seen with-clock with-thread with-location with-stretch after t x old new
-    old-is new-is links seen clocks threads locations stretches newest rows-are result =
-    rw (result, rows-are, newest, stretches, locations, threads, clocks, seen, links, new-is, old-is) refl
+issue-body m e r rows rows′ l linked with-row after t x old new
+    old-is new-is links row newest rows-are result =
+    rw (result, rows-are, newest, row, links, new-is, old-is) refl
 
 pub commit-body :
     (m : Machine) (e : ℕ) (r : Step) (rows rows′ l chained after : List ℕ) (t : ℕ) (old new : Thread)

@@ -17,7 +17,7 @@ use Rattle.area.proofs.ReadBack.{length-put, put-other, put-in-row, →has-row,
 use Rattle.machine.specs.declared.threads.Thread.{Thread}
 use Rattle.machine.specs.Threads.{fresh, bit, issuedT, committedT, skippedT, threadOf}
 use Rattle.machine.specs.Threads.{putIssued, putCommitted, putSkip}
-use Rattle.machine.specs.Effects.{clocked, stamped, joined, met}
+use Rattle.machine.specs.Effects.{clocked, joined, met}
 
 pub up-is : (x : ℕ) → x ≤ 2049 → up x ≡ suc x
 unfolding up
@@ -35,12 +35,12 @@ put-row l e k v e′ k′ differ = put-other l e k v e′ k′ (λ same _. diffe
 
 -- ---- the clock of a store
 
-length-clocked : (k : ℕ) (rows : List ℕ) (t e : ℕ) (l : List ℕ) → length (clocked k rows t e l) ≡ length l
+pub length-clocked : (k : ℕ) (rows : List ℕ) (t e : ℕ) (l : List ℕ) → length (clocked k rows t e l) ≡ length l
 unfolding clocked
 length-clocked zero rows t e l = refl
 length-clocked (suc u) rows t e l = length-put (clocked u rows t e l) e u _ ∙ length-clocked u rows t e l
 
-clocked-other :
+pub clocked-other :
     (k : ℕ) (rows : List ℕ) (t e : ℕ) (l : List ℕ) (e′ k′ : ℕ) → (e ≡ e′ → k ≤ k′)
     → getRow (clocked k rows t e l) e′ k′ ≡ getRow l e′ k′
 unfolding clocked
@@ -49,7 +49,7 @@ clocked-other (suc u) rows t e l e′ k′ past =
     put-other (clocked u rows t e l) e u _ e′ k′ (λ same-row same-column. omega (arith, past same-row))
     ∙ clocked-other u rows t e l e′ k′ (λ same-row. omega (arith, past same-row))
 
-clocked-in :
+pub clocked-in :
     (k : ℕ) (rows : List ℕ) (t e : ℕ) (l : List ℕ) (u : ℕ) → 16 * e ≤ length l → 1 ≤ e → e ≤ 2048 → k ≤ 8 → u < k
     → getRow (clocked k rows t e l) e u ≡ getRow rows (suc t) u
 unfolding clocked
@@ -67,32 +67,6 @@ clocked-in (suc i) rows t e l u room from-one to-last few below =
         rw is (put-in-row so-far e i _ (rw (length-clocked i rows t e l) room) from-one to-last (omega arith))
     last-or-earlier (inr differs) earlier =
         put-column so-far e i _ e u (λ same. differs (sym same)) ∙ earlier (omega arith)
-
-module _ (rows : List ℕ) (t e : ℕ) (l : List ℕ) where
-  pub length-stamped : length (stamped rows t e l) ≡ length l
-  unfolding stamped
-  length-stamped = by-test (hasRow rows (suc t) && hasRow l e)
-    where
-      by-test : (there : Bool) → length (there gives clocked 8 rows t e l else l) ≡ length l
-      by-test true = length-clocked 8 rows t e l
-      by-test false = refl
-
-  pub stamped-other : (e′ k′ : ℕ) → (e ≡ e′ → 8 ≤ k′) → getRow (stamped rows t e l) e′ k′ ≡ getRow l e′ k′
-  unfolding stamped
-  stamped-other e′ k′ past = by-test (hasRow rows (suc t) && hasRow l e)
-    where
-      by-test : (there : Bool) → getRow (there gives clocked 8 rows t e l else l) e′ k′ ≡ getRow l e′ k′
-      by-test true = clocked-other 8 rows t e l e′ k′ past
-      by-test false = refl
-
-  pub stamped-in :
-      (u : ℕ) → length rows ≡ 128 → t < 8 → 16 * e ≤ length l → 1 ≤ e → e ≤ 2048 → u < 8
-      → getRow (stamped rows t e l) e u ≡ getRow rows (suc t) u
-  unfolding stamped
-  stamped-in u eight some room from-one to-last few =
-      rw (both _ _ (→has-row rows (suc t) (omega arith) (omega arith) (omega arith))
-      (→has-row l e from-one to-last room))
-      (clocked-in 8 rows t e l u room from-one to-last (omega arith) few)
 
 -- ---- what a thread has seen, joined with a row's clock
 

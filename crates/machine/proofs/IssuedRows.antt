@@ -10,61 +10,35 @@ use native.Mathlib.Omega.{arith}
 use lib.ListN.{length}
 use Rattle.area.specs.Cells.{getRow, putRow}
 use Rattle.area.specs.Tables.{newestRow}
-use Rattle.area.proofs.ReadBack.{length-put, put-same, put-other}
-use Rattle.machine.specs.Effects.{stamped, issuedWork}
-use Rattle.machine.proofs.CellLaws.{put-column, put-row, length-stamped, stamped-other, stamped-in}
+use Rattle.area.proofs.ReadBack.{length-put, put-same}
+use Rattle.machine.specs.Effects.{written, issuedWork}
+use Rattle.machine.proofs.CellLaws.{put-column, put-row}
+use Rattle.machine.proofs.WrittenRows.{length-written, written-far, written-stretch, written-location}
+use Rattle.machine.proofs.WrittenRows.{written-thread, written-own, written-clock}
 
 module _ (rows l : List ℕ) (g e t c x j : ℕ) where
   abbrev linked : List ℕ
   linked = putRow l g 11 e
 
-  abbrev with-seen : List ℕ
-  with-seen = stamped rows t e linked
-
-  abbrev with-clock : List ℕ
-  with-clock = putRow with-seen e t c
-
-  abbrev with-thread : List ℕ
-  with-thread = putRow with-clock e 8 t
-
-  abbrev with-location : List ℕ
-  with-location = putRow with-thread e 9 x
-
-  abbrev with-stretch : List ℕ
-  with-stretch = putRow with-location e 10 j
+  abbrev with-row : List ℕ
+  with-row = written rows t e c x j linked
 
   abbrev after : List ℕ
   after = issuedWork rows l g e t c x j
 
-  seen-size : length with-seen ≡ length l
-  seen-size = length-stamped rows t e linked ∙ length-put l g 11 e
-
-  clock-size : length with-clock ≡ length l
-  clock-size = length-put with-seen e t c ∙ seen-size
-
-  thread-size : length with-thread ≡ length l
-  thread-size = length-put with-clock e 8 t ∙ clock-size
-
-  location-size : length with-location ≡ length l
-  location-size = length-put with-thread e 9 x ∙ thread-size
-
-  stretch-size : length with-stretch ≡ length l
-  stretch-size = length-put with-location e 10 j ∙ location-size
+  row-size : length with-row ≡ length l
+  row-size = length-written rows t e c x j linked ∙ length-put l g 11 e
 
   pub issued-size : length after ≡ length l
-  issued-size = length-put with-stretch (newestRow x t) 15 e ∙ stretch-size
+  issued-size = length-put with-row (newestRow x t) 15 e ∙ row-size
 
   -- ---- the other cells
 
   -- the columns from 11 on, and the rows of other events, are as the link left them
   issued-far : (p k : ℕ) → k ≢ 15 → t < 8 → (e ≡ p → 11 ≤ k) → getRow after p k ≡ getRow linked p k
   issued-far p k not-15 some far =
-      put-column with-stretch (newestRow x t) 15 e p k (λ same. not-15 (sym same))
-      ∙ put-other with-location e 10 j p k (λ row column. omega (arith, far row))
-      ∙ put-other with-thread e 9 x p k (λ row column. omega (arith, far row))
-      ∙ put-other with-clock e 8 t p k (λ row column. omega (arith, far row))
-      ∙ put-other with-seen e t c p k (λ row column. omega (arith, far row))
-      ∙ stamped-other rows t e linked p k (λ row. omega (arith, far row))
+      put-column with-row (newestRow x t) 15 e p k (λ same. not-15 (sym same))
+      ∙ written-far rows t e c x j linked p k some far
 
   -- columns 12 to 14
   pub issued-column : (p k : ℕ) → 12 ≤ k → k ≢ 15 → t < 8 → getRow after p k ≡ getRow l p k
@@ -80,12 +54,8 @@ module _ (rows l : List ℕ) (g e t c x j : ℕ) where
   -- column 15 but for one row
   pub issued-newest-other : (p : ℕ) → newestRow x t ≢ p → t < 8 → getRow after p 15 ≡ getRow l p 15
   issued-newest-other p other some =
-      put-row with-stretch (newestRow x t) 15 e p 15 other
-      ∙ put-column with-location e 10 j p 15 (λ same. omega arith)
-      ∙ put-column with-thread e 9 x p 15 (λ same. omega arith)
-      ∙ put-column with-clock e 8 t p 15 (λ same. omega arith)
-      ∙ put-column with-seen e t c p 15 (λ same. omega arith)
-      ∙ stamped-other rows t e linked p 15 (λ _. omega arith)
+      put-row with-row (newestRow x t) 15 e p 15 other
+      ∙ written-far rows t e c x j linked p 15 some (λ _. omega arith)
       ∙ put-column l g 11 e p 15 (λ same. omega arith)
 
   -- column 11
@@ -94,44 +64,42 @@ module _ (rows l : List ℕ) (g e t c x j : ℕ) where
 
   -- ---- the store's row and the newest store
 
-  module _ (room : 32768 ≤ length l) (from-one : 1 ≤ e) (to-last : e ≤ 2048) where
-    pub issued-newest : newestRow x t ≤ 2048 → getRow after (newestRow x t) 15 ≡ e
-    issued-newest small =
-        put-same with-stretch (newestRow x t) 15 e (rw stretch-size room) (omega arith) small (omega arith)
+  pub issued-newest : 32768 ≤ length l → newestRow x t ≤ 2048 → getRow after (newestRow x t) 15 ≡ e
+  issued-newest room small =
+      put-same with-row (newestRow x t) 15 e (rw row-size room) (omega arith) small (omega arith)
 
-    pub issued-stretch : getRow after e 10 ≡ j
-    issued-stretch =
-        put-column with-stretch (newestRow x t) 15 e e 10 (λ same. omega arith)
-        ∙ put-same with-location e 10 j (rw location-size room) from-one to-last (omega arith)
+  module _
+      (room : 32768 ≤ length l) (from-one : 1 ≤ e) (to-last : e ≤ 2048) (eight : length rows ≡ 128) (some : t < 8)
+    where
+      -- the newest store is noted in another column
+      beside-newest : (k : ℕ) → k < 11 → getRow after e k ≡ getRow with-row e k
+      beside-newest k low = put-column with-row (newestRow x t) 15 e e k (λ same. omega arith)
 
-    pub issued-location : getRow after e 9 ≡ x
-    issued-location =
-        put-column with-stretch (newestRow x t) 15 e e 9 (λ same. omega arith)
-        ∙ put-column with-location e 10 j e 9 (λ same. omega arith)
-        ∙ put-same with-thread e 9 x (rw thread-size room) from-one to-last (omega arith)
+      row-there : 16 * e ≤ length linked
+      row-there = omega (arith, length-put l g 11 e)
 
-    pub issued-thread : getRow after e 8 ≡ t
-    issued-thread =
-        put-column with-stretch (newestRow x t) 15 e e 8 (λ same. omega arith)
-        ∙ put-column with-location e 10 j e 8 (λ same. omega arith)
-        ∙ put-column with-thread e 9 x e 8 (λ same. omega arith)
-        ∙ put-same with-clock e 8 t (rw clock-size room) from-one to-last (omega arith)
+      pub issued-stretch : getRow after e 10 ≡ j
+      issued-stretch =
+          beside-newest 10 (omega arith)
+          ∙ written-stretch rows t e c x j linked eight some row-there from-one to-last
 
-    -- its clock: of its own thread the count, of another what the thread has seen
-    issued-low : (u : ℕ) → u < 8 → getRow after e u ≡ getRow with-clock e u
-    issued-low u few =
-        put-column with-stretch (newestRow x t) 15 e e u (λ same. omega arith)
-        ∙ put-column with-location e 10 j e u (λ same. omega arith)
-        ∙ put-column with-thread e 9 x e u (λ same. omega arith)
-        ∙ put-column with-clock e 8 t e u (λ same. omega arith)
+      pub issued-location : getRow after e 9 ≡ x
+      issued-location =
+          beside-newest 9 (omega arith)
+          ∙ written-location rows t e c x j linked eight some row-there from-one to-last
 
-    pub issued-own : t < 8 → getRow after e t ≡ c
-    issued-own some =
-        issued-low t some ∙ put-same with-seen e t c (rw seen-size room) from-one to-last (omega arith)
+      pub issued-thread : getRow after e 8 ≡ t
+      issued-thread =
+          beside-newest 8 (omega arith)
+          ∙ written-thread rows t e c x j linked eight some row-there from-one to-last
 
-    pub issued-clock :
-        (u : ℕ) → u < 8 → t ≢ u → t < 8 → length rows ≡ 128 → getRow after e u ≡ getRow rows (suc t) u
-    issued-clock u few other some eight =
-        let room-there : 16 * e ≤ length linked = omega (arith, length-put l g 11 e) in
-        issued-low u few ∙ put-column with-seen e t c e u other
-        ∙ stamped-in rows t e linked u eight some room-there from-one to-last few
+      -- its clock: of its own thread the count, of another what the thread has seen
+      pub issued-own : getRow after e t ≡ c
+      issued-own =
+          beside-newest t (omega arith)
+          ∙ written-own rows t e c x j linked eight some row-there from-one to-last
+
+      pub issued-clock : (u : ℕ) → u < 8 → t ≢ u → getRow after e u ≡ getRow rows (suc t) u
+      issued-clock u few other =
+          beside-newest u (omega arith)
+          ∙ written-clock rows t e c x j linked eight some row-there from-one to-last u few other

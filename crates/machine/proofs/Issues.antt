@@ -159,9 +159,12 @@ module _ (ev : ℕ → Event) (n : ℕ) (w : World) (sim : Sim ev n w) (passes :
   new-row : StoreRow ev after n
   new-row = record {
     clock-is = λ u few-u. clock-entry u few-u (same? u t);
-    thread-is = issued-thread rows l newest n t count-now x j (sim .rows .room) n-some n-small;
-    location-is = issued-location rows l newest n t count-now x j (sim .rows .room) n-some n-small;
-    stretch-is = issued-stretch rows l newest n t count-now x j (sim .rows .room) n-some n-small;
+    thread-is =
+        issued-thread rows l newest n t count-now x j (sim .rows .room) n-some n-small (sim .numbers .eight) few;
+    location-is =
+        issued-location rows l newest n t count-now x j (sim .rows .room) n-some n-small (sim .numbers .eight) few;
+    stretch-is =
+        issued-stretch rows l newest n t count-now x j (sim .rows .room) n-some n-small (sim .numbers .eight) few;
   }
     where
       no-load : Load ev n → thread ev n ≡ t → ⊥
@@ -170,11 +173,11 @@ module _ (ev : ℕ → Event) (n : ℕ) (w : World) (sim : Sim ev n w) (passes :
       clock-entry : (u : ℕ) → u < 8 → (u ≡ t) ⊎ (u ≢ t) → getRow after n u ≡ vc ev n u
       clock-entry u few-u (inl own) =
           rw (own, vc-own ev n t store refl)
-          (issued-own rows l newest n t count-now x j (sim .rows .room) n-some n-small few)
+          (issued-own rows l newest n t count-now x j (sim .rows .room) n-some n-small (sim .numbers .eight) few)
       clock-entry u few-u (inr other) =
           rw (vc-other ev n u store other)
-          (issued-clock rows l newest n t count-now x j (sim .rows .room) n-some n-small u few-u
-          (λ same. other (sym same)) few (sim .numbers .eight)
+          (issued-clock rows l newest n t count-now x j (sim .rows .room) n-some n-small (sim .numbers .eight) few u
+          few-u (λ same. other (sym same))
           ∙ sim .seen-are t u few few-u ∙ sym (seen-away ev n t u no-crash no-load))
 
   slots-stay : (i : ℕ) → cell after i ≡ cell l i
@@ -280,7 +283,7 @@ module _ (ev : ℕ → Event) (n : ℕ) (w : World) (sim : Sim ev n w) (passes :
       → getRow after (newestRow y u) 15 ≡ newestAt ev (suc n) y u
   newest-next y u few-y few-u (inl same-x) (inl same-t) =
       rw (← same-x, ← same-t)
-      (issued-newest rows l newest n t count-now x j (sim .rows .room) n-some n-small (omega (arith, few, small))
+      (issued-newest rows l newest n t count-now x j (sim .rows .room) (omega (arith, few, small))
       ∙ sym (newest-here ev n store))
   newest-next y u few-y few-u (inl same-x) (inr other) =
       issued-newest-other rows l newest n t count-now x j (newestRow y u) (λ same. other (omega (arith, few))) few

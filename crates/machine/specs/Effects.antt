@@ -2,7 +2,7 @@
 use Prim.Native.Nat.{ℕ, zero, suc, max}
 use mathlib.Core.Bool.{Bool, _&&_}
 use mathlib.Core.List.{List}
-use lib.Dec.{eqb}
+use lib.Dec.{eqb, leb}
 use Rattle.record.specs.declared.events.Event.{Event}
 use Rattle.record.specs.declared.events.Fields.{Fields}
 use Rattle.record.specs.Tests.{_gives_else_}
@@ -21,9 +21,15 @@ unfoldable pub clocked : ℕ → List ℕ → ℕ → ℕ → List ℕ → List 
 clocked zero rows t e l = l
 clocked (suc u) rows t e l = putRow (clocked u rows t e l) e u (getRow rows (suc t) u)
 
--- all eight, if both rows are there
-unfoldable pub stamped : List ℕ → ℕ → ℕ → List ℕ → List ℕ
-stamped rows t e l = (hasRow rows (suc t) && hasRow l e) gives clocked 8 rows t e l else l
+-- a store's row: its clock, which is what thread t has seen, with c for t itself; its thread, location and stretch
+abbrev pub filled : List ℕ → ℕ → ℕ → ℕ → ℕ → ℕ → List ℕ → List ℕ
+filled rows t e c x j l =
+    let with-clock = putRow (clocked 8 rows t e l) e t c in
+    putRow (putRow (putRow with-clock e 8 t) e 9 x) e 10 j
+
+-- the same, if t is a column and both rows are there
+unfoldable pub written : List ℕ → ℕ → ℕ → ℕ → ℕ → ℕ → List ℕ → List ℕ
+written rows t e c x j l = (leb t 15 && (hasRow rows (suc t) && hasRow l e)) gives filled rows t e c x j l else l
 
 -- columns 0 to k - 1 of thread t's row become the larger of them and those of row s
 unfoldable pub joined : ℕ → List ℕ → ℕ → ℕ → List ℕ → List ℕ
@@ -42,9 +48,7 @@ met l t s rows = (hasRow rows (suc t) && hasRow l s) gives joined 8 l t s rows e
 abbrev pub issuedWork : List ℕ → List ℕ → ℕ → ℕ → ℕ → ℕ → ℕ → ℕ → List ℕ
 issuedWork rows l g e t c x j =
     let linked = putRow l g 11 e in
-    let with-clock = putRow (stamped rows t e linked) e t c in
-    let with-row = putRow (putRow (putRow with-clock e 8 t) e 9 x) e 10 j in
-    putRow with-row (newestRow x t) 15 e
+    putRow (written rows t e c x j linked) (newestRow x t) 15 e
 
 unfoldable pub issueW : World → ℕ → ℕ → World
 issueW w t x =

@@ -27,11 +27,7 @@ fn issue(m: Machine, e: usize, rows: &mut [u16], work: &mut [u16], t: u16, x: u1
     let old = threads::thread_of(rows, t);
     let new = old.issue(store);
     area::row_put(work, old.newest, 11, store);
-    clocks::stamp(rows, t, work, store);
-    area::row_put(work, store, t, new.issued);
-    area::row_put(work, store, 8, t);
-    area::row_put(work, store, 9, x);
-    area::row_put(work, store, 10, m.stretch);
+    clocks::write_row(rows, t, work, e, new.issued, x, m.stretch);
     threads::put_issued(rows, t, new);
     area::newest_put(work, x, t, store);
     m.pass(false)

@@ -38,29 +38,12 @@ issue-requires c κs = search needs
 row-put-requires : tie.Need-row-put-requires
 row-put-requires c κs = search needs
 
-stamp-requires : tie.Need-stamp-requires
-stamp-requires c κs = search needs
-
-row-put-requires-2 : tie.Need-row-put-requires-2
-row-put-requires-2 c κs = search needs
-
-row-put-requires-3 : tie.Need-row-put-requires-3
-row-put-requires-3 c κs = search needs
-
-row-put-requires-4 : tie.Need-row-put-requires-4
-row-put-requires-4 c κs = search needs
-
-row-put-requires-5 : tie.Need-row-put-requires-5
-row-put-requires-5 c κs = search needs
+write-row-requires : tie.Need-write-row-requires
+write-row-requires c κs = search needs
 
 put-issued-requires : tie.Need-put-issued-requires
 put-issued-requires c κs =
-    let at-row-put5 = c .before .before .before in
-    let at-row-put4 = at-row-put5 .before .before .before .before in
-    let at-row-put3 = at-row-put4 .before .before .before .before in
-    let at-row-put2 = at-row-put3 .before .before .before .before in
-    let at-stamp = at-row-put2 .before .before .before .before in
-    let at-row-put = at-stamp .before .before .before .before .before in
+    let at-row-put = c .before .before .before .before .before .before .before .before in
     let at-issue = at-row-put .before .before in
     issue-keeps _ _ _ _ _ (at-issue .before .thread-of .ensures) (at-issue .issue .ensures)
 
@@ -77,40 +60,26 @@ same-length-2 : tie.Need-same-length-2
 same-length-2 c =
     let at-newest-put = c .before .before .before in
     let at-put-issued = at-newest-put .before .before .before .before in
-    let at-row-put5 = at-put-issued .before .before .before .before in
-    let at-row-put4 = at-row-put5 .before .before .before .before in
-    let at-row-put3 = at-row-put4 .before .before .before .before in
-    let at-row-put2 = at-row-put3 .before .before .before .before in
-    let at-stamp = at-row-put2 .before .before .before .before in
-    let at-row-put = at-stamp .before .before .before .before .before in
-    at-newest-put .newest-put .kept .0 ∙ at-row-put5 .row-put5 .kept .0 ∙ at-row-put4 .row-put4 .kept .0
-    ∙ at-row-put3 .row-put3 .kept .0 ∙ at-row-put2 .row-put2 .kept .0 ∙ at-stamp .stamp .kept .1 .1 .0
-    ∙ at-row-put .row-put .kept .0
+    let at-write-row = at-put-issued .before .before .before .before in
+    let at-row-put = at-write-row .before .before .before .before .before in
+    at-newest-put .newest-put .kept .0 ∙ at-write-row .write-row .kept .1 .1 .0 ∙ at-row-put .row-put .kept .0
 
 returns-2 : tie.Need-returns-2
 returns-2 c =
     let at-newest-put = c .before .before .before in
     let at-put-issued = at-newest-put .before .before .before .before in
-    let at-row-put5 = at-put-issued .before .before .before .before in
-    let at-row-put4 = at-row-put5 .before .before .before .before in
-    let at-row-put3 = at-row-put4 .before .before .before .before in
-    let at-row-put2 = at-row-put3 .before .before .before .before in
-    let at-stamp = at-row-put2 .before .before .before .before in
-    let at-row-put = at-stamp .before .before .before .before .before in
+    let at-write-row = at-put-issued .before .before .before .before in
+    let at-row-put = at-write-row .before .before .before .before .before in
     let at-issue = at-row-put .before .before in
     let at-thread-of = at-issue .before in
     let at-place-rule = at-thread-of .before .before .before in
     let passes : at-place-rule .place-rule .result ≡ 0 = omega arith in
     rw (sym (at-place-rule .place-rule .ensures) ∙ passes)
-    (issue-body _ _ _ _ _ _ _ _ _ _ _ _ _ _ _ _ _
+    (issue-body _ _ _ _ _ _ _ _ _ _ _ _ _
     (at-thread-of .thread-of .ensures)
     (at-issue .issue .ensures)
     (at-row-put .row-put .ensures)
-    (at-stamp .stamp .ensures)
-    (at-row-put2 .row-put2 .ensures)
-    (at-row-put3 .row-put3 .ensures)
-    (at-row-put4 .row-put4 .ensures)
-    (at-row-put5 .row-put5 .ensures)
+    (at-write-row .write-row .ensures)
     (at-newest-put .newest-put .ensures)
     (at-put-issued .put-issued .ensures)
     (c .pass .ensures))
@@ -126,11 +95,7 @@ issue-spec =
     thread-of-requires
     issue-requires
     row-put-requires
-    stamp-requires
-    row-put-requires-2
-    row-put-requires-3
-    row-put-requires-4
-    row-put-requires-5
+    write-row-requires
     put-issued-requires
     newest-put-requires
     pass-requires
