@@ -137,7 +137,7 @@ def eight_threads(events: int) -> Trace:
 
 
 def deep_walks(events: int) -> Trace:
-    """Stores at one location, then a load of the value before the trace in each later stretch: seven walks of it all."""
+    """Stores at one location, then a load of the value before the trace in each later stretch: a walk, and six repeats."""
     trace = Trace(1, 1)
     while trace.events < events - 15:
         trace.issue(0, 0)
