@@ -1,5 +1,5 @@
--- A thread's state in its row, and what the methods of it compute. The row's columns 0 to 7 are how many of each thread's
--- first stores of the stretch the thread has seen by loads; 8 to 12 are the state.
+-- A thread's state in its row, and what the methods of it compute. The row's columns 0 to 7 are how many of each
+-- thread's first stores of the stretch the thread has seen by loads; 8 to 12 are the state.
 use Prim.Native.Nat.{ℕ, suc}
 use mathlib.Core.Bool.{Bool, false, not}
 use mathlib.Core.List.{List}

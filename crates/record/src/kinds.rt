@@ -34,8 +34,8 @@ pub(crate) const KINDS: [[u16; 8]; 12] = [
     [11, 4, 4, 0, 0, 0, 0, 0],
 ];
 
-// The row of a kind; zeros where there is no such kind. Each arm indexes the table by a constant: an index that is known
-// only at run time would have the whole table copied at each call.
+// The row of a kind; zeros where there is no such kind. Each arm indexes the table by a constant: an index that is
+// known only at run time would have the whole table copied at each call.
 pub(crate) fn row_of(kind: u16) -> [u16; 8]
     ensures { λ r. ⌜ r ≡ rowOf kind ⌝ }
 {

@@ -1,5 +1,5 @@
--- `judge` meets its contract: with buffers of the wrong size refusals 14 and 15; else what `judge_over` answers over the
--- work area's first 32,768 numbers, of which `judged-as-demanded` says what it claims.
+-- `judge` meets its contract: with buffers of the wrong size refusals 14 and 15; else what `judge_over` answers over
+-- the work area's first 32,768 numbers, of which `judged-as-demanded` says what it claims.
 use mathlib.Core.Path.{_≡_, refl, sym, subst}
 use mathlib.Core.List.{List}
 use Prim.Native.Nat.{ℕ}

@@ -1,5 +1,5 @@
--- `text_of` meets its contract: the lines of refusal 13 for too long an input, else of what `judge` answers and leaves in
--- the cut buffer.
+-- `text_of` meets its contract: the lines of refusal 13 for too long an input, else of what `judge` answers and leaves
+-- in the cut buffer.
 use mathlib.Core.Path.{refl, ap, _∙_}
 use mathlib.Core.List.{List}
 use Prim.Native.Nat.{ℕ}

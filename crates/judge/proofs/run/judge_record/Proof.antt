@@ -44,7 +44,8 @@ returns c =
     let some = decoded-refused r (told .0 .0) (called .result) (called .ensures) (told .1) in
     rw (c .refuse .ensures)
     (scanned-unread bytes (args .threads) (args .locations) (t .event) t (loadIn state) (rowsIn state) work
-    (entry .pre .0) r (at-scan-at .scan-at .ensures) some (entry .pre .1 .0) (suc (t .event)) (loadIn state) (rowsIn state) work)
+    (entry .pre .0) r (at-scan-at .scan-at .ensures) some (entry .pre .1 .0) (suc (t .event)) (loadIn state)
+    (rowsIn state) work)
 
 slice-relend-prefix-step : tie.Need-slice-relend-prefix-step
 slice-relend-prefix-step c = search needs
@@ -82,8 +83,8 @@ returns-2 c =
     let (same, none) = decoded-event r (told .0 .0) (called .result) (called .ensures) (told .1) in
     rw (c .refuse2 .ensures)
     (scanned-forbidden bytes (args .threads) (args .locations) (t .event) t (loadIn state) (rowsIn state) work
-    (entry .pre .0) r (at-scan-at .scan-at .ensures) none (at-step .step .result) _ _ (rw same at (at-step .step .ensures)) (λ is-0. omega arith) (entry .pre .1 .0)
-    (suc (t .event)) _ _ _)
+    (entry .pre .0) r (at-scan-at .scan-at .ensures) none (at-step .step .result) _ _
+    (rw same at (at-step .step .ensures)) (λ is-0. omega arith) (entry .pre .1 .0) (suc (t .event)) _ _ _)
 
 -- the number of the event is small, by the limits of the events before it
 cast-judge-event : tie.Need-cast-judge-event

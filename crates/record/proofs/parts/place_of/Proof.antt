@@ -29,7 +29,8 @@ returns c =
     let loop = at-loop .loop in
     let args = at-loop .before .before .args in
     let none : sizeAt (args .trace .now) (loop .at) ≡ 0 = sym (at-call .size-at .ensures .0) ∙ c .if1 .taken in
-    (place-stays (args .trace .now) (loop .i) (args .e) (loop .at) (loop .inv .0) (loop .inv .1) none, omega (arith, at-call .size-at .ensures .1))
+    let stays = place-stays (args .trace .now) (loop .i) (args .e) (loop .at) (loop .inv .0) (loop .inv .1) none in
+    (stays, omega (arith, at-call .size-at .ensures .1))
 
 add-at : tie.Need-add-at Inv-loop μ-loop
 add-at c = search needs
