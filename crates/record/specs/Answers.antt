@@ -1,6 +1,13 @@
 -- What the calls of this crate answer, in document 01's numbers and values, and what each enum of the code answers.
 use Prim.Native.Nat.{ℕ}
+use lib.Dec.{eqb}
+use Rattle.record.specs.Tests.{_gives_else_}
+use Rattle.record.specs.Table.{lengthOf}
+use Rattle.record.specs.Fields.{eventOf}
 use Rattle.record.specs.declared.events.Event.{Event}
+use Rattle.record.specs.declared.events.Fields.{Fields}
+use Rattle.record.specs.declared.events.Named.{Named}
+use Rattle.record.specs.declared.events.Named.the-variants.{Known, NoKind}
 use Rattle.record.specs.declared.reading.Read.{Read}
 use Rattle.record.specs.declared.reading.Read.the-variants.{Record, Refused}
 use Rattle.record.specs.declared.writing.Written.{Written}
@@ -18,6 +25,10 @@ pub data Answer : Type 0 where
 abbrev pub readAnswer : Read → Answer
 readAnswer (Record e n) = event e n
 readAnswer (Refused k) = refused k 0
+
+-- the event of a kind with these fields; none where the table has no such kind: 3 "unknown kind"
+abbrev pub named : ℕ → Fields → Named
+named k f = eqb (lengthOf k) 0 gives NoKind else Known (eventOf k f)
 
 -- "refuses only with 17", whose event is 0
 abbrev pub writeAnswer : Written → Answer

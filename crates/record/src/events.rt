@@ -2,6 +2,9 @@
 ghost use mathlib.Core.Path.{_≡_};
 ghost use Rattle.record.specs.Events.{kindOf};
 ghost use Rattle.record.specs.Fields.{fieldsOf, threadFields, eventOf};
+ghost use Rattle.record.specs.Answers.{named};
+use crate::kinds::LENGTH;
+use crate::kinds::row_of;
 
 // An event of a trace: a variant for each kind of record, with the record's fields.
 pub enum Event {
@@ -54,6 +57,12 @@ pub struct Fields {
     pub version: u16,
     pub threads: u16,
     pub locations: u16,
+}
+
+// What a kind's number and fields name: the event, or nothing where the table has no such kind (refusal 3).
+pub enum Named {
+    Known(Event),
+    NoKind,
 }
 
 // The number of an event's kind.
@@ -141,7 +150,7 @@ pub fn fields_of(e: Event) -> Fields
 }
 
 // The event of a kind with these fields; a crash where there is no such kind.
-pub fn event_of(kind: u16, f: Fields) -> Event
+pub(crate) fn of_kind(kind: u16, f: Fields) -> Event
     ensures { λ r. ⌜ r ≡ eventOf kind f ⌝ }
 {
     match kind {
@@ -174,4 +183,15 @@ pub fn event_of(kind: u16, f: Fields) -> Event
         11 => Event::SkipOff { thread: f.thread },
         _ => Event::Crash,
     }
+}
+
+// The event of a kind with these fields, if the table has such a kind.
+pub fn event_of(kind: u16, f: Fields) -> Named
+    ensures { λ r. ⌜ r ≡ named kind f ⌝ }
+{
+    let row = row_of(kind);
+    if row[LENGTH] == 0 {
+        return Named::NoKind;
+    }
+    Named::Known(of_kind(kind, f))
 }

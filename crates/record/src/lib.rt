@@ -14,6 +14,7 @@ mod writing;
 
 pub use events::Event;
 pub use events::Fields;
+pub use events::Named;
 pub use events::event_of;
 pub use events::fields_of;
 pub use events::kind_of;

@@ -10,7 +10,7 @@ use crate::bytes::wide;
 use crate::bytes::word_at;
 use crate::events::Event;
 use crate::events::Fields;
-use crate::events::event_of;
+use crate::events::of_kind;
 use crate::kinds::LENGTH;
 use crate::kinds::LOCATION;
 use crate::kinds::LOCATIONS;
@@ -93,7 +93,7 @@ fn read_framed(s: &[u8], n: usize) -> Read
         return Read::Refused(4);
     }
     let f = fields_at(s, row);
-    let e = event_of(kind, f);
+    let e = of_kind(kind, f);
     Read::Record(e, n)
 }
 

@@ -1,65 +1,28 @@
--- Each arm is the definition's event at its number; every other number gives a crash in both. Assumes nothing.
-use Rattle.record.specs.Fields.{eventOf}
-use Rattle.record.proofs.Shapes.{crash-else}
+-- The row decides, as in the definition. Assumes nothing.
+use borrow.Author.Tests.{eq-eqb, ne-eqb}
+use borrow.Author.Needs.{needs}
 use Rattle.record.proofs.events.event_of.Statement.{statement}
 use Rattle.record.proofs.events.event_of.Tie as tie
 
+row-of-requires : tie.Need-row-of-requires
+row-of-requires c κs = search needs
+
+array-read-if1 : tie.Need-array-read-if1
+array-read-if1 c = search needs
+
 returns : tie.Need-returns
-unfolding eventOf
-returns c = rw (c .match .keys1)
+returns c =
+    let row-is = c .before .row-of .ensures in
+    simp (eq-eqb _ _ (rw row-is at (c .if1 .taken)))
+
+of-kind-requires : tie.Need-of-kind-requires
+of-kind-requires c κs = search needs
 
 returns-2 : tie.Need-returns-2
-unfolding eventOf
-returns-2 c = rw (c .match .keys2)
-
-returns-3 : tie.Need-returns-3
-unfolding eventOf
-returns-3 c = rw (c .match .keys3)
-
-returns-4 : tie.Need-returns-4
-unfolding eventOf
-returns-4 c = rw (c .match .keys4)
-
-returns-5 : tie.Need-returns-5
-unfolding eventOf
-returns-5 c = rw (c .match .keys5)
-
-returns-6 : tie.Need-returns-6
-unfolding eventOf
-returns-6 c = rw (c .match .keys6)
-
-returns-7 : tie.Need-returns-7
-unfolding eventOf
-returns-7 c = rw (c .match .keys7)
-
-returns-8 : tie.Need-returns-8
-unfolding eventOf
-returns-8 c = rw (c .match .keys8)
-
-returns-9 : tie.Need-returns-9
-unfolding eventOf
-returns-9 c = rw (c .match .keys9)
-
-returns-10 : tie.Need-returns-10
-unfolding eventOf
-returns-10 c = rw (c .match .keys10)
-
-returns-11 : tie.Need-returns-11
-unfolding eventOf
-returns-11 c = crash-else _ _ (c .match .rest)
+returns-2 c =
+    let row-is = c .before .before .row-of .ensures in
+    simp (ne-eqb _ _ (rw row-is at (c .before .if1 .left)), c .of-kind .ensures)
 
 pub event-of-spec : {M : Type 1} → statement M
 event-of-spec =
-    tie.close
-    (tie.spec
-    returns
-    returns-2
-    returns-3
-    returns-4
-    returns-5
-    returns-6
-    returns-7
-    returns-8
-    returns-9
-    returns-10
-    returns-11)
+    tie.close (tie.spec row-of-requires array-read-if1 returns of-kind-requires returns-2)

@@ -48,8 +48,8 @@ fields-at-requires c κs =
     let size-is = rw row-is at (c .before .wide .ensures .0) in
     rw row-is (row-fits _ _ (omega (arith, size-is)))
 
-event-of-requires : tie.Need-event-of-requires
-event-of-requires c κs = search needs
+of-kind-requires : tie.Need-of-kind-requires
+of-kind-requires c κs = search needs
 
 returns-3 : tie.Need-returns-3
 unfolding readFramed
@@ -77,5 +77,5 @@ read-framed-spec =
     add-expected
     returns-2
     fields-at-requires
-    event-of-requires
+    of-kind-requires
     returns-3)
