@@ -55,3 +55,11 @@ row-fits k n h =
       threads = omega (arith, offset-within 6 tt tt k);
       locations = omega (arith, offset-within 7 tt tt k);
     }
+
+-- the longest record has ten bytes, its length bytes included
+short : List ℕ → Bool
+short row = leb (getD row 1 0) 8
+
+pub at-most-eight : (k : ℕ) → lengthOf k ≤ 8
+unfolding short rowOf
+at-most-eight k = leb→le _ _ (every-at short kinds _ tt tt k)

@@ -1,85 +1,179 @@
--- Reading as numbers. Every kind but a begin has its fields in one order, so that its length says which it has; one
--- clause for each kind. `scan-read`, `scan-refused`: what was scanned is what was read. Assumes nothing.
+-- Scanning: the numbers that a kind's row places at a position are those of the event that is read there, and a record
+-- that is not read is refused by its number. `scan-read`, `scan-refused`: what was scanned is what was read.
+-- Assumes nothing.
 use mathlib.Core.Path.{_≡_, refl, sym, ap, _∙_}
+use mathlib.Core.Bool.{false}
 use mathlib.Core.Logic.{_≢_}
 use mathlib.Core.List.{List, []}
-use Prim.Native.Nat.{ℕ, _+_, _≤_}
+use Prim.Native.Nat.{ℕ, _+_, _-_, _≤_}
 use native.Mathlib.Nat.{add-zero}
 use native.Mathlib.Omega.{arith}
-use lib.ListN.{length, getD, drop, length-drop}
+use lib.ListN.{length, getD, take, drop, length-drop}
 use lib.Seq.{getD-drop}
-use lib.Dec.{lit≤}
+use lib.Dec.{eqb}
+use borrow.Author.Tests.{eqb-false}
 use Rattle.record.specs.Bytes.{word}
 use Rattle.record.specs.Table.{kinds, rowOf, lengthOf}
 use Rattle.record.specs.Events.{kindOf}
-use Rattle.record.specs.Fields.{fieldsAt, eventOf, fieldsOf}
-use Rattle.record.specs.Answers.{Answer, refused, event}
-use Rattle.record.specs.Reading.{readAt}
-use Rattle.record.specs.Scanning.{notRead, scanOf, laterFields}
+use Rattle.record.specs.Fields.{RowFits, fieldsAt, fieldsOf}
+use Rattle.record.specs.Answers.{Answer, refused, event, scanOf, refusalOf}
+use Rattle.record.specs.Reading.{readFirst, readAt}
 use Rattle.record.specs.declared.events.Event.{Event}
 use Rattle.record.specs.declared.events.Fields.{Fields}
 use Rattle.record.specs.declared.scanning.Scan.{Scan}
-use Rattle.record.proofs.Frames.{clash, Framed, →read, Answers, an-event, a-refusal}
+use Rattle.record.specs.declared.scanning.Scanned.the-variants.{Record, Refused}
+use Rattle.record.proofs.Frames.{clash, Framed, read→, →read, Answers, an-event, a-refusal}
+use Rattle.record.proofs.Rows.{row-fits, at-most-eight}
 use Rattle.record.proofs.Shapes.{each-kind, made}
-use Rattle.record.proofs.Starts.{read-at-answers}
-
--- ---- a record that is no begin
+use Rattle.record.proofs.Starts.{tail-is, from-event, read-at-answers, read-past-end}
 
 -- the number at an offset of the bytes from a position on
-pub word-drop : (s : List ℕ) (at i : ℕ) → word (drop at s) i ≡ word s (at + i)
+word-drop : (s : List ℕ) (at i : ℕ) → word (drop at s) i ≡ word s (at + i)
 word-drop s at i =
     let next : at + (i + 1) ≡ at + i + 1 = omega arith in
     rw (getD-drop at s i 0, getD-drop at s (i + 1) 0, next)
 
--- the length in the row of the table at a kind's number, or in row 0 past the table, is the kind's
-pub length-row : (j k n : ℕ) → k ≡ j → n ≡ getD (getD kinds j (getD kinds 0 [])) 1 0 → n ≡ lengthOf k
+-- ---- a kind of the table
+
+-- at a position a kind is left, and as many bytes as the kind's record has
+abbrev Room : List ℕ → ℕ → Type 0
+Room s at = (at + 4 ≤ length s) × (at + lengthOf (word s (at + 2)) + 2 ≤ length s)
+
+-- the row of the table at a kind's number, or row 0 past the table, is the kind's; whether it has a length is computed
+pub row-at :
+    (s : List ℕ) (at k j : ℕ) → k ≡ word s (at + 2) → k ≡ j → eqb (getD (getD kinds j (getD kinds 0 [])) 1 0) 0 ≡ false
+    → Room s at
+    → (j ≡ word s (at + 2)) × (getD kinds j (getD kinds 0 []) ≡ rowOf j) × (lengthOf j ≢ 0)
+    × (at + lengthOf j + 2 ≤ length s)
 unfolding rowOf
-length-row j k n k-is n-is = rw k-is n-is
+row-at s at k j k-is j-is some room =
+    let here : j ≡ word s (at + 2) = sym j-is ∙ k-is in
+    (here, refl, eqb-false _ 0 some, rw here (room .1))
 
--- a kind of the table that is no begin: its event's fields stand in the one order
-record Later (s : List ℕ) (k : ℕ) : Type 0 where
-  pub enough : 2 ≤ lengthOf k
-  pub most : lengthOf k ≤ 8
-  pub fields-are : fieldsOf (eventOf k (fieldsAt s (rowOf k))) ≡ laterFields s (lengthOf k)
+-- the fields of a record whose bytes are there end within them
+pub row-inside :
+    (s : List ℕ) (at k : ℕ) (row : List ℕ) → row ≡ rowOf k → at + lengthOf k + 2 ≤ length s
+    → RowFits row (length (take (length s - at) (drop at s)))
+row-inside s at k row row-is room = rw (row-is, tail-is s at) (row-fits k _ (simp length-drop (omega arith)))
 
-later : (s : List ℕ) (k : ℕ) → (lengthOf k ≡ 0 → ⊥) → k ≢ 1 → Later s k
-unfolding rowOf eventOf
-later s =
-    each-kind (λ (k : ℕ). k ≢ 1 → Later s k)
-    (λ no-begin. absurd (no-begin refl))
-    (λ _. record { enough = lit≤ tt; most = lit≤ tt; fields-are = refl })
-    (λ _. record { enough = lit≤ tt; most = lit≤ tt; fields-are = refl })
-    (λ _. record { enough = lit≤ tt; most = lit≤ tt; fields-are = refl })
-    (λ _. record { enough = lit≤ tt; most = lit≤ tt; fields-are = refl })
-    (λ _. record { enough = lit≤ tt; most = lit≤ tt; fields-are = refl })
-    (λ _. record { enough = lit≤ tt; most = lit≤ tt; fields-are = refl })
-    (λ _. record { enough = lit≤ tt; most = lit≤ tt; fields-are = refl })
-    (λ _. record { enough = lit≤ tt; most = lit≤ tt; fields-are = refl })
-    (λ _. record { enough = lit≤ tt; most = lit≤ tt; fields-are = refl })
-    (λ _. record { enough = lit≤ tt; most = lit≤ tt; fields-are = refl })
-
--- a record with a kind's length, whose fields all end within the trace, is read, and its numbers stand there
-pub scan-later :
-    (s : List ℕ) (at k n : ℕ) (f : Fields) → at + 10 ≤ length s → n ≡ word s at → k ≡ word s (at + 2)
-    → n ≡ lengthOf k → n ≢ 0 → k ≢ 1 → f ≡ laterFields (drop at s) n
-    → record { refusal = 0; kind = k; fields = f; next = at + n + 2 } ≡ scanOf (readAt s at)
+-- a record with its kind's length, whose bytes are there, is read, and its numbers stand there
+pub scan-known :
+    (s : List ℕ) (at k n : ℕ) (row : List ℕ) (f : Fields)
+    → (k ≡ word s (at + 2)) × (row ≡ rowOf k) × (lengthOf k ≢ 0) × (at + lengthOf k + 2 ≤ length s)
+    → n ≡ word s at → n ≡ getD row 1 0 → f ≡ fieldsAt (take (length s - at) (drop at s)) row
+    → Record (record { kind = k; fields = f; next = at + n + 2 }) ≡ scanOf (readAt s at)
 unfolding readAt
-scan-later s at k n f room n-is k-is fits some no-begin f-is =
+scan-known s at k n row f (k-is, row-is, some, room) n-is fits f-is =
     let t = drop at s in
-    let known : lengthOf k ≡ 0 → ⊥ = λ (none : lengthOf k ≡ 0). some (fits ∙ none) in
-    let l = later t k known no-begin in
+    let of-kind = made t k some in
+    let length-fits : n ≡ lengthOf k = rw (← row-is) fits in
+    let fields-here : f ≡ fieldsAt t (rowOf k) = rw (← row-is, ← tail-is s at) f-is in
     let length-at : word t 0 ≡ n = rw (word-drop s at 0, add-zero at) (sym n-is) in
     let kind-at : word t 2 ≡ k = word-drop s at 2 ∙ sym k-is in
-    let kind-is = made t k known .kind-is in
     let inside : n + 2 ≤ length t = simp length-drop (omega arith) in
-    let framed : Framed t (n + 2) = record { enough = omega arith; inside = inside; length-is = omega arith } in
+    let enough : 4 ≤ n + 2 = omega (arith, of-kind .length-is) in
+    let framed : Framed t (n + 2) = record { enough = enough; inside = inside; length-is = omega arith } in
     let read = →read t k (n + 2) framed kind-at (omega arith) in
     let past : at + n + 2 ≡ at + (n + 2) = omega arith in
-    rw (read, kind-is, l .fields-are, ← fits, ← f-is, past)
+    rw (read, of-kind .kind-is, of-kind .fields-are, ← fields-here, past)
 
--- `notRead` has no kind: what a scan with a kind promises holds of it
-pub no-kind : (r w : Scan) → r ≡ notRead → r .kind ≢ 0 → r ≡ w
-no-kind r w none some = absurd (some (ap (λ (x : Scan). x .kind) none))
+-- ---- a record that is not read
+
+-- a record is read at a position
+record IsThere (s : List ℕ) (at : ℕ) : Type 0 where
+  pub room : Room s at
+  pub length-is : word s at ≡ lengthOf (word s (at + 2))
+  pub known : lengthOf (word s (at + 2)) ≢ 0
+
+is-there : (s : List ℕ) (at : ℕ) (e : Event) (p : ℕ) → readAt s at ≡ event e p → IsThere s at
+unfolding readAt
+is-there s at e p h =
+    let t = drop at s in
+    let (n, read-is, past) = from-event at (readFirst t) e p h in
+    let read = read→ t e n read-is in
+    let framed = read .framed in
+    let size = length-drop at s in
+    let length-at : word t 0 ≡ word s at = rw (word-drop s at 0, add-zero at) in
+    let kind-at = word-drop s at 2 in
+    let fits : lengthOf (word s (at + 2)) + 2 ≡ n = rw (← kind-at) (read .length-fits) in
+    record {
+      room = (
+        omega (arith, framed .enough, framed .inside, size),
+        omega (arith, fits, framed .enough, framed .inside, size),
+      );
+      length-is = omega (arith, framed .length-is, length-at, fits);
+      known = rw (← kind-at) (read .known);
+    }
+
+-- a number other than 0 of what refuses the record at a position is what scanning refuses with; at 0 the record is read
+by-number :
+    (s : List ℕ) (at k : ℕ) → k ≡ refusalOf (scanOf (readAt s at))
+    → (k ≢ 0 → Refused k ≡ scanOf (readAt s at)) × (k ≡ 0 → IsThere s at)
+by-number s at k = by-answer (readAt s at) (read-at-answers s at) (is-there s at)
+  where
+    by-answer :
+        (a : Answer) → Answers a → ((e : Event) (p : ℕ) → a ≡ event e p → IsThere s at) → k ≡ refusalOf (scanOf a)
+        → (k ≢ 0 → Refused k ≡ scanOf a) × (k ≡ 0 → IsThere s at)
+    by-answer a (an-event e p is) there k-is = (λ some. absurd (some (rw is at k-is)), λ _. there e p is)
+    by-answer a (a-refusal j low high is) there k-is =
+        let same : k ≡ j = rw is at k-is in
+        (λ _. rw (is, same) refl, λ none. absurd (omega arith))
+
+-- where ten bytes are left, any record has its bytes
+pub room-for-ten : (s : List ℕ) (at : ℕ) → at + 10 ≤ length s → Room s at
+room-for-ten s at left = (omega arith, omega (arith, at-most-eight (word s (at + 2))))
+
+-- at the end and past it there are no bytes
+pub past-end : (s : List ℕ) (at : ℕ) → length s ≤ at → Refused 1 ≡ scanOf (readAt s at)
+past-end s at past = ap scanOf (read-past-end s at past)
+
+-- near the end the number tells which it is
+pub near-end :
+    (s : List ℕ) (at k : ℕ) → k ≡ refusalOf (scanOf (readAt s at))
+    → (k ≢ 0 → Refused k ≡ scanOf (readAt s at)) × (k ≡ 0 → Room s at)
+near-end s at k k-is = let told = by-number s at k k-is in (told .0, λ none. told .1 none .room)
+
+refuses :
+    (s : List ℕ) (at k : ℕ) → k ≡ refusalOf (scanOf (readAt s at)) → (IsThere s at → ⊥)
+    → Refused k ≡ scanOf (readAt s at)
+refuses s at k k-is not-there =
+    let told = by-number s at k k-is in
+    told .0 (λ (none : k ≡ 0). not-there (told .1 none))
+
+-- a length that is not the kind's refuses
+pub wrong-length :
+    (s : List ℕ) (at k kind n : ℕ) → k ≡ refusalOf (scanOf (readAt s at)) → kind ≡ word s (at + 2)
+    → n ≡ word s at → n ≢ lengthOf kind → Refused k ≡ scanOf (readAt s at)
+wrong-length s at k kind n k-is kind-is n-is unfit =
+    refuses s at k k-is (λ (there : IsThere s at). unfit (rw (n-is, kind-is) (there .length-is)))
+
+-- a number that no arm of `scan_step` takes
+abbrev NoScanArm : ℕ → Type 0
+NoScanArm k =
+    ((((((((((Unit {0} × (k ≡ 1 → ⊥)) × (k ≡ 2 → ⊥)) × (k ≡ 3 → ⊥)) × (k ≡ 4 → ⊥)) × (k ≡ 5 → ⊥)) × (k ≡ 6 → ⊥))
+    × (k ≡ 7 → ⊥)) × (k ≡ 8 → ⊥)) × (k ≡ 9 → ⊥)) × (k ≡ 10 → ⊥)) × (k ≡ 11 → ⊥)
+
+arm-for : (k : ℕ) → (lengthOf k ≡ 0 → ⊥) → NoScanArm k → ⊥
+arm-for =
+    each-kind (λ (k : ℕ). NoScanArm k → ⊥)
+    (λ no. no .0 .0 .0 .0 .0 .0 .0 .0 .0 .0 .1 refl)
+    (λ no. no .0 .0 .0 .0 .0 .0 .0 .0 .0 .1 refl)
+    (λ no. no .0 .0 .0 .0 .0 .0 .0 .0 .1 refl)
+    (λ no. no .0 .0 .0 .0 .0 .0 .0 .1 refl)
+    (λ no. no .0 .0 .0 .0 .0 .0 .1 refl)
+    (λ no. no .0 .0 .0 .0 .0 .1 refl)
+    (λ no. no .0 .0 .0 .0 .1 refl)
+    (λ no. no .0 .0 .0 .1 refl)
+    (λ no. no .0 .0 .1 refl)
+    (λ no. no .0 .1 refl)
+    (λ no. no .1 refl)
+
+-- a kind that is not in the table refuses
+pub unknown-kind :
+    (s : List ℕ) (at k kind : ℕ) → k ≡ refusalOf (scanOf (readAt s at)) → kind ≡ word s (at + 2) → NoScanArm kind
+    → Refused k ≡ scanOf (readAt s at)
+unknown-kind s at k kind k-is kind-is no-arm =
+    refuses s at k k-is (λ (there : IsThere s at). arm-for kind (rw kind-is (there .known)) no-arm)
 
 -- ---- what was scanned is what was read
 
@@ -93,34 +187,25 @@ refusals-some s at k i = by-answer (readAt s at) (read-at-answers s at)
         let same : j ≡ k = cc in
         (λ (none : k ≡ 0). omega arith, cc)
 
--- refusal 0: a record was read, and these are its kind, its fields and the position past it
+-- numbers: a record was read, and these are its kind, its fields and the position past it
 pub scan-read :
-    (s : List ℕ) (at : ℕ) (r : Scan) → r ≡ scanOf (readAt s at) → r .refusal ≡ 0
+    (s : List ℕ) (at : ℕ) (r : Scan) → Record r ≡ scanOf (readAt s at)
     → (e : Event) × ((readAt s at ≡ event e (r .next)) × (r .kind ≡ kindOf e) × (r .fields ≡ fieldsOf e))
 scan-read s at r = by-answer (readAt s at) (read-at-answers s at)
   where
     by-answer :
-        (a : Answer) → Answers a → r ≡ scanOf a → r .refusal ≡ 0
+        (a : Answer) → Answers a → Record r ≡ scanOf a
         → (e : Event) × ((a ≡ event e (r .next)) × (r .kind ≡ kindOf e) × (r .fields ≡ fieldsOf e))
-    by-answer a (an-event e n is) r-is none =
-        let event-is : r ≡ scanOf (event e n) = r-is ∙ ap scanOf is in
-        let past : n ≡ r .next = sym (ap (λ (x : Scan). x .next) event-is) in
-        let kind-is = ap (λ (x : Scan). x .kind) event-is in
-        let fields-are = ap (λ (x : Scan). x .fields) event-is in
-        (e, (is ∙ ap (event e) past, kind-is, fields-are))
-    by-answer a (a-refusal k low high is) r-is none =
-        let same : r .refusal ≡ k = ap (λ (x : Scan). x .refusal) (r-is ∙ ap scanOf is) in
-        absurd (omega arith)
+    by-answer a (an-event e n is) h =
+        let same : r ≡ record { kind = kindOf e; fields = fieldsOf e; next = n } = cc (is, h) in
+        let past : n ≡ r .next = rw same refl in
+        (e, (is ∙ ap (event e) past, rw same refl, rw same refl))
+    by-answer a (a-refusal k low high is) h = absurd (clash (cc))
 
--- any other refusal is the reading's
-pub scan-refused :
-    (s : List ℕ) (at : ℕ) (r : Scan) → r ≡ scanOf (readAt s at) → r .refusal ≢ 0
-    → readAt s at ≡ refused (r .refusal) 0
-scan-refused s at r = by-answer (readAt s at) (read-at-answers s at)
+-- a refusal: reading refuses with the same number, and with event 0
+pub scan-refused : (s : List ℕ) (at k : ℕ) → Refused k ≡ scanOf (readAt s at) → readAt s at ≡ refused k 0
+scan-refused s at k = by-answer (readAt s at) (read-at-answers s at)
   where
-    by-answer : (a : Answer) → Answers a → r ≡ scanOf a → r .refusal ≢ 0 → a ≡ refused (r .refusal) 0
-    by-answer a (an-event e n is) r-is some =
-        absurd (some (ap (λ (x : Scan). x .refusal) (r-is ∙ ap scanOf is)))
-    by-answer a (a-refusal k low high is) r-is some =
-        let same : r .refusal ≡ k = ap (λ (x : Scan). x .refusal) (r-is ∙ ap scanOf is) in
-        rw same is
+    by-answer : (a : Answer) → Answers a → Refused k ≡ scanOf a → a ≡ refused k 0
+    by-answer a (an-event e n is) h = absurd (clash (cc))
+    by-answer a (a-refusal j low high is) h = cc

@@ -51,9 +51,11 @@ wordsFrom (suc m) at s = word s at ∷ wordsFrom m (at + 2) s
 abbrev pub fieldCount : ℕ → ℕ
 fieldCount k = (lengthOf k - 2) / 2
 
--- the event of a kind, made of the fields that its row places, has that kind and the record's words as its values
+-- the event of a kind, made of the fields that its row places, has that kind, those fields, and the record's words as
+-- its values
 pub record Made (s : List ℕ) (k : ℕ) : Type 0 where
   pub kind-is : kindOf (eventOf k (fieldsAt s (rowOf k))) ≡ k
+  pub fields-are : fieldsOf (eventOf k (fieldsAt s (rowOf k))) ≡ fieldsAt s (rowOf k)
   pub values-are : valuesOf (eventOf k (fieldsAt s (rowOf k))) ≡ wordsFrom (fieldCount k) 4 s
   pub length-is : lengthOf k ≡ 2 + fieldCount k * 2
 
@@ -61,17 +63,17 @@ pub made : (s : List ℕ) (k : ℕ) → (lengthOf k ≡ 0 → ⊥) → Made s k
 unfolding rowOf eventOf
 made s =
     each-kind (Made s)
-    (record { kind-is = refl; values-are = refl; length-is = refl })
-    (record { kind-is = refl; values-are = refl; length-is = refl })
-    (record { kind-is = refl; values-are = refl; length-is = refl })
-    (record { kind-is = refl; values-are = refl; length-is = refl })
-    (record { kind-is = refl; values-are = refl; length-is = refl })
-    (record { kind-is = refl; values-are = refl; length-is = refl })
-    (record { kind-is = refl; values-are = refl; length-is = refl })
-    (record { kind-is = refl; values-are = refl; length-is = refl })
-    (record { kind-is = refl; values-are = refl; length-is = refl })
-    (record { kind-is = refl; values-are = refl; length-is = refl })
-    (record { kind-is = refl; values-are = refl; length-is = refl })
+    (record { kind-is = refl; fields-are = refl; values-are = refl; length-is = refl })
+    (record { kind-is = refl; fields-are = refl; values-are = refl; length-is = refl })
+    (record { kind-is = refl; fields-are = refl; values-are = refl; length-is = refl })
+    (record { kind-is = refl; fields-are = refl; values-are = refl; length-is = refl })
+    (record { kind-is = refl; fields-are = refl; values-are = refl; length-is = refl })
+    (record { kind-is = refl; fields-are = refl; values-are = refl; length-is = refl })
+    (record { kind-is = refl; fields-are = refl; values-are = refl; length-is = refl })
+    (record { kind-is = refl; fields-are = refl; values-are = refl; length-is = refl })
+    (record { kind-is = refl; fields-are = refl; values-are = refl; length-is = refl })
+    (record { kind-is = refl; fields-are = refl; values-are = refl; length-is = refl })
+    (record { kind-is = refl; fields-are = refl; values-are = refl; length-is = refl })
 
 -- a number that no arm of a match on the kinds 1 to 8, 10 and 11 takes
 abbrev pub NoArm : ℕ → Type 0

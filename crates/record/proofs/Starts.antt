@@ -61,7 +61,7 @@ start-more s e at n is size = rw (add-one, size, is)
 
 -- ---- the bytes from a position on, as the code lends them
 
-tail-is : (s : List ℕ) (at : ℕ) → take (length s - at) (drop at s) ≡ drop at s
+pub tail-is : (s : List ℕ) (at : ℕ) → take (length s - at) (drop at s) ≡ drop at s
 tail-is s at = take-all (length s - at) (drop at s) (simp length-drop (omega arith))
 
 -- the frame of the bytes from a position on gives the size there
@@ -191,7 +191,7 @@ pub read-at : (s : List ℕ) (at : ℕ) → readAt s at ≡ from at (readFirst (
 unfolding readAt
 read-at s at = refl
 
-from-event :
+pub from-event :
     (at : ℕ) (a : Answer) (e : Event) (p : ℕ) → from at a ≡ event e p
     → (n : ℕ) × (a ≡ event e n) × (p ≡ at + n)
 from-event at (refused k i) e p h = absurd (clash (cc))

@@ -3,13 +3,16 @@ use Prim.Native.Nat.{ℕ}
 use lib.Dec.{eqb}
 use Rattle.record.specs.Tests.{_gives_else_}
 use Rattle.record.specs.Table.{lengthOf}
-use Rattle.record.specs.Fields.{eventOf}
+use Rattle.record.specs.Events.{kindOf}
+use Rattle.record.specs.Fields.{eventOf, fieldsOf}
 use Rattle.record.specs.declared.events.Event.{Event}
 use Rattle.record.specs.declared.events.Fields.{Fields}
 use Rattle.record.specs.declared.events.Named.{Named}
 use Rattle.record.specs.declared.events.Named.the-variants.{Known, NoKind}
 use Rattle.record.specs.declared.reading.Read.{Read}
 use Rattle.record.specs.declared.reading.Read.the-variants.{Record, Refused}
+use Rattle.record.specs.declared.scanning.Scanned.{Scanned}
+use Rattle.record.specs.declared.scanning.Scanned.the-variants as scanned
 use Rattle.record.specs.declared.writing.Written.{Written}
 use Rattle.record.specs.declared.writing.Written.the-variants.{Done, NoRoom}
 
@@ -25,6 +28,18 @@ pub data Answer : Type 0 where
 abbrev pub readAnswer : Read → Answer
 readAnswer (Record e n) = event e n
 readAnswer (Refused k) = refused k 0
+
+-- the same as plain numbers: the event's kind and fields and the position past its record, or the refusal's number;
+-- reading never answers `wrote`
+abbrev pub scanOf : Answer → Scanned
+scanOf (event e n) = scanned.Record (record { kind = kindOf e; fields = fieldsOf e; next = n })
+scanOf (refused k i) = scanned.Refused k
+scanOf (wrote n) = scanned.Refused 0
+
+-- the number of the refusal, 0 for a record
+abbrev pub refusalOf : Scanned → ℕ
+refusalOf (scanned.Record r) = 0
+refusalOf (scanned.Refused k) = k
 
 -- the event of a kind with these fields; none where the table has no such kind: 3 "unknown kind"
 abbrev pub named : ℕ → Fields → Named

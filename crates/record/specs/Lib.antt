@@ -1,6 +1,6 @@
 -- What a reader has to believe of this crate, in document 01's order: Bytes, Table, Events, Fields, Answers, Reading,
--- Scanning, Writing and Parts. Of these `putWord`, `RowFits`, `putField`, `putFields`, `laterField` and `laterFields`
--- serve the private functions' contracts only.
+-- Writing and Parts. Of these `putWord`, `RowFits`, `putField` and `putFields` serve the private functions' contracts
+-- only.
 pub mod Tests
 pub mod Bytes
 pub mod Table
@@ -8,6 +8,5 @@ pub mod Events
 pub mod Fields
 pub mod Answers
 pub mod Reading
-pub mod Scanning
 pub mod Writing
 pub mod Parts

@@ -1,4 +1,4 @@
-// Trace records: reading them, writing them, and finding record number e in a trace.
+// Trace records: reading them, as events or as plain numbers, writing them, and finding record number e in a trace.
 //
 // This layer knows nothing of threads or crashes: a field's value may be anything from 0 to 65,535. Every public call
 // takes any input, always returns, and has no `requires`; its answer, and every byte lent for writing, is an equation
@@ -25,9 +25,12 @@ pub use reader::Reader;
 pub use reader::new;
 pub use reader::next;
 pub use reader::read_at;
+pub use reader::scan;
+pub use reader::scan_at;
 pub use reading::Read;
 pub use reading::read_first;
 pub use scanning::Scan;
-pub use scanning::scan_at;
+pub use scanning::Scanned;
+pub use scanning::refusal_of;
 pub use writing::Written;
 pub use writing::write;

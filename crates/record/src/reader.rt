@@ -1,11 +1,13 @@
-// A lent trace and a position in it, for reading record by record. The functions over the struct are thin: `next` takes
-// it apart and calls `step_at` on the slice and the number; `read_at`, whose parameters are plain, reads through the
-// struct and serves every other caller.
+// A lent trace and a position in it, for reading record by record. The functions over the struct are thin: `next` and
+// `scan` take it apart and call `step_at` and `scan_step` on the slice and the number; `read_at` and `scan_at`, whose
+// parameters are plain, read through the struct and serve every other caller.
 ghost use mathlib.Core.Path.{_≡_};
-ghost use Rattle.record.specs.Answers.{readAnswer};
+ghost use Rattle.record.specs.Answers.{readAnswer, scanOf};
 ghost use Rattle.record.specs.Reading.{readAt};
 use crate::reading::Read;
 use crate::reading::step_at;
+use crate::scanning::Scanned;
+use crate::scanning::scan_step;
 
 pub struct Reader<'a> {
     pub trace: &'a [u8],
@@ -32,4 +34,18 @@ pub fn read_at(trace: &[u8], at: usize) -> Read
     ensures { λ r. ⌜ readAnswer r ≡ readAt (now (trace .entry)) at ⌝ }
 {
     next(new(trace, at))
+}
+
+// The record at the reader's position as plain numbers.
+pub fn scan<'a>(r: Reader<'a>) -> Scanned
+    ensures { λ s. ⌜ s ≡ scanOf (readAt (now (r .entry .trace)) (r .entry .at)) ⌝ }
+{
+    scan_step(r.trace, r.at)
+}
+
+// The record at a position of a trace, as `scan` answers it.
+pub fn scan_at(trace: &[u8], at: usize) -> Scanned
+    ensures { λ r. ⌜ r ≡ scanOf (readAt (now (trace .entry)) at) ⌝ }
+{
+    scan(new(trace, at))
 }

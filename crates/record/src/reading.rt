@@ -41,7 +41,7 @@ fn field(s: &[u8], at: u16) -> u16
 }
 
 // The values of the fields that a row of the table places in a record.
-fn fields_at(s: &[u8], row: [u16; 8]) -> Fields
+pub(crate) fn fields_at(s: &[u8], row: [u16; 8]) -> Fields
     requires { ⌜ RowFits row (length (now s)) ⌝ }
     ensures { λ r. ⌜ r ≡ fieldsAt (now (s .entry)) row ⌝ }
 {

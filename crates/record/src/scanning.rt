@@ -1,160 +1,119 @@
-// The record at a position as plain numbers, for callers that read record by record: most records are read straight off
-// their bytes, and every other position goes by the table.
+// The record at a position as plain numbers, for callers that go record by record: each kind is read off its bytes by
+// its row of the table, in an arm of its own, so that the compiler can join the arm to what the caller does with the
+// kind. What refuses a record is asked of `step_at`, which answers a number alone here.
 ghost use mathlib.Core.Path.{_≡_};
 ghost use mathlib.Core.Logic.{_≢_};
-ghost use Prim.Native.Nat.{_+_, _≤_};
-ghost use lib.ListN.{length, getD, drop};
+ghost use Prim.Native.Nat.{_+_, _-_, _≤_};
+ghost use lib.ListN.{length};
 ghost use Rattle.record.specs.Bytes.{word};
-ghost use Rattle.record.specs.Table.{lengthOf};
+ghost use Rattle.record.specs.Table.{rowOf, lengthOf};
+ghost use Rattle.record.specs.Answers.{scanOf, refusalOf};
 ghost use Rattle.record.specs.Reading.{readAt};
-ghost use Rattle.record.specs.Scanning.{notRead, scanOf, laterField, laterFields};
+ghost use Rattle.record.specs.declared.scanning.Scanned.the-variants.{Refused};
 use crate::bytes::wide;
 use crate::bytes::word_at;
 use crate::events::Fields;
-use crate::events::fields_of;
-use crate::events::kind_of;
 use crate::kinds::KINDS;
 use crate::kinds::LENGTH;
 use crate::reading::Read;
+use crate::reading::fields_at;
 use crate::reading::step_at;
 
-// A record as numbers: the refusal's number, or 0 and its kind, its fields and the position past it.
+// A record as plain numbers: its kind, its fields and the position past it.
 pub struct Scan {
-    pub refusal: u16,
     pub kind: u16,
     pub fields: Fields,
     pub next: usize,
 }
 
-// The record at any position, by the table.
-fn scan_slowly(trace: &[u8], at: usize) -> Scan
-    ensures { λ r. ⌜ r ≡ scanOf (readAt (now (trace .entry)) at) ⌝ }
+// What scanning a record finds: its numbers, or the refusal's number (1 to 4).
+pub enum Scanned {
+    Record(Scan),
+    Refused(u16),
+}
+
+// The number of the refusal, 0 for a record.
+pub fn refusal_of(s: Scanned) -> u16
+    ensures { λ k. ⌜ k ≡ refusalOf s ⌝ }
+{
+    match s {
+        Scanned::Record(_) => 0,
+        Scanned::Refused(k) => k,
+    }
+}
+
+// The number of what refuses the record at a position, 0 if nothing does.
+fn refusal_at(trace: &[u8], at: usize) -> u16
+    ensures { λ k. ⌜ k ≡ refusalOf (scanOf (readAt (now (trace .entry)) at)) ⌝ }
 {
     let r = step_at(trace, at);
     match r {
-        Read::Record(e, next) => Scan {
-            refusal: 0,
-            kind: kind_of(e),
-            fields: fields_of(e),
-            next,
-        },
-        Read::Refused(k) => Scan {
-            refusal: k,
-            kind: 0,
-            fields: Fields {
-                thread: 0,
-                location: 0,
-                source: 0,
-                version: 0,
-                threads: 0,
-                locations: 0,
-            },
-            next: 0,
-        },
+        Read::Record(_, _) => 0,
+        Read::Refused(k) => k,
     }
 }
 
-// The length in a row of the table.
-fn length_in(row: [u16; 8]) -> u16
-    ensures { λ r. ⌜ r ≡ getD row 1 0 ⌝ }
+// At the positions below this as many bytes are left as the longest record has.
+fn quick_end(trace: &[u8]) -> usize
+    ensures { λ r. ⌜ r ≡ length (now (trace .entry)) - 9 ⌝ }
 {
-    row[LENGTH]
+    if trace.len() < 10 { 0 } else { trace.len() - 9 }
 }
 
-// The field at an offset of the later record at a position, or 0 if the record's length has no room for it.
-fn later_field(trace: &[u8], at: usize, offset: u16, len: u16) -> u16
-    requires { ⌜ at + offset + 2 ≤ length (now trace) ⌝ }
-    ensures { λ r. ⌜ r ≡ laterField (drop at (now (trace .entry))) offset len ⌝ }
+// The number of what refuses the record at a position where fewer bytes are left, 0 if nothing does. At 0 the record's
+// kind is there, and as many bytes as the kind's record has.
+fn end_refusal(trace: &[u8], at: usize) -> u16
+    ensures { λ k. ⌜ (k ≢ 0 → Refused k ≡ scanOf (readAt (now (trace .entry)) at)) ⌝ }
+    ensures { λ k. ⌜ (k ≡ 0 → (at + 4 ≤ length (now (trace .entry)))
+        × (at + lengthOf (word (now (trace .entry)) (at + 2)) + 2 ≤ length (now (trace .entry)))) ⌝ }
 {
-    let v = word_at(trace, at + wide(offset));
-    if offset <= len { v } else { 0 }
-}
-
-// The fields of the later record at a position, by its length.
-fn later_fields(trace: &[u8], at: usize, len: u16) -> Fields
-    requires { ⌜ at + 10 ≤ length (now trace) ⌝ }
-    ensures { λ r. ⌜ r ≡ laterFields (drop at (now (trace .entry))) len ⌝ }
-{
-    Fields {
-        thread: later_field(trace, at, 4, len),
-        location: later_field(trace, at, 6, len),
-        source: later_field(trace, at, 8, len),
-        version: 0,
-        threads: 0,
-        locations: 0,
+    if at < quick_end(trace) {
+        return 0;
     }
-}
-
-// What stands for no record: kind 0, which none has.
-fn not_read() -> Scan
-    ensures { λ r. ⌜ r ≡ notRead ⌝ }
-{
-    Scan {
-        refusal: 0,
-        kind: 0,
-        fields: Fields {
-            thread: 0,
-            location: 0,
-            source: 0,
-            version: 0,
-            threads: 0,
-            locations: 0,
-        },
-        next: 0,
+    if trace.len() <= at {
+        return 1;
     }
+    refusal_at(trace, at)
 }
 
-// The later record at a position, of that kind, if it has the kind's length.
-fn scan_kind(trace: &[u8], at: usize, kind: u16, len: u16) -> Scan
-    requires { ⌜ at + 10 ≤ length (now trace) ⌝ }
-    requires { ⌜ (kind ≡ word (now trace) (at + 2)) × (len ≡ lengthOf kind) × (len ≢ 0) × (kind ≢ 1) ⌝ }
-    ensures { λ r. ⌜ (r .kind ≢ 0 → r ≡ scanOf (readAt (now (trace .entry)) at)) ⌝ }
+// The record of that kind at a position, by the kind's row of the table; as many bytes as it has are there.
+fn scan_kind(trace: &[u8], at: usize, kind: u16, row: [u16; 8]) -> Scanned
+    requires { ⌜ (kind ≡ word (now trace) (at + 2)) × (row ≡ rowOf kind) × (lengthOf kind ≢ 0)
+        × (at + lengthOf kind + 2 ≤ length (now trace)) ⌝ }
+    ensures { λ r. ⌜ r ≡ scanOf (readAt (now (trace .entry)) at) ⌝ }
 {
+    let len = row[LENGTH];
     if word_at(trace, at) != len {
-        return not_read();
+        return Scanned::Refused(refusal_at(trace, at));
     }
-    Scan {
-        refusal: 0,
+    Scanned::Record(Scan {
         kind,
-        fields: later_fields(trace, at, len),
+        fields: fields_at(&trace[at..], row),
         next: at + wide(len) + 2,
-    }
+    })
 }
 
-// The later record at a position, where so many bytes are left as the longest record has, and its length is its
-// kind's. Each kind has its own arm, so that the compiler can join it to what the caller does with that kind.
-fn scan_quickly(trace: &[u8], at: usize) -> Scan
-    ensures { λ r. ⌜ (r .kind ≢ 0 → r ≡ scanOf (readAt (now (trace .entry)) at)) ⌝ }
+// The record at a position: what `step_at` answers, as numbers.
+pub(crate) fn scan_step(trace: &[u8], at: usize) -> Scanned
+    ensures { λ r. ⌜ r ≡ scanOf (readAt (now (trace .entry)) at) ⌝ }
 {
-    if trace.len() < at {
-        return not_read();
-    }
-    if trace.len() - at < 10 {
-        return not_read();
+    let k = end_refusal(trace, at);
+    if k != 0 {
+        return Scanned::Refused(k);
     }
     let kind = word_at(trace, at + 2);
     match kind {
-        2 => scan_kind(trace, at, kind, length_in(KINDS[2])),
-        3 => scan_kind(trace, at, kind, length_in(KINDS[3])),
-        4 => scan_kind(trace, at, kind, length_in(KINDS[4])),
-        5 => scan_kind(trace, at, kind, length_in(KINDS[5])),
-        6 => scan_kind(trace, at, kind, length_in(KINDS[6])),
-        7 => scan_kind(trace, at, kind, length_in(KINDS[7])),
-        8 => scan_kind(trace, at, kind, length_in(KINDS[8])),
-        9 => scan_kind(trace, at, kind, length_in(KINDS[9])),
-        10 => scan_kind(trace, at, kind, length_in(KINDS[10])),
-        11 => scan_kind(trace, at, kind, length_in(KINDS[11])),
-        _ => not_read(),
+        1 => scan_kind(trace, at, 1, KINDS[1]),
+        2 => scan_kind(trace, at, 2, KINDS[2]),
+        3 => scan_kind(trace, at, 3, KINDS[3]),
+        4 => scan_kind(trace, at, 4, KINDS[4]),
+        5 => scan_kind(trace, at, 5, KINDS[5]),
+        6 => scan_kind(trace, at, 6, KINDS[6]),
+        7 => scan_kind(trace, at, 7, KINDS[7]),
+        8 => scan_kind(trace, at, 8, KINDS[8]),
+        9 => scan_kind(trace, at, 9, KINDS[9]),
+        10 => scan_kind(trace, at, 10, KINDS[10]),
+        11 => scan_kind(trace, at, 11, KINDS[11]),
+        _ => Scanned::Refused(refusal_at(trace, at)),
     }
-}
-
-// The record at a position: what `read_at` answers, as numbers.
-pub fn scan_at(trace: &[u8], at: usize) -> Scan
-    ensures { λ r. ⌜ r ≡ scanOf (readAt (now (trace .entry)) at) ⌝ }
-{
-    let quick = scan_quickly(trace, at);
-    if quick.kind != 0 {
-        return quick;
-    }
-    scan_slowly(trace, at)
 }

@@ -1,55 +1,78 @@
--- A record that has its kind's length is read, and these are its numbers; any other answers no kind.
+-- A record that has its kind's length is read, and these are its numbers; any other is refused by its number.
 -- Assumes nothing.
-use mathlib.Core.Path.{sym, _∙_}
-use Rattle.record.proofs.Scans.{scan-later, no-kind}
+use mathlib.Core.Path.{refl, sym, _∙_}
+use Rattle.record.proofs.Scans.{row-inside, scan-known, wrong-length}
 use borrow.Author.Needs.{needs}
 use Rattle.record.proofs.scanning.scan_kind.Statement.{statement}
 use Rattle.record.proofs.scanning.scan_kind.Tie as tie
 
+array-read-len : tie.Need-array-read-len
+array-read-len c = search needs
+
 word-at-requires : tie.Need-word-at-requires
 word-at-requires c κs = search needs
 
-not-read-requires : tie.Need-not-read-requires
-not-read-requires c κs = search needs
+refusal-at-requires : tie.Need-refusal-at-requires
+refusal-at-requires c κs = search needs
 
 returns : tie.Need-returns
-returns c = no-kind _ _ (c .not-read .ensures)
+returns c =
+    let at-length = c .before .before in
+    let start = at-length .before .before in
+    let unfit = c .before .if1 .taken in
+    let kind = start .pre in
+    wrong-length (start .args .trace .now) (start .args .at) _ _ _ (c .refusal-at .ensures) (kind .0)
+    (at-length .word-at .ensures)
+    (rw (kind .1) at unfit)
 
-later-fields-requires : tie.Need-later-fields-requires
-later-fields-requires c κs = search needs
+sub-fields-at : tie.Need-sub-fields-at
+sub-fields-at c = search needs
+
+part-fields-at-start : tie.Need-part-fields-at-start
+part-fields-at-start c = search needs
+
+part-fields-at-end : tie.Need-part-fields-at-end
+part-fields-at-end c = search needs
+
+fields-at-requires : tie.Need-fields-at-requires
+fields-at-requires c κs =
+    let at-fits = c .before in
+    let start = at-fits .before .before .before in
+    row-inside (start .args .trace .now) (start .args .at) _ _ (start .pre .1) (start .pre .3)
 
 wide-requires : tie.Need-wide-requires
 wide-requires c κs = search needs
 
-add-t9 : tie.Need-add-t9
-add-t9 c = search needs
+add-t19 : tie.Need-add-t19
+add-t19 c = search needs
 
-add-t10 : tie.Need-add-t10
-add-t10 c = search needs
+add-t20 : tie.Need-add-t20
+add-t20 c = search needs
 
 returns-2 : tie.Need-returns-2
-returns-2 c some-kind =
+returns-2 c =
     let at-fields = c .before in
-    let at-fits = at-fields .before in
+    let at-fits = at-fields .before .before in
     let at-length = at-fits .before in
     let start = at-length .before .before in
-    let trace = start .args .trace .now in
-    let kind-known = start .pre .1 in
     let length-is = sym (at-fits .if1 .left) ∙ at-length .word-at .ensures in
     rw (c .wide .ensures .0)
-    (scan-later trace (start .args .at) _ _ _ (start .pre .0) length-is (kind-known .0) (kind-known .1) (kind-known .2)
-    (kind-known .3)
-    (at-fields .later-fields .ensures))
+    (scan-known (start .args .trace .now) (start .args .at) _ _ _ _ (start .pre) length-is refl
+    (at-fields .fields-at .ensures))
 
 pub scan-kind-spec : {M : Type 1} → statement M
 scan-kind-spec =
     tie.close
     (tie.spec
+    array-read-len
     word-at-requires
-    not-read-requires
+    refusal-at-requires
     returns
-    later-fields-requires
+    sub-fields-at
+    part-fields-at-start
+    part-fields-at-end
+    fields-at-requires
     wide-requires
-    add-t9
-    add-t10
+    add-t19
+    add-t20
     returns-2)
