@@ -3,9 +3,13 @@
 mod show;
 
 use record::Event;
+use record::Fields;
+use show::name;
 use show::parts_of;
 use show::read;
 use show::read_from;
+use show::scan;
+use show::scan_from;
 use show::title;
 use show::write;
 use show::write_short;
@@ -135,6 +139,48 @@ fn positions() {
     read_from(trace, 21);
 }
 
+// Records as plain numbers: through B, a load and a crash, then at the end and inside records; then refusals 2, 3 and 4
+// with ten bytes and with fewer.
+fn scans() {
+    title(b"scans");
+    let trace =
+        b"\x08\x00\x01\x00\x01\x00\x01\x00\x02\x00\x08\x00\x04\x00\x01\x00\x02\x00\x03\x01\x02\x00\x09\x00";
+    scan_from(trace, 0);
+    scan_from(trace, 10);
+    scan_from(trace, 20);
+    scan_from(trace, 24);
+    scan_from(trace, 18446744073709551615);
+    scan_from(trace, 2);
+    scan_from(trace, 22);
+    scan(b"");
+    scan(b"\x09\x00\x01\x00\x01\x00\x01\x00\x02\x00");
+    scan(b"\x08\x00\x01");
+    scan(b"\x02\x00\x0c\x00\x02\x00\x09\x00\x02\x00\x09\x00");
+    scan(b"\x02\x00\x63\x00");
+    scan(b"\x04\x00\x09\x00\x00\x00\x02\x00\x09\x00");
+    scan(b"\x04\x00\x09\x00\x00\x00");
+}
+
+// Kinds of the table by number, and numbers that are none.
+fn names() {
+    title(b"names");
+    let f = Fields {
+        thread: 4,
+        location: 5,
+        source: 6,
+        version: 1,
+        threads: 2,
+        locations: 3,
+    };
+    name(0, f);
+    name(1, f);
+    name(4, f);
+    name(9, f);
+    name(11, f);
+    name(12, f);
+    name(65535, f);
+}
+
 // Parts of a whole trace, of one with an unknown kind, of one with a length under 2, and of one that is cut short.
 fn parts() {
     title(b"parts");
@@ -155,5 +201,7 @@ fn main() {
     every_kind();
     short_outputs();
     positions();
+    scans();
+    names();
     parts();
 }

@@ -1,7 +1,10 @@
 // Prints what a call of the record crate answers, a line a call.
 use libc::STDOUT_FILENO;
 use record::Event;
+use record::Fields;
+use record::Named;
 use record::Read;
+use record::Scanned;
 use record::Written;
 
 fn say(text: &[u8]) {
@@ -112,6 +115,63 @@ pub fn read_from(s: &[u8], at: usize) {
     number(at as u64);
     say(b":");
     answer(record::read_at(s, at));
+}
+
+fn fields(f: Fields) {
+    value(f.thread);
+    value(f.location);
+    value(f.source);
+    value(f.version);
+    value(f.threads);
+    value(f.locations);
+}
+
+fn numbers(s: Scanned) {
+    match s {
+        Scanned::Record(r) => {
+            say(b" kind");
+            value(r.kind);
+            say(b", fields");
+            fields(r.fields);
+            say(b", next");
+            number(r.next as u64);
+        }
+        Scanned::Refused(k) => {
+            say(b" refused");
+            value(k);
+        }
+    }
+    say(b"\n");
+}
+
+// The bytes, and the first record's numbers or the refusal.
+pub fn scan(s: &[u8]) {
+    say(b"scan");
+    hex(s);
+    say(b":");
+    numbers(record::scan_at(s, 0));
+}
+
+// The numbers of the record at a position: its kind, its fields (thread, location, source, version, threads and
+// locations) and the position past it.
+pub fn scan_from(s: &[u8], at: usize) {
+    say(b"scan at");
+    number(at as u64);
+    say(b":");
+    numbers(record::scan_at(s, at));
+}
+
+// The event of a kind with these fields.
+pub fn name(kind: u16, f: Fields) {
+    say(b"event of kind");
+    value(kind);
+    say(b":");
+    let n = record::event_of(kind, f);
+    match n {
+        Named::Known(e) => event(e),
+        Named::NoKind => say(b" no kind"),
+    }
+    say(b"\n");
 }
 
 // An event written into the output: the answer, and what the output holds afterwards.
