@@ -1,14 +1,15 @@
 -- A record as two-byte numbers in a lent array: the refusal's number or 0, kind, version, threads, locations, thread,
 -- location, source. What its kind does not have is 0. gorbuzte.h gives names to the places.
 use Prim.Native.Nat.{ℕ}
-use mathlib.Core.Bool.{Bool, _&&_}
+use mathlib.Core.Bool.{Bool, not}
 use mathlib.Core.List.{List, [], _∷_}
 use lib.ListN.{getD}
-use lib.Dec.{leb}
+use lib.Dec.{eqb}
 use Rattle.record.specs.declared.events.Event.{Event}
 use Rattle.record.specs.declared.events.Fields.{Fields}
 use Rattle.record.specs.declared.parts.Place.{Place}
 use Rattle.record.specs.Tests.{_gives_else_}
+use Rattle.record.specs.Table.{lengthOf}
 use Rattle.record.specs.Answers.{Answer, refused, event, wrote}
 use Rattle.record.specs.Events.{kindOf}
 use Rattle.record.specs.Fields.{fieldsOf, eventOf}
@@ -51,9 +52,9 @@ fieldsIn numbers =
 unfoldable pub eventIn : List ℕ → Event
 eventIn numbers = eventOf (getD numbers 1 0) (fieldsIn numbers)
 
--- "Kinds and their lengths are one fixed table": 1 to 11
+-- "Kinds and their lengths are one fixed table": a kind is a number that has a length there
 abbrev pub isKind : ℕ → Bool
-isKind k = leb 1 k && leb k 11
+isKind k = not (eqb (lengthOf k) 0)
 
 -- 3, "unknown kind"; else as the record layer writes
 unfoldable pub writingNumbers : List ℕ → List ℕ → Answer

@@ -1,11 +1,13 @@
 // The numbers of a record.
 ghost use mathlib.Core.Path.{_≡_};
-ghost use Rattle.record.specs.Answers.{readAnswer, writeAnswer};
+ghost use lib.ListN.{getD};
+ghost use Rattle.record.specs.Answers.{readAnswer, named, writeAnswer};
 ghost use Rattle.model.specs.Reading.{refusalIn};
-ghost use Rattle.cabi.specs.Records.{eventNumbers, readNumbers, sizeIn, eventIn, isKind};
+ghost use Rattle.cabi.specs.Records.{eventNumbers, readNumbers, sizeIn, fieldsIn};
 ghost use Rattle.cabi.specs.Records.{writingNumbers, writtenNumbers};
 use record::Event;
 use record::Fields;
+use record::Named;
 use record::Read;
 use record::Written;
 
@@ -66,8 +68,9 @@ fn outcome_of(w: Written) -> Outcome
     }
 }
 
-fn event_in(numbers: [u16; 8]) -> Event
-    ensures { λ r. ⌜ r ≡ eventIn numbers ⌝ }
+// The event that the numbers name, if there is such a kind.
+fn event_in(numbers: [u16; 8]) -> Named
+    ensures { λ r. ⌜ r ≡ named (getD numbers 1 0) (fieldsIn numbers) ⌝ }
 {
     let f = Fields {
         thread: numbers[5],
@@ -80,27 +83,18 @@ fn event_in(numbers: [u16; 8]) -> Event
     record::event_of(numbers[1], f)
 }
 
-fn is_kind(k: u16) -> bool
-    ensures { λ r. ⌜ r ≡ isKind k ⌝ }
-{
-    match k {
-        1..=11 => true,
-        _ => false,
-    }
-}
-
 pub(crate) fn write(numbers: [u16; 8], output: &mut [u8]) -> Outcome
     ensures { λ r. ⌜ (r .refusal ≡ refusalIn (writingNumbers numbers (now (output .entry))))
         × (r .size ≡ sizeIn (writingNumbers numbers (now (output .entry)))) ⌝ }
     ensures { λ _. ⌜ now (output .exit) ≡ writtenNumbers numbers (now (output .entry)) ⌝ }
 {
-    if !is_kind(numbers[1]) {
+    let n = event_in(numbers);
+    let Named::Known(e) = n else {
         return Outcome {
             refusal: 3,
             size: 0,
         };
-    }
-    let e = event_in(numbers);
+    };
     let w = record::write(e, output);
     outcome_of(w)
 }

@@ -1,6 +1,5 @@
 -- `event_in` meets its contract: it takes the fields from their places.
 use borrow.Author.Needs.{needs}
-use Rattle.cabi.specs.Records.{eventIn}
 use Rattle.cabi.proofs.records.event_in.Statement.{statement}
 use Rattle.cabi.proofs.records.event_in.Tie as tie
 
@@ -29,7 +28,6 @@ event-of-requires : tie.Need-event-of-requires
 event-of-requires c κs = search needs
 
 returns : tie.Need-returns
-unfolding eventIn
 returns c = c .event-of .ensures
 
 pub event-in-spec : {M : Type 1} → statement M

@@ -1,28 +1,28 @@
--- `write` meets its contract: refusal 3 where there is no such kind, else what the record layer does.
+-- `write` meets its contract: refusal 3 where the numbers name no event, else what the record layer does with the one
+-- that they name. Assumes nothing.
 use mathlib.Core.Path.{refl, sym, ap, _∙_}
-use borrow.Author.Tests.{not-true, not-false}
 use borrow.Author.Needs.{needs}
 use Rattle.model.specs.Reading.{refusalIn}
-use Rattle.cabi.specs.Records.{sizeIn, writingNumbers, writtenNumbers}
+use Rattle.cabi.specs.Records.{sizeIn, eventIn, writingNumbers, writtenNumbers}
+use Rattle.cabi.proofs.Naming.{names-none, names-one}
 use Rattle.cabi.proofs.records.write.Statement.{statement}
 use Rattle.cabi.proofs.records.write.Tie as tie
 
-array-read-is-kind : tie.Need-array-read-is-kind
-array-read-is-kind c = search needs
+event-in-requires : tie.Need-event-in-requires
+event-in-requires c κs = search needs
 
-is-kind-requires : tie.Need-is-kind-requires
-is-kind-requires c κs = search needs
+enum-known-n : tie.Need-enum-known-n
+enum-known-n c = search needs
+
+enum-told : tie.Need-enum-told
+enum-told c = search needs
 
 returns : tie.Need-returns
 unfolding writingNumbers writtenNumbers
 returns c =
-    let kind = c .before .is-kind in
-    let unknown = not-true (kind .result) (c .if1 .taken) in
-    let fails = sym (kind .ensures) ∙ unknown in
-    ((rw fails refl, rw fails refl), rw fails refl)
-
-event-in-requires : tie.Need-event-in-requires
-event-in-requires c κs = search needs
+    let named-is = c .before .before .event-in .ensures in
+    let none = names-none _ _ (sym named-is ∙ c .enum-told .given .1) in
+    ((rw none refl, rw none refl), rw none refl)
 
 write-requires : tie.Need-write-requires
 write-requires c κs = search needs
@@ -34,30 +34,29 @@ same-length : tie.Need-same-length
 same-length c = search needs
 
 returns-2 : tie.Need-returns-2
-unfolding writingNumbers writtenNumbers
+unfolding writingNumbers writtenNumbers eventIn
 returns-2 c =
     let at-write = c .before .before .before in
-    let wrote = at-write .write in
-    let event-is = at-write .before .before .event-in .ensures in
-    let at-kind = at-write .before .before .before in
-    let kind = at-kind .before .is-kind in
-    let known = sym (kind .ensures) ∙ not-false (kind .result) (at-kind .if1 .left) in
+    let wrote = at-write .write .ensures in
+    let at-match = at-write .before .before .before in
+    let named-is = at-match .before .before .event-in .ensures in
+    let one = names-one _ _ _ (sym named-is ∙ at-match .n .given .1) in
     let outcome = c .outcome-of .ensures in (
       (
-        rw (known, sym event-is) (outcome .0 ∙ ap refusalIn (wrote .ensures .0)),
-        rw (known, sym event-is) (outcome .1 ∙ ap sizeIn (wrote .ensures .0)),
+        rw (one .0, sym (one .1)) (outcome .0 ∙ ap refusalIn (wrote .0)),
+        rw (one .0, sym (one .1)) (outcome .1 ∙ ap sizeIn (wrote .0)),
       ),
-      rw (known, sym event-is) (wrote .ensures .1),
+      rw (one .0, sym (one .1)) (wrote .1),
     )
 
 pub write-spec : {M : Type 1} → statement M
 write-spec =
     tie.close
     (tie.spec
-    array-read-is-kind
-    is-kind-requires
-    returns
     event-in-requires
+    enum-known-n
+    enum-told
+    returns
     write-requires
     outcome-of-requires
     same-length

@@ -1,0 +1,2 @@
+-- The mathematics that the functions' proofs cite.
+pub mod Naming
