@@ -13,7 +13,7 @@ use Rattle.record.specs.Tests.{_gives_else_}
 use Rattle.record.specs.Bytes.{word}
 use Rattle.record.specs.Table.{rowOf, lengthOf}
 use Rattle.record.specs.Fields.{fieldsAt, eventOf}
-use Rattle.record.specs.Answers.{Answer, refused, event}
+use Rattle.record.specs.Answers.{Answer, refused, event, wrote}
 use Rattle.record.specs.Reading.{frame, readFramed, readFirst}
 use Rattle.record.specs.declared.events.Event.{Event}
 use Rattle.record.specs.declared.reading.Frame.{Frame}
@@ -160,3 +160,38 @@ read-answers s = by-frame (frame s) (framed-by-numbers none short low cut (word 
         let l = lengthOf (word s 2) in
         rw is (answered-by-tests (eqb l 0) (eqb (l + 2) m) (eventOf (word s 2) (fieldsAt s (rowOf (word s 2)))) m)
     by-frame f (inr (k, from-one, to-four, is)) = rw is (a-refusal k from-one to-four refl)
+
+-- refusal 1 is of no bytes
+abbrev numberOf : Answer → ℕ
+numberOf (refused k i) = k
+numberOf (event e n) = 0
+numberOf (wrote n) = 0
+
+pub one-of-none : (s : List ℕ) (i : ℕ) → readFirst s ≡ refused 1 i → length s ≡ 0
+unfolding readFirst readFramed frame
+one-of-none s i h =
+    eqb-true (length s) 0
+    (by-tests (eqb (length s) 0) (ltb (length s) 2) (ltb (word s 0) 2) (ltb (length s) (word s 0 + 2)) (ap numberOf h))
+  where
+    known : ℕ
+    known = lengthOf (word s 2)
+
+    by-kind :
+        (unknown fits : Bool) (x : Event) (n : ℕ)
+        → numberOf (unknown gives refused 3 0 else not fits gives refused 4 0 else event x n) ≡ 1 → ⊥
+    by-kind true fits x n is = omega arith
+    by-kind false true x n is = omega arith
+    by-kind false false x n is = omega arith
+
+    by-tests :
+        (none short low cut : Bool)
+        → numberOf (readFramed s (none gives Unframed 1 else short gives Unframed 2 else low gives Unframed 4 else
+        cut gives Unframed 2 else Size (word s 0 + 2)))
+        ≡ 1
+        → none ≡ true
+    by-tests true short low cut is = refl
+    by-tests false true low cut is = absurd (omega arith)
+    by-tests false false true cut is = absurd (omega arith)
+    by-tests false false false true is = absurd (omega arith)
+    by-tests false false false false is =
+        absurd (by-kind (eqb known 0) (eqb (known + 2) (word s 0 + 2)) _ _ is)

@@ -21,7 +21,7 @@ use Rattle.record.specs.declared.reading.Frame.the-variants.{Size, Unfra
 use Rattle.record.specs.declared.reading.Read.{Read}
 use Rattle.record.specs.declared.reading.Read.the-variants.{Record}
 use Rattle.record.proofs.Frames.{clash, frame→, →frame, read→}
-use Rattle.record.proofs.Frames.{Answers, an-event, a-refusal, read-answers}
+use Rattle.record.proofs.Frames.{Answers, an-event, a-refusal, read-answers, one-of-none}
 
 -- ---- the size at a position
 
@@ -87,6 +87,17 @@ unfolding readAt readFirst readFramed frame
 read-past-end s at past =
     let none : length (drop at s) ≡ 0 = simp length-drop (omega arith) in
     simp (eq-eqb _ _ none)
+
+-- and only there refusal 1 is answered
+pub one-past-end : (s : List ℕ) (at i : ℕ) → readAt s at ≡ refused 1 i → length s ≤ at
+unfolding readAt
+one-past-end s at i h =
+    omega (arith, length-drop at s, one-of-none (drop at s) i (same-refusal (readFirst (drop at s)) h))
+  where
+    same-refusal : (a : Answer) → from at a ≡ refused 1 i → a ≡ refused 1 i
+    same-refusal (refused k e) is = is
+    same-refusal (event e n) is = absurd (clash (cc))
+    same-refusal (wrote n) is = absurd (clash (cc))
 
 -- a record that was read ends within the bytes from its position on
 pub read-inside :
