@@ -170,7 +170,7 @@ module _ (ev : ℕ → Event) where
         at-place = eqb-true _ _ (place-fits .1);
       }
 
-  past-is : (l s : ℕ) → past ev l s ≡ true → FromPast l s
+  pub past-is : (l s : ℕ) → past ev l s ≡ true → FromPast l s
   past-is l s passes =
       let to-it = issue? ev s && eqb (location ev s) (location ev l) in
       let outer = parts (to-it && ltb (stretch ev s) (stretch ev l)) _ passes in

@@ -17,7 +17,7 @@ use Rattle.record.specs.declared.events.Event.{Event}
 use Rattle.model.specs.Search.{last}
 use Rattle.model.specs.Trace.{thread, location, source, commit?, Commit, stretch, commits}
 use Rattle.model.specs.Machine.{committed, commitsHere, current, counted, commitOf}
-use Rattle.model.specs.Stores.{landsAt, landed}
+use Rattle.model.specs.Stores.{passed, landsAt, landed, committed?, marked?}
 use Rattle.model.specs.Rules.{Accepted}
 use Rattle.model.specs.Choice.{Newer, Forbids}
 use Rattle.model.specs.Verdict.{forbids?}
@@ -30,12 +30,7 @@ use Rattle.model.proofs.Acceptance.{store-not-0, counted-crosses, count
 use Rattle.model.proofs.Committed.{Committed, CommitOf, commit-of, is-commit-of, has-commit}
 use Rattle.model.proofs.Effects.{Effect, effect, effect-is, effect-commit, commit-effect}
 use Rattle.model.proofs.Pairs.{forbids→, →forbids}
-use Rattle.model.proofs.RulingSteps.{committed?, marked?, marked-step}
-
--- p stands in the list before the first s
-unfoldable pub passed : ℕ → ℕ → List ℕ → Bool
-passed s p [] = false
-passed s p (q ∷ qs) = not (eqb q s) && (eqb q p || passed s p qs)
+use Rattle.model.proofs.RulingSteps.{marked-step}
 
 module _ (ev : ℕ → Event) where
   -- ---- the steps of a chain

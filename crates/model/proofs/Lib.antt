@@ -5,6 +5,7 @@
 -- `cases-1-to-11` (Cases), `refusals-1-to-5` (NoTrace) and `random-sessions` (RandomSessions).
 pub mod Searching
 pub mod Induction
+pub mod Tabulating
 pub mod Counting
 pub mod Roles
 pub mod Ordering

@@ -15,7 +15,7 @@ use Rattle.model.specs.Search.{last}
 use Rattle.model.specs.Trace.{thread, location, issue?, commit?, Issue, Commit, stretch, place}
 use Rattle.model.specs.Machine.{beside, committedBy, committed, waits, waiting, commitsHere, current}
 use Rattle.model.specs.Rules.{Accepted}
-use Rattle.model.specs.Stores.{madeAt, newestAt, landsAt, landed}
+use Rattle.model.specs.Stores.{headOf, madeAt, newestAt, landsAt, landed}
 use Rattle.model.proofs.Searching.{test, both, parts, last-is, last-of, last-none}
 use Rattle.model.proofs.Counting.{stretch-mono, count-mono}
 use Rattle.model.proofs.Acceptance.{beside-is, store-not-0}
@@ -122,10 +122,6 @@ module _ (ev : ℕ → Event) where
               record { made = made; in-stretch = in-stretch; not-yet = omega (arith, w .not-yet, later-place) }
 
   -- ---- the head of the committed stores
-
-  abbrev pub headOf : List ℕ → ℕ
-  headOf [] = 0
-  headOf (p ∷ ps) = p
 
   committed-zero : committed ev 0 ≡ 0
   unfolding committed last

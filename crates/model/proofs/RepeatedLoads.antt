@@ -13,7 +13,7 @@ use borrow.Author.Tests.{eqb-true, eqb-false, ltb-true, lt-ltb, not-true}
 use Rattle.record.specs.declared.events.Event.{Event}
 use Rattle.model.specs.Trace.{thread, location, source, commit?, Commit, stretch, commits, place}
 use Rattle.model.specs.Machine.{committed, counted}
-use Rattle.model.specs.Stores.{landsAt, landed}
+use Rattle.model.specs.Stores.{headOf, passed, landsAt, landed, marked?}
 use Rattle.model.specs.Rules.{Accepted}
 use Rattle.model.specs.Choice.{In}
 use Rattle.model.specs.Clocks.{vc}
@@ -22,23 +22,22 @@ use Rattle.model.proofs.Searching.{false-true, test, same?, less?, both
 use Rattle.model.proofs.Counting.{count-mono}
 use Rattle.model.proofs.Acceptance.{prefix, store-not-0}
 use Rattle.model.proofs.Unchanged.{Lacks, landed-once}
-use Rattle.model.proofs.LoadRule.{headOf}
 use Rattle.model.proofs.Effects.{effect}
 use Rattle.model.proofs.Closure.{observes→, observed→, →observed, clock-in-closure}
 use Rattle.model.proofs.Pairs.{forbidden→, →forbidden}
-use Rattle.model.proofs.RulingSteps.{observed-step, raises, closure-step, marked?, marked-over}
+use Rattle.model.proofs.RulingSteps.{observed-step, raises, closure-step, marked-over}
 use Rattle.model.proofs.RulingSteps.{hit→, →hit, hit-is-bad, bad-has-hit}
-use Rattle.model.proofs.ChainOrder.{passed, load-marks}
+use Rattle.model.proofs.ChainOrder.{load-marks}
 
 module _ (ev : ℕ → Event) where
   -- ---- a chain by its head
 
-  not-its-head : (p : ℕ) (ps : List ℕ) → p ≢ 0 → Lacks ev p ps → headOf ev ps ≢ p
+  not-its-head : (p : ℕ) (ps : List ℕ) → p ≢ 0 → Lacks ev p ps → headOf ps ≢ p
   not-its-head p [] some lacks is-p = some (sym is-p)
   not-its-head p (q ∷ qs) some lacks is-p = lacks .0 is-p
 
   pub same-chain :
-      (N m n x : ℕ) → Accepted ev N → m ≤ n → n ≤ N → headOf ev (landed ev m x) ≡ headOf ev (landed ev n x)
+      (N m n x : ℕ) → Accepted ev N → m ≤ n → n ≤ N → headOf (landed ev m x) ≡ headOf (landed ev n x)
       → landed ev m x ≡ landed ev n x
   unfolding landed
   same-chain N m zero x accepted early within same =
@@ -47,7 +46,7 @@ module _ (ev : ℕ → Event) where
       by-event (same? m (suc n)) (test (landsAt ev x n)) (same-chain N m n x accepted) same
     where
       -- the store that event n commits is not in the earlier chain
-      new-head : m ≤ n → landsAt ev x n ≡ true → headOf ev (landed ev m x) ≢ committed ev n
+      new-head : m ≤ n → landsAt ev x n ≡ true → headOf (landed ev m x) ≢ committed ev n
       new-head before lands =
           let commits : Commit ev n = record { test = parts (commit? ev n) _ lands .0 } in
           let store = effect ev N n accepted (omega arith) commits .own .store in
@@ -56,8 +55,8 @@ module _ (ev : ℕ → Event) where
 
       by-event :
           (m ≡ suc n) ⊎ (m ≢ suc n) → (landsAt ev x n ≡ true) ⊎ (landsAt ev x n ≡ false)
-          → (m ≤ n → n ≤ N → headOf ev (landed ev m x) ≡ headOf ev (landed ev n x) → landed ev m x ≡ landed ev n x)
-          → headOf ev (landed ev m x) ≡ headOf ev (landed ev (suc n) x) → landed ev m x ≡ landed ev (suc n) x
+          → (m ≤ n → n ≤ N → headOf (landed ev m x) ≡ headOf (landed ev n x) → landed ev m x ≡ landed ev n x)
+          → headOf (landed ev m x) ≡ headOf (landed ev (suc n) x) → landed ev m x ≡ landed ev (suc n) x
       by-event (inl is-it) lands before same = ap (λ (k : ℕ). landed ev k x) is-it
       by-event (inr differs) (inr fails) before same =
           rw fails (before (omega arith) (omega arith) (rw fails at same))

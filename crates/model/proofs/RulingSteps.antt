@@ -18,6 +18,7 @@ use Rattle.model.specs.Choice.{robust, broken, In, finished, Observes, P
 use Rattle.model.specs.Clocks.{vc}
 use Rattle.model.specs.Verdict.{forbids?, observes?, forbidden?, observed?, pair?, missing?, bad?, closure}
 use Rattle.model.specs.Verdict.{loadOf, missingOf, observedOf, rulingOf}
+use Rattle.model.specs.Stores.{committed?, marked?}
 use Rattle.model.proofs.Searching.{false-true, test, same?, less?, both, parts, same-test, same-below}
 use Rattle.model.proofs.Searching.{some→, →some, first-is}
 use Rattle.model.proofs.Counting.{stretch-mono, earlier-stretch}
@@ -149,15 +150,6 @@ module _ (ev : ℕ → Event) where
 
   -- ---- the stores that a program marks
 
-  -- p is committed among the first n events
-  abbrev pub committed? : ℕ → ℕ → Bool
-  committed? n p = ltb (place ev p) (commits ev n (stretch ev p) (thread ev p))
-
-  -- Forbidden and committed. By the letter a load forbids dropped stores too; no chain of commits holds those, and none
-  -- is in a pair.
-  unfoldable pub marked? : ℕ → ℕ → Bool
-  marked? n p = forbidden? ev n p && committed? n p
-
   -- what is forbidden stands in a stretch that is over
   pub record Over (n p : ℕ) : Type 0 where
     pub store : Issue ev p
@@ -173,7 +165,7 @@ module _ (ev : ℕ → Event) where
         over = omega (arith, forbids .earlier, stretch-mono ev l n (omega arith));
       }
 
-  pub marked-over : (n p : ℕ) → marked? n p ≡ true → Over n p
+  pub marked-over : (n p : ℕ) → marked? ev n p ≡ true → Over n p
   unfolding marked?
   marked-over n p passes = forbidden-over n p (parts (forbidden? ev n p) _ passes .0)
 
@@ -188,7 +180,7 @@ module _ (ev : ℕ → Event) where
       by-test false = omega arith
 
   -- an event more marks what it forbids of the committed stores
-  pub marked-step : (n p : ℕ) → marked? (suc n) p ≡ (forbids? ev n p && committed? (suc n) p || marked? n p)
+  pub marked-step : (n p : ℕ) → marked? ev (suc n) p ≡ (forbids? ev n p && committed? ev (suc n) p || marked? ev n p)
   unfolding marked?
   marked-step n p = rw (forbidden-step n p) (by-test (test (forbidden? ev n p)))
     where
@@ -205,18 +197,18 @@ module _ (ev : ℕ → Event) where
 
       by-test :
           (forbidden? ev n p ≡ true) ⊎ (forbidden? ev n p ≡ false)
-          → ((forbids? ev n p || forbidden? ev n p) && committed? (suc n) p)
-          ≡ (forbids? ev n p && committed? (suc n) p || forbidden? ev n p && committed? n p)
+          → ((forbids? ev n p || forbidden? ev n p) && committed? ev (suc n) p)
+          ≡ (forbids? ev n p && committed? ev (suc n) p || forbidden? ev n p && committed? ev n p)
       by-test (inl before) =
           let elsewhere : stretch ev n ≢ stretch ev p = λ same. omega (arith, forbidden-over n p before .over) in
           rw (← count-elsewhere (commit? ev) n (stretch ev p) (thread ev p) elsewhere)
-          (distributes (forbids? ev n p) (forbidden? ev n p) (committed? (suc n) p))
+          (distributes (forbids? ev n p) (forbidden? ev n p) (committed? ev (suc n) p))
       by-test (inr not-before) =
-          rw not-before (nothing-added (forbids? ev n p) (committed? (suc n) p) (committed? n p))
+          rw not-before (nothing-added (forbids? ev n p) (committed? ev (suc n) p) (committed? ev n p))
 
   module _ (N : ℕ) (accepted : Accepted ev N) where
     -- the closure takes in committed stores only, so a hit is marked
-    pub hit→ : (p : ℕ) → hit? N p ≡ true → (marked? N p ≡ true) × In ev (closure ev N) p
+    pub hit→ : (p : ℕ) → hit? N p ≡ true → (marked? ev N p ≡ true) × In ev (closure ev N) p
     unfolding hit? marked? finished
     hit→ p passes =
         let both-hold = parts (forbidden? ev N p) _ passes in
@@ -236,7 +228,7 @@ module _ (ev : ℕ → Event) where
               capped (ltb (stretch ev p) (stretch ev N)),
             )
 
-    pub →hit : (p : ℕ) → marked? N p ≡ true → In ev (closure ev N) p → hit? N p ≡ true
+    pub →hit : (p : ℕ) → marked? ev N p ≡ true → In ev (closure ev N) p → hit? N p ≡ true
     unfolding hit? marked?
     →hit p marked inside = both _ _ (parts (forbidden? ev N p) _ marked .0) (lt-ltb _ _ inside)
 

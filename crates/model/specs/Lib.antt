@@ -13,6 +13,6 @@ pub mod Reading
 pub mod Answers
 pub mod Demand
 pub mod Clocks
-pub mod Stores
 pub mod Verdict
+pub mod Stores
 pub mod Judge

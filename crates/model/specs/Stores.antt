@@ -1,13 +1,27 @@
--- Searches over a trace that a program's tables hold: a thread's store by its place, the newest store of a thread at a
--- location, and the committed stores of a location. No contract cites them.
+-- What a program's tables and marks hold of a trace: a thread's store by its place, the newest store of a thread at a
+-- location, the committed stores of a location, and of the forbidden stores those that are committed. No public
+-- contract cites them.
 use Prim.Native.Nat.{ℕ, zero, suc}
-use mathlib.Core.Bool.{Bool, cond, _&&_}
+use mathlib.Core.Bool.{Bool, false, cond, _&&_, _||_, not}
 use mathlib.Core.List.{List, [], _∷_}
-use lib.Dec.{eqb}
+use lib.Dec.{eqb, ltb}
 use Rattle.record.specs.declared.events.Event.{Event}
 use Rattle.model.specs.Search.{last}
-use Rattle.model.specs.Trace.{thread, location, issue?, commit?, stretch, place}
+use Rattle.model.specs.Trace.{thread, location, issue?, commit?, stretch, commits, place}
 use Rattle.model.specs.Machine.{committed}
+use Rattle.model.specs.Verdict.{forbidden?}
+
+-- ---- lists of stores
+
+-- the first, 0 if there is none
+abbrev pub headOf : List ℕ → ℕ
+headOf [] = 0
+headOf (p ∷ ps) = p
+
+-- p stands in the list before the first s
+unfoldable pub passed : ℕ → ℕ → List ℕ → Bool
+passed s p [] = false
+passed s p (q ∷ qs) = not (eqb q s) && (eqb q p || passed s p qs)
 
 module _ (ev : ℕ → Event) where
   -- the store of thread t in stretch j with i stores before it, among the first n events; 0 if there is none
@@ -31,3 +45,14 @@ module _ (ev : ℕ → Event) where
   unfoldable pub landed : ℕ → ℕ → List ℕ
   landed zero x = []
   landed (suc n) x = cond (landsAt x n) (committed ev n ∷ landed n x) (landed n x)
+
+  -- ---- marks
+
+  -- p is committed among the first n events
+  abbrev pub committed? : ℕ → ℕ → Bool
+  committed? n p = ltb (place ev p) (commits ev n (stretch ev p) (thread ev p))
+
+  -- Forbidden and committed. By the letter a load forbids dropped stores too; no chain of commits holds those, and none
+  -- is in a pair.
+  unfoldable pub marked? : ℕ → ℕ → Bool
+  marked? n p = forbidden? ev n p && committed? n p

@@ -1,0 +1,42 @@
+-- Lists of counts, number by number, and their sums. Assumes nothing.
+use Prim.Native.Nat.{ℕ, zero, suc, _+_, _≤_, _<_}
+use native.Mathlib.Numerals.{add-one}
+use native.Mathlib.Omega.{arith}
+use mathlib.Core.Path.{_≡_, refl}
+use mathlib.Core.List.{List, [], _∷_, _++_}
+use lib.ListN.{length, length-append}
+use Rattle.model.specs.Answers.{tabulate, sum}
+
+sum-append : (xs : List ℕ) (y : ℕ) → sum (xs ++ (y ∷ [])) ≡ sum xs + y
+unfolding sum
+sum-append [] y = omega arith
+sum-append (x ∷ xs) y = omega (arith, sum-append xs y)
+
+-- one number more
+pub sum-more : (i : ℕ) (f : ℕ → ℕ) → sum (tabulate i f) + f i ≡ sum (tabulate (i + 1) f)
+unfolding tabulate
+sum-more i f = rw (add-one, sum-append (tabulate i f) (f i))
+
+pub sum-mono : (n : ℕ) (f g : ℕ → ℕ) → ((i : ℕ) → i < n → f i ≤ g i) → sum (tabulate n f) ≤ sum (tabulate n g)
+unfolding tabulate
+sum-mono zero f g below = omega arith
+sum-mono (suc n) f g below =
+    omega (
+      arith,
+      sum-append (tabulate n f) (f n),
+      sum-append (tabulate n g) (g n),
+      sum-mono n f g (λ i less. below i (omega arith)),
+      below n (omega arith),
+    )
+
+-- two functions that agree below n give the same list
+pub tabulate-same : (n : ℕ) (f g : ℕ → ℕ) → ((i : ℕ) → i < n → f i ≡ g i) → tabulate n f ≡ tabulate n g
+unfolding tabulate
+tabulate-same zero f g same = refl
+tabulate-same (suc n) f g same =
+    rw (same n (omega arith), tabulate-same n f g (λ i below. same i (omega arith)))
+
+pub tabulate-length : (n : ℕ) (f : ℕ → ℕ) → length (tabulate n f) ≡ n
+unfolding tabulate
+tabulate-length zero f = refl
+tabulate-length (suc n) f = omega (arith, length-append (tabulate n f) (f n ∷ []), tabulate-length n f)
