@@ -1,2 +1,3 @@
--- What is read after a store.
+-- What is read after a store (ReadBack), and the links of a chain (Chains).
 pub mod ReadBack
+pub mod Chains

@@ -1,176 +1,113 @@
--- Cells read back: a store leaves its value in its own cell and every other cell as it was, whatever the rows and
--- columns, and keeps the length. Assumes nothing.
-use mathlib.Core.Path.{_≡_, refl, ap, _∙_}
-use mathlib.Core.Bool.{Bool, true, false, cond}
-use mathlib.Core.List.{List, [], _∷_}
-use Prim.Native.Nat.{ℕ, zero, suc, _+_, _-_, _*_, _≤_, _<_}
+-- Rows read back: a store leaves its value in its own cell and every other cell as it was, and keeps the length. Rows 1
+-- to 2,048 begin at the multiples of 16, one after the other; 0 shares the last one with 2,048, so that an earlier
+-- store's row, which is none of the two, is apart from it. Assumes nothing.
+-- In order: where rows begin; stores by row and column; stores by position, in the row that begins there.
+use mathlib.Core.Path.{_≡_, refl, ap}
+use mathlib.Core.Logic.{_⊎_, inl, inr, _≢_}
+use mathlib.Core.List.{List}
+use Prim.Native.Nat.{ℕ, zero, suc, _+_, _*_, _≤_, _<_, _%_}
 use native.Mathlib.Omega.{arith}
-use borrow.Author.Tests.{eqb-false, ne-eqb, ltb-false, lt-ltb, le-ltb, leb-true, le-leb}
-use lib.Dec.{eqb, leb, ltb}
+use borrow.Author.Tests.{lt-ltb}
 use lib.ListN.{length, set, getD, replicate, length-set}
 use lib.Seq.{getD-set-same, getD-set-other}
-use Rattle.model.proofs.Searching.{false-true}
-use Rattle.area.specs.Cells.{getRow, putRow, hasRow}
+use Rattle.model.proofs.Searching.{same?}
+use Rattle.area.specs.Cells.{rowStart, getRow, putRow, up}
+
+-- ---- where rows begin
+
+pub start-is : (e : ℕ) → 1 ≤ e → e ≤ 2048 → rowStart e + 16 ≡ 16 * e
+unfolding rowStart
+start-is e from-one to-last = omega arith
+
+pub start-inside : (e : ℕ) → rowStart e + 16 ≤ 32768
+unfolding rowStart
+start-inside e = omega arith
+
+start-of-0 : rowStart 0 ≡ 32752
+unfolding rowStart
+start-of-0 = refl
+
+-- a cell of one row is no cell of another that begins elsewhere, nor in another column
+cells-apart :
+    (a b k k′ : ℕ) → k < 16 → k′ < 16 → (rowStart a ≡ rowStart b → k ≡ k′ → ⊥) → rowStart a + k ≢ rowStart b + k′
+unfolding rowStart
+cells-apart a b k k′ low low′ differ same = differ (omega arith) (omega arith)
+
+-- the row of an earlier store is apart from that of any other number
+pub rows-apart : (e p : ℕ) → e ≤ 2048 → 1 ≤ p → p ≤ 2047 → e ≢ p → rowStart e ≢ rowStart p
+rows-apart e p to-last from-one early differ same = by-number (same? e 0)
+  where
+    its-start : rowStart p + 16 ≡ 16 * p
+    its-start = start-is p from-one (omega arith)
+
+    by-number : (e ≡ 0) ⊎ (e ≢ 0) → ⊥
+    by-number (inl none) = omega (arith, its-start, start-of-0, ap rowStart none)
+    by-number (inr some) = differ (omega (arith, its-start, start-is e (omega arith) to-last))
+
+-- ---- stores by row and column
 
 pub length-put : (l : List ℕ) (e k v : ℕ) → length (putRow l e k v) ≡ length l
 unfolding putRow
-length-put l e k v = by-tests (eqb e 0) (ltb 2048 e) (ltb 15 k)
-  where
-    by-tests :
-        (none high wide : Bool)
-        → length (cond none l (cond high l (cond wide l (set l (16 * (e - 1) + k) v)))) ≡ length l
-    by-tests true high wide = refl
-    by-tests false true wide = refl
-    by-tests false false true = refl
-    by-tests false false false = length-set l (16 * (e - 1) + k) v
+length-put l e k v = length-set l _ v
 
--- a row that is there
-pub get-there : (l : List ℕ) (e k : ℕ) → 1 ≤ e → e ≤ 2048 → k < 16 → getRow l e k ≡ getD l (16 * (e - 1) + k) 0
-unfolding getRow
-get-there l e k from-one to-last column =
-    rw (ne-eqb e 0 (λ z. omega arith), le-ltb 2048 e to-last, le-ltb 15 k (omega arith)) refl
-
-pub put-there : (l : List ℕ) (e k v : ℕ) → 1 ≤ e → e ≤ 2048 → k < 16 → putRow l e k v ≡ set l (16 * (e - 1) + k) v
-unfolding putRow
-put-there l e k v from-one to-last column =
-    rw (ne-eqb e 0 (λ z. omega arith), le-ltb 2048 e to-last, le-ltb 15 k (omega arith)) refl
-
-pub put-in-row :
-    (l : List ℕ) (e k v : ℕ) → 16 * e ≤ length l → 1 ≤ e → e ≤ 2048 → k < 16 → getRow (putRow l e k v) e k ≡ v
-put-in-row l e k v room from-one to-last column =
-    rw (put-there l e k v from-one to-last column, get-there (set l (16 * (e - 1) + k) v) e k from-one to-last column)
-    (getD-set-same l (16 * (e - 1) + k) v 0 (omega arith))
-
-pub put-same :
-    (l : List ℕ) (e k v : ℕ) → 32768 ≤ length l → 1 ≤ e → e ≤ 2048 → k < 16 → getRow (putRow l e k v) e k ≡ v
-put-same l e k v room from-one to-last column = put-in-row l e k v (omega arith) from-one to-last column
-
-pub put-other :
-    (l : List ℕ) (e k v e′ k′ : ℕ) → (e ≡ e′ → k ≡ k′ → ⊥) → getRow (putRow l e k v) e′ k′ ≡ getRow l e′ k′
+pub put-same : (l : List ℕ) (e k v : ℕ) → 32768 ≤ length l → getRow (putRow l e k v) e k ≡ v
 unfolding getRow putRow
-put-other l e k v e′ k′ differ =
-    by-tests (eqb e 0) refl (ltb 2048 e) (ltb 15 k) refl (eqb e′ 0) refl (ltb 2048 e′) (ltb 15 k′) refl
-  where
-    by-tests :
-        (none : Bool) → eqb e 0 ≡ none → (high wide : Bool) → ltb 15 k ≡ wide
-        → (none′ : Bool) → eqb e′ 0 ≡ none′ → (high′ wide′ : Bool) → ltb 15 k′ ≡ wide′
-        → cond none′ 0 (cond high′ 0 (cond wide′ 0
-        (getD (cond none l (cond high l (cond wide l (set l (16 * (e - 1) + k) v)))) (16 * (e′ - 1) + k′) 0)))
-        ≡ cond none′ 0 (cond high′ 0 (cond wide′ 0 (getD l (16 * (e′ - 1) + k′) 0)))
-    by-tests none p high wide q true p′ high′ wide′ q′ = refl
-    by-tests none p high wide q false p′ true wide′ q′ = refl
-    by-tests none p high wide q false p′ false true q′ = refl
-    by-tests true p high wide q false p′ false false q′ = refl
-    by-tests false p true wide q false p′ false false q′ = refl
-    by-tests false p false true q false p′ false false q′ = refl
-    by-tests false p false false q false p′ false false q′ =
-        getD-set-other l (16 * (e - 1) + k) (16 * (e′ - 1) + k′) v 0
-        (λ same.
-        let some = eqb-false e 0 p in
-        let some′ = eqb-false e′ 0 p′ in
-        let narrow = ltb-false 15 k q in
-        let narrow′ = ltb-false 15 k′ q′ in
-        differ (omega arith) (omega arith))
+put-same l e k v room = getD-set-same l (rowStart e + k % 16) v 0 (omega (arith, start-inside e))
 
-set-back : (l : List ℕ) (i : ℕ) → set l i (getD l i 0) ≡ l
-set-back [] i = refl
-set-back (x ∷ xs) zero = refl
-set-back (x ∷ xs) (suc i) = ap (λ (r : List ℕ). x ∷ r) (set-back xs i)
-
--- a number that is stored where it stands
-pub put-back : (l : List ℕ) (e k : ℕ) → putRow l e k (getRow l e k) ≡ l
+put-other :
+    (l : List ℕ) (e k v e′ k′ : ℕ) → k < 16 → k′ < 16 → (rowStart e ≡ rowStart e′ → k ≡ k′ → ⊥)
+    → getRow (putRow l e k v) e′ k′ ≡ getRow l e′ k′
 unfolding getRow putRow
-put-back l e k = by-tests (eqb e 0) (ltb 2048 e) (ltb 15 k)
-  where
-    there : ℕ
-    there = 16 * (e - 1) + k
+put-other l e k v e′ k′ low low′ differ =
+    getD-set-other l (rowStart e + k % 16) (rowStart e′ + k′ % 16) v 0
+    (λ same. cells-apart e e′ k k′ low low′ differ (omega arith))
 
-    by-tests :
-        (none high wide : Bool)
-        → cond none l (cond high l (cond wide l
-        (set l there (cond none 0 (cond high 0 (cond wide 0 (getD l there 0))))))) ≡ l
-    by-tests true high wide = refl
-    by-tests false true wide = refl
-    by-tests false false true = refl
-    by-tests false false false = set-back l there
+-- another column
+pub put-column :
+    (l : List ℕ) (e k v e′ k′ : ℕ) → k < 16 → k′ < 16 → k ≢ k′ → getRow (putRow l e k v) e′ k′ ≡ getRow l e′ k′
+put-column l e k v e′ k′ low low′ differ = put-other l e k v e′ k′ low low′ (λ _ same. differ same)
 
--- there is no row 0
-pub row-zero : (l : List ℕ) (k : ℕ) → getRow l 0 k ≡ 0
-unfolding getRow
-row-zero l k = refl
+-- another row
+pub put-row :
+    (l : List ℕ) (e k v e′ k′ : ℕ) → k < 16 → k′ < 16 → rowStart e ≢ rowStart e′
+    → getRow (putRow l e k v) e′ k′ ≡ getRow l e′ k′
+put-row l e k v e′ k′ low low′ differ = put-other l e k v e′ k′ low low′ (λ same _. differ same)
 
-pub put-row-zero : (l : List ℕ) (k v : ℕ) → putRow l 0 k v ≡ l
-unfolding putRow
-put-row-zero l k v = refl
+-- ---- stores by position, in the row of event n, which begins at `row`
 
--- the row with i rows before it: there is none from 2,048 on, and none has a column from 16 on
-module _ (l : List ℕ) (i k : ℕ) where
-  pub no-row : 2048 ≤ i → getRow l (suc i) k ≡ 0
+module _ (l : List ℕ) (row n : ℕ) (begins : row + 16 ≡ 16 * n) (to-last : n ≤ 2048) where
+  start-here : rowStart n ≡ row
+  start-here = omega (arith, start-is n (omega arith) to-last)
+
+  pub set-here : (k v : ℕ) → 32768 ≤ length l → k < 16 → getRow (set l (row + k) v) n k ≡ v
   unfolding getRow
-  no-row past = rw (ne-eqb (suc i) 0 (λ z. omega arith), lt-ltb 2048 (suc i) (omega arith))
+  set-here k v room low =
+      let there : row + k ≡ rowStart n + k % 16 = omega (arith, start-here) in
+      rw there (getD-set-same l (rowStart n + k % 16) v 0 (omega (arith, start-inside n)))
 
-  pub put-no-row : (v : ℕ) → 2048 ≤ i → putRow l (suc i) k v ≡ l
-  unfolding putRow
-  put-no-row v past = rw (ne-eqb (suc i) 0 (λ z. omega arith), lt-ltb 2048 (suc i) (omega arith))
+  -- another column, of whichever row
+  pub set-column : (u v p k : ℕ) → u < 16 → k < 16 → u ≢ k → getRow (set l (row + u) v) p k ≡ getRow l p k
+  unfolding getRow
+  set-column u v p k low low′ differ =
+      getD-set-other l (row + u) (rowStart p + k % 16) v 0
+      (λ same. cells-apart n p u k low low′ (λ _ same-column. differ same-column) (omega (arith, start-here)))
 
-  module _ (there : i < 2048) where
-    pub no-column : 15 < k → getRow l (suc i) k ≡ 0
-    unfolding getRow
-    no-column past =
-        rw (ne-eqb (suc i) 0 (λ z. omega arith), le-ltb 2048 (suc i) (omega arith), lt-ltb 15 k past)
+  -- the row of another event
+  pub set-elsewhere :
+      (u v p k : ℕ) → u < 16 → k < 16 → 1 ≤ p → p ≤ 2048 → n ≢ p → getRow (set l (row + u) v) p k ≡ getRow l p k
+  unfolding getRow
+  set-elsewhere u v p k low low′ from-one p-to-last differ =
+      getD-set-other l (row + u) (rowStart p + k % 16) v 0
+      (λ same. differ (omega (arith, start-is p from-one p-to-last)))
 
-    pub put-no-column : (v : ℕ) → 15 < k → putRow l (suc i) k v ≡ l
-    unfolding putRow
-    put-no-column v past =
-        rw (ne-eqb (suc i) 0 (λ z. omega arith), le-ltb 2048 (suc i) (omega arith), lt-ltb 15 k past)
+-- ---- cleared numbers
 
-    module _ (column : k ≤ 15) where
-      same-place : 16 * (suc i - 1) + k ≡ 16 * i + k
-      same-place = omega arith
+pub cleared-at : (n i : ℕ) → _≡_ {A = ℕ} (getD (replicate n 0) i 0) 0
+cleared-at zero i = refl
+cleared-at (suc n) zero = refl
+cleared-at (suc n) (suc i) = cleared-at n i
 
-      pub nth-there : getRow l (suc i) k ≡ getD l (16 * i + k) 0
-      nth-there =
-          get-there l (suc i) k (omega arith) (omega arith) (omega arith) ∙ ap (λ (j : ℕ). getD l j 0) same-place
-
-      pub put-nth-there : (v : ℕ) → putRow l (suc i) k v ≡ set l (16 * i + k) v
-      put-nth-there v =
-          put-there l (suc i) k v (omega arith) (omega arith) (omega arith) ∙ ap (λ (j : ℕ). set l j v) same-place
-
--- what `hasRow` says, and what it needs
-pub has-row→ : (l : List ℕ) (e : ℕ) → hasRow l e ≡ true → (1 ≤ e) × (e ≤ 2048) × (16 * e ≤ length l)
-unfolding hasRow
-has-row→ l e = by-tests (eqb e 0) refl (ltb 2048 e) refl
-  where
-    by-tests :
-        (none : Bool) → eqb e 0 ≡ none → (high : Bool) → ltb 2048 e ≡ high
-        → cond none false (cond high false (leb (16 * e) (length l))) ≡ true
-        → (1 ≤ e) × (e ≤ 2048) × (16 * e ≤ length l)
-    by-tests true p high q has = absurd (false-true has)
-    by-tests false p true q has = absurd (false-true has)
-    by-tests false p false q has =
-        let some = eqb-false e 0 p in
-        let low = ltb-false 2048 e q in
-        (omega arith, omega arith, leb-true _ _ has)
-
-pub →has-row : (l : List ℕ) (e : ℕ) → 1 ≤ e → e ≤ 2048 → 16 * e ≤ length l → hasRow l e ≡ true
-unfolding hasRow
-→has-row l e from-one to-last room =
-    rw (ne-eqb e 0 (λ z. omega arith), le-ltb 2048 e to-last) (le-leb (16 * e) (length l) room)
-
-replicate-at : (n i : ℕ) → _≡_ {A = ℕ} (getD (replicate n 0) i 0) 0
-replicate-at zero i = refl
-replicate-at (suc n) zero = refl
-replicate-at (suc n) (suc i) = replicate-at n i
-
--- every cell of a cleared list is 0
-pub cleared-cell : (n e k : ℕ) → getRow (replicate n 0) e k ≡ 0
-unfolding getRow
-cleared-cell n e k = by-tests (eqb e 0) (ltb 2048 e) (ltb 15 k)
-  where
-    by-tests :
-        (none high wide : Bool)
-        → _≡_ {A = ℕ} (cond none 0 (cond high 0 (cond wide 0 (getD (replicate n 0) (16 * (e - 1) + k) 0)))) 0
-    by-tests true high wide = refl
-    by-tests false true wide = refl
-    by-tests false false true = refl
-    by-tests false false false = replicate-at n (16 * (e - 1) + k)
+-- one more, of a number that no trace exceeds
+pub up-is : (x : ℕ) → x ≤ 2049 → up x ≡ suc x
+unfolding up
+up-is x small = rw (lt-ltb x 65535 (omega arith)) (omega arith)

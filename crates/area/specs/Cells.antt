@@ -1,32 +1,35 @@
--- Rows of 16 numbers, one for each event from 1 to 2,048; and column 13 as a list of cells. Reads and stores are total.
-use Prim.Native.Nat.{ℕ, suc, _+_, _-_, _*_}
-use mathlib.Core.Bool.{Bool, false, cond}
+-- The work area as rows of 16 numbers, one for each event from 1 to 2,048, one after the other. Reads and stores are
+-- total.
+use Prim.Native.Nat.{ℕ, _+_, _*_, _/_, _%_}
+use mathlib.Core.Bool.{cond}
 use mathlib.Core.List.{List}
-use lib.ListN.{length, getD, set}
-use lib.Dec.{eqb, leb, ltb}
+use lib.ListN.{getD, set}
+use lib.Dec.{ltb}
+use Rattle.model.specs.Answers.{tabulate, sum}
 
--- a if there is a row e, from 1 to 2,048, with a column k, from 0 to 15; else b
-abbrev pub inArea : {A : Type 0} → ℕ → ℕ → A → A → A
-inArea e k a b = cond (eqb e 0) b (cond (ltb 2048 e) b (cond (ltb 15 k) b a))
+-- where row e begins; 0, which is no store's number, goes round to the last row
+unfoldable pub rowStart : ℕ → ℕ
+rowStart e = 16 * ((e + 2047) % 2048)
 
--- column k of row e, 0 where there is none
+-- column k of row e
 unfoldable pub getRow : List ℕ → ℕ → ℕ → ℕ
-getRow l e k = inArea e k (getD l (16 * (e - 1) + k) 0) 0
+getRow l e k = getD l (rowStart e + k % 16) 0
 
--- l with v in column k of row e, l itself where there is none
+-- l with v there
 unfoldable pub putRow : List ℕ → ℕ → ℕ → ℕ → List ℕ
-putRow l e k v = inArea e k (set l (16 * (e - 1) + k) v) l
+putRow l e k v = set l (rowStart e + k % 16) v
 
--- row e is there, whole
-unfoldable pub hasRow : List ℕ → ℕ → Bool
-hasRow l e = cond (eqb e 0) false (cond (ltb 2048 e) false (leb (16 * e) (length l)))
+-- the number of the event whose row begins there
+abbrev pub eventAt : ℕ → ℕ
+eventAt row = row / 16 + 1
 
--- cell i of column 13
-abbrev pub cell : List ℕ → ℕ → ℕ
-cell l i = getRow l (suc i) 13
+-- the event whose row begins there is no store: its stretch is 0
+abbrev pub noStore : List ℕ → ℕ → List ℕ
+noStore l row = set l (row + 10) 0
 
-abbrev pub putCell : List ℕ → ℕ → ℕ → List ℕ
-putCell l i v = putRow l (suc i) 13 v
+-- the sum of n numbers from a position on
+abbrev pub total : ℕ → List ℕ → ℕ → ℕ
+total n l from = sum (tabulate n (λ i. getD l (from + i) 0))
 
 -- one more, and 0 after 65,535
 unfoldable pub up : ℕ → ℕ

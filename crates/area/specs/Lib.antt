@@ -1,5 +1,4 @@
--- The work area as rows and tables, which the private contracts of the judge's layers cite. No public contract of the
--- judge names anything of this crate.
+-- The work area as rows, which the private contracts of the judge's layers cite. No public contract of the judge names
+-- anything of this crate.
 pub mod Cells
-pub mod Tables
 pub mod Rows

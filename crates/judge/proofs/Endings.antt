@@ -1,37 +1,41 @@
--- The end of a run, and what is answered after it: past the last record the trace is accepted with as many records as
--- the machine has events. Then the rows of two stores say how these stand, and what was found, or the marks, the
--- verdict.
-use mathlib.Core.Path.{_≡_, refl, sym, subst}
+-- The end of a run, and what is answered after it: behind the last record the trace is accepted with as many records as
+-- the machine has events, and the marks give the verdict and the cut buffer; and the rows of two stores say how these
+-- stand.
+use mathlib.Core.Path.{_≡_, refl, sym, ap, _∙_, subst}
 use mathlib.Core.Bool.{Bool, true, false, cond}
 use mathlib.Core.Logic.{_⊎_, inl, inr, _≢_}
 use mathlib.Core.List.{List}
-use Prim.Native.Nat.{ℕ, suc, _≤_}
+use Prim.Native.Nat.{ℕ, suc, _-_, _≤_}
 use native.Mathlib.Omega.{arith}
-use borrow.Author.Tests.{eq-eqb, ne-eqb, eqb-true, eqb-false}
+use borrow.Author.Tests.{eq-eqb, ne-eqb}
 use lib.Dec.{eqb}
 use lib.ListN.{length}
 use Rattle.record.specs.Tests.{_gives_else_}
-use Rattle.record.proofs.Starts.{start-inside}
 use Rattle.model.specs.declared.Kind.the-variants.{Contradiction, Flush}
-use Rattle.model.specs.declared.Order.the-variants.{Refused}
+use Rattle.model.specs.declared.Order.the-variants as order
+use Rattle.model.specs.declared.Verdict.{Verdict}
+use Rattle.model.specs.declared.Verdict.the-variants.{Refused, Robust, Broken}
 use Rattle.model.specs.Answers as answers
 use Rattle.model.specs.Rules.{Accepted}
-use Rattle.model.specs.Reading.{events, accepted, readingOf}
-use Rattle.model.specs.Judge.{readingAnswer, readingCut, store?, standing, readingStanding}
-use Rattle.model.proofs.Searching.{test, same?}
+use Rattle.model.specs.Choice.{Ruling, robust, broken}
+use Rattle.model.specs.Verdict.{rulingOf}
+use Rattle.model.specs.Reading.{Reading, accepted, turnedAway, events, readingOf, TurnedAwayWith}
+use Rattle.model.specs.Judge.{ruledAnswer, readingAnswer, readingCut, store?, standing, readingStanding}
+use Rattle.model.proofs.Searching.{false-true, same?}
 use Rattle.model.proofs.TurnedAway.{accepted-exactly, turned-away-exactly}
+use Rattle.area.proofs.ReadBack.{up-is}
 use Rattle.machine.specs.Orders.{storeW, orderW}
+use Rattle.machine.specs.Twin.{World}
 use Rattle.machine.specs.Sim.{Sim}
 use Rattle.machine.proofs.Standings.{store-is, order-is}
-use Rattle.machine.proofs.CellLaws.{up-is}
+use Rattle.machine.proofs.Closing.{committed-is}
+use Rattle.marks.specs.Marks.{Marks, brokenIn}
 use Rattle.marks.specs.Testing.{missingBy}
-use Rattle.marks.proofs.Good.{broke-ruling, good-robust}
-use Rattle.judge.specs.declared.run.Begun.{Begun}
-use Rattle.judge.specs.declared.run.Turn.{Turn}
-use Rattle.judge.specs.declared.run.End.{End}
-use Rattle.judge.specs.Runs.{ended, worldOf, Reached, Turned, Began, AllRead, Ran}
+use Rattle.marks.proofs.Held.{broke-ruling, good-robust}
+use Rattle.judge.specs.declared.verdict.End.{End}
+use Rattle.judge.specs.Runs.{worldOf, AllRead, Stopped, Ran}
 use Rattle.judge.specs.Judging.{evidenceAt}
-use Rattle.judge.specs.Standings.{standingAfter}
+use Rattle.judge.specs.Standings.{standBy, standingAfter}
 use Rattle.judge.specs.Verdicts.{kindBy, verdictAfter, cutFrom}
 
 -- the code's kind is the definitions'
@@ -44,158 +48,215 @@ kind-is missing observed = by-test (eqb missing observed)
     by-test true = refl
     by-test false = refl
 
--- the end of a run that came to turn t, with the load that broke the trace, or 0
-abbrev endOf : Turn → ℕ → End
-endOf t load = record { stretch = t .stretch; event = t .event; load = load; refusal = t .refusal }
+-- of an answer: whether it is a refusal, how that reads of a query, and the events after the begin otherwise
+abbrev refused? : answers.Answer → Bool
+refused? (answers.refused k e) = true
+refused? (answers.robust events share) = false
+refused? (answers.broken events load missing observed kind) = false
+
+abbrev refusalStanding : answers.Answer → answers.Standing
+refusalStanding (answers.refused k e) = answers.refused k e
+refusalStanding (answers.robust events share) = answers.neither
+refusalStanding (answers.broken events load missing observed kind) = answers.neither
+
+abbrev eventsIn : answers.Answer → ℕ
+eventsIn (answers.refused k e) = 0
+eventsIn (answers.robust events share) = events
+eventsIn (answers.broken events load missing observed kind) = events
+
+-- the number of records that a reading is accepted with
+abbrev recordsIn : Reading → ℕ
+recordsIn (accepted N) = N
+recordsIn (turnedAway k e) = 0
 
 module _ (bytes : List ℕ) where
-  -- a run is over where a record was turned away, or behind the last
-  pub run-ends :
-      (threads locations n : ℕ) (t : Turn) (load : ℕ) (rows work : List ℕ)
-      → Turned bytes threads locations n t load rows work → (t .refusal ≢ 0) ⊎ (length bytes ≤ t .at)
-      → Ran bytes (endOf t load) work
-  run-ends threads locations n t load rows work turned (inl some-number) = record {
-    all-read = λ none. absurd (some-number none);
-    turned-away = turned .turned-away;
-  }
-  run-ends threads locations n t load rows work turned (inr past) = record {
-    all-read = λ none. all-read (turned .passes none);
-    turned-away = turned .turned-away;
-  }
-    where
-      all-read : Reached bytes threads locations n t load rows work → AllRead bytes (t .event) (endOf t load) work
-      all-read reached =
-          let count-is : t .event ≡ n = reached .state .numbers .event-is in
-          subst (λ (N : ℕ). AllRead bytes N (endOf t load) work) (sym count-is) (record {
-            accepted = record {
-              some-record = reached .state .limits .accepted .some-record;
-              all-pass = reached .all-pass;
-              ends = omega (arith, start-inside bytes n, reached .position);
-            };
-            threads = threads;
-            locations = locations;
-            rows = rows;
-            state = reached .state;
-            loads = reached .loads;
-          })
+  -- what is answered, and what becomes of the cut buffer
+  abbrev pub Judged : Verdict → List ℕ → List ℕ → Type 0
+  Judged v cut cut' =
+      (answers.verdictAnswer v ≡ readingAnswer bytes (readingOf bytes))
+      × (cut' ≡ readingCut bytes cut (readingOf bytes))
 
-  -- a begin that was turned away ends it at once
-  pub begin-ends :
-      (b : Begun) (work : List ℕ) → Began bytes b → b .refusal ≢ 0 → Ran bytes (endOf (ended (b .refusal) 0) 0) work
-  begin-ends b work began some-number = record {
-    all-read = λ none. absurd (some-number none);
-    turned-away = λ _. began .turned-away some-number;
-  }
+  -- ---- a record that is turned away
+
+  module _ (k e : ℕ) (away : TurnedAwayWith bytes k e) where
+    is-turned-away : readingOf bytes ≡ turnedAway k e
+    is-turned-away = turned-away-exactly bytes k e .1 away
+
+    pub refused-judged : (cut : List ℕ) → Judged (Refused k e) cut cut
+    refused-judged cut = (rw is-turned-away refl, rw is-turned-away refl)
+
+    -- such a trace is not accepted
+    pub refused-ran : (work : List ℕ) → Ran bytes (Refused k e) work
+    refused-ran work = record {
+      answer = rw is-turned-away refl;
+      rows = λ N whole.
+          absurd (no-records N (sym (accepted-exactly bytes N .1 whole) ∙ is-turned-away) (whole .some-record));
+    }
+      where
+        no-records : (N : ℕ) → accepted N ≡ turnedAway k e → suc 0 ≤ N → ⊥
+        no-records N same some = omega (arith, ap recordsIn same)
+
+  -- ---- all records of an accepted trace
+
+  module _
+      (threads locations N : ℕ) (tables : List ℕ) (m : Marks) (work : List ℕ)
+      (all : AllRead bytes threads locations N tables m work) where
+    is-accepted : readingOf bytes ≡ accepted N
+    is-accepted = accepted-exactly bytes N .1 (all .accepted)
+
+    whole : Accepted (events bytes) N
+    whole = all .state .limits .accepted
+
+    abbrev w : World
+    w = worldOf bytes threads locations (all .stretch) (all .row) tables work
+
+    -- the rows after a run that answers v
+    rows-there :
+        (v : Verdict) → answers.verdictAnswer v ≡ readingAnswer bytes (readingOf bytes) → Ran bytes v work
+    rows-there v answer-is = record {
+      answer = answer-is;
+      rows = λ M also.
+          let same : N ≡ M = ap recordsIn (sym is-accepted ∙ accepted-exactly bytes M .1 also) in
+          (w, (refl, subst (λ (K : ℕ). Sim (events bytes) K w) same (all .state)));
+    }
+
+    abbrev load : ℕ
+    load = brokenIn (m .counts)
+
+    -- the end of the run
+    abbrev endAt : End
+    endAt = record { number = 1; event = N }
+
+    module _ (cut : List ℕ) (right-size : length cut ≡ 56) where
+      abbrev cut' : List ℕ
+      cut' = cutFrom endAt (m .counts) cut
+
+      broken-judged : load ≢ 0 → Judged (verdictAfter endAt tables m work) cut cut'
+      unfolding verdictAfter cutFrom evidenceAt
+      broken-judged some-load =
+          let some = ne-eqb load 0 some-load in
+          let early = all .loads .early some-load in
+          let few : load ≤ 2049 = omega (arith, all .state .limits .few-events) in
+          let ruling = broke-ruling (events bytes) N work m whole (all .state .rows) (all .loads) some-load in (
+            rw (some, is-accepted, up-is load few, ruling, kind-is (missingBy work m (suc load)) _) refl,
+            rw (some, is-accepted, ruling) refl,
+          )
+
+      robust-judged : load ≡ 0 → Judged (verdictAfter endAt tables m work) cut cut'
+      unfolding verdictAfter cutFrom
+      robust-judged none-found =
+          let none = eq-eqb load 0 none-found in
+          let end = good-robust (events bytes) N m whole (all .loads .none-yet none-found) in
+          let total = committed-is (events bytes) N w (all .state) in (
+            rw (none, is-accepted, end .ruling, end .kept, total, end .share) refl,
+            rw (none, is-accepted, end .ruling, end .cut cut right-size) refl,
+          )
+
+      -- THE VERDICT AFTER ALL RECORDS, AND THE CUT BUFFER, ARE THE DEFINITIONS'
+      all-judged : Judged (verdictAfter endAt tables m work) cut cut'
+      all-judged = by-load (same? load 0)
+        where
+          by-load : (load ≡ 0) ⊎ (load ≢ 0) → Judged (verdictAfter endAt tables m work) cut cut'
+          by-load (inl none-found) = robust-judged none-found
+          by-load (inr some-load) = broken-judged some-load
+
+      all-ran : Ran bytes (verdictAfter endAt tables m work) work
+      all-ran = rows-there (verdictAfter endAt tables m work) (all-judged .0)
+
+  -- ---- a run that is over before record n, by number k
+
+  module _
+      (threads locations n k : ℕ) (tables : List ℕ) (m : Marks) (work : List ℕ)
+      (stopped : Stopped bytes threads locations n k tables m work) (cut : List ℕ) (right-size : length cut ≡ 56)
+    where
+      -- the end of the run
+      abbrev endBy : End
+      endBy = record { number = k; event = n }
+
+      abbrev Over : Verdict → List ℕ → Type 0
+      Over v cut' = Judged v cut cut' × Ran bytes v work
+
+      over : (k ≡ 1) ⊎ (k ≢ 1) → Over (verdictAfter endBy tables m work) (cutFrom endBy (m .counts) cut)
+      unfolding verdictAfter cutFrom
+      over (inl is-1) =
+          let all = stopped .all-read is-1 in
+          rw is-1 (
+            all-judged threads locations n tables m work all cut right-size,
+            all-ran threads locations n tables m work all cut right-size,
+          )
+      over (inr not-1) =
+          let away = stopped .turned-away not-1 in
+          rw (ne-eqb k 1 not-1) (refused-judged k n away cut, refused-ran k n away work)
+
+      pub stopped-judged : Judged (verdictAfter endBy tables m work) cut (cutFrom endBy (m .counts) cut)
+      stopped-judged = over (same? k 1) .0
+
+      pub stopped-ran : Ran bytes (verdictAfter endBy tables m work) work
+      stopped-ran = over (same? k 1) .1
 
   -- ---- the order query
 
-  module _ (t : End) (work : List ℕ) (ran : Ran bytes t work) (p q : ℕ) where
-    refused-standing :
-        t .refusal ≢ 0 → answers.orderAnswer (standingAfter t work p q) ≡ readingStanding bytes p q (readingOf bytes)
-    unfolding standingAfter
-    refused-standing some-number =
-        let is = turned-away-exactly bytes (t .refusal) (t .event) .1 (ran .turned-away some-number) in
-        rw (ne-eqb (t .refusal) 0 some-number, is) refl
-
+  module _ (v : Verdict) (work : List ℕ) (ran : Ran bytes v work) (p q : ℕ) where
     -- of an accepted trace of N records: 16, or what the rows say
-    module _
-        (N threads locations : ℕ) (rows : List ℕ)
-        (sim : Sim (events bytes) N (worldOf bytes threads locations (t .stretch) (t .event) rows work)) where
+    module _ (N : ℕ) (is : readingOf bytes ≡ accepted N) where
+      there : (w : World) × ((w .work ≡ work) × Sim (events bytes) N w)
+      there = ran .rows N (accepted-exactly bytes N .0 is)
+
       by-stores :
           (p-store q-store : Bool) → store? (events bytes) N p ≡ p-store → store? (events bytes) N q ≡ q-store
           → answers.orderAnswer
-          (p-store gives (q-store gives orderW work p q else Refused 16 0) else Refused 16 0)
+          (p-store gives (q-store gives orderW work p q else order.Refused 16 0) else order.Refused 16 0)
           ≡ standing (events bytes) N p q
       by-stores true true is-p is-q =
-          order-is (events bytes) N (worldOf bytes threads locations (t .stretch) (t .event) rows work) sim p q
-          is-p is-q
+          let (w, (same, sim)) = there in
+          rw (sym same) (order-is (events bytes) N w sim p q is-p is-q)
       by-stores true false is-p is-q = rw (is-p, is-q) refl
       by-stores false q-store is-p is-q = rw is-p refl
 
+      stands :
+          (count : ℕ) → count ≡ N - 1
+          → answers.orderAnswer (standBy count work p q) ≡ standing (events bytes) N p q
+      unfolding standBy
+      stands count is-count =
+          let (w, (same, sim)) = there in
+          let stores : (i : ℕ) → storeW work (N - 1) i ≡ store? (events bytes) N i =
+          λ i. rw (sym same) (store-is (events bytes) N w sim i)
+          in
+          rw is-count
+          (by-stores (storeW work (N - 1) p) (storeW work (N - 1) q) (sym (stores p)) (sym (stores q)))
+
+    ruled : (N : ℕ) (r : Ruling) → refused? (ruledAnswer (events bytes) N r) ≡ false
+    ruled N (robust c) = refl
+    ruled N (broken l m o) = refl
+
+    ruled-events : (N : ℕ) (r : Ruling) → eventsIn (ruledAnswer (events bytes) N r) ≡ N - 1
+    ruled-events N (robust c) = refl
+    ruled-events N (broken l m o) = refl
+
     accepted-standing :
-        t .refusal ≡ 0 → answers.orderAnswer (standingAfter t work p q) ≡ readingStanding bytes p q (readingOf bytes)
-    unfolding standingAfter
-    accepted-standing none =
-        let N : ℕ = t .event in
-        let all = ran .all-read none in
-        let is = accepted-exactly bytes N .1 (all .accepted) in
-        let w = worldOf bytes (all .threads) (all .locations) (t .stretch) (t .event) (all .rows) work in
-        let stores = store-is (events bytes) N w (all .state) in
-        rw (eq-eqb (t .refusal) 0 none, is)
-        (by-stores N (all .threads) (all .locations) (all .rows) (all .state) (storeW work p) (storeW work q)
-        (sym (stores p)) (sym (stores q)))
+        (N : ℕ) → readingOf bytes ≡ accepted N → (u : Verdict)
+        → answers.verdictAnswer u ≡ readingAnswer bytes (accepted N)
+        → answers.orderAnswer (standingAfter u work p q) ≡ standing (events bytes) N p q
+    accepted-standing N is (Refused k e) answer-is =
+        false-true (sym (ruled N (rulingOf (events bytes) N)) ∙ sym (ap refused? answer-is))
+    accepted-standing N is (Robust count share) answer-is =
+        stands N is count (ap eventsIn answer-is ∙ ruled-events N (rulingOf (events bytes) N))
+    accepted-standing N is (Broken count load missing observed kind) answer-is =
+        stands N is count (ap eventsIn answer-is ∙ ruled-events N (rulingOf (events bytes) N))
+
+    refused-standing :
+        (k e : ℕ) (u : Verdict) → answers.verdictAnswer u ≡ answers.refused k e
+        → answers.orderAnswer (standingAfter u work p q) ≡ answers.refused k e
+    refused-standing k e (Refused number event) answer-is = ap refusalStanding answer-is
+    refused-standing k e (Robust count share) answer-is = false-true (ap refused? answer-is)
+    refused-standing k e (Broken count load missing observed kind) answer-is = false-true (ap refused? answer-is)
 
     -- THE ANSWER AFTER A RUN IS THE DEFINITIONS'
-    pub standing-is : answers.orderAnswer (standingAfter t work p q) ≡ readingStanding bytes p q (readingOf bytes)
-    standing-is = by-refusal (test (eqb (t .refusal) 0))
+    pub standing-is : answers.orderAnswer (standingAfter v work p q) ≡ readingStanding bytes p q (readingOf bytes)
+    standing-is = by-reading (readingOf bytes) refl (ran .answer)
       where
-        by-refusal :
-            (eqb (t .refusal) 0 ≡ true) ⊎ (eqb (t .refusal) 0 ≡ false)
-            → answers.orderAnswer (standingAfter t work p q) ≡ readingStanding bytes p q (readingOf bytes)
-        by-refusal (inl none) = accepted-standing (eqb-true (t .refusal) 0 none)
-        by-refusal (inr some) = refused-standing (eqb-false (t .refusal) 0 some)
-
-  -- ---- the verdict
-
-  abbrev Judged : End → List ℕ → List ℕ → Type 0
-  Judged t work cut =
-      (answers.verdictAnswer (verdictAfter t work) ≡ readingAnswer bytes (readingOf bytes))
-      × (cutFrom t work cut ≡ readingCut bytes cut (readingOf bytes))
-
-  module _ (t : End) (work cut : List ℕ) (ran : Ran bytes t work) (right-size : length cut ≡ 56) where
-    refused-verdict : t .refusal ≢ 0 → Judged t work cut
-    unfolding verdictAfter cutFrom
-    refused-verdict some-number =
-        let is = turned-away-exactly bytes (t .refusal) (t .event) .1 (ran .turned-away some-number) in
-        let some = ne-eqb (t .refusal) 0 some-number in
-        (rw (some, is) refl, rw (some, is) refl)
-
-    -- of an accepted trace: the evidence of the load that broke it, or the marks
-    module _ (none : t .refusal ≡ 0) where
-      abbrev N : ℕ
-      N = t .event
-
-      all : AllRead bytes N t work
-      all = ran .all-read none
-
-      is : readingOf bytes ≡ accepted N
-      is = accepted-exactly bytes N .1 (all .accepted)
-
-      whole : Accepted (events bytes) N
-      whole = all .state .limits .accepted
-
-      broken-verdict : t .load ≢ 0 → Judged t work cut
-      unfolding verdictAfter cutFrom evidenceAt
-      broken-verdict some-load =
-          let passes = eq-eqb (t .refusal) 0 none in
-          let some = ne-eqb (t .load) 0 some-load in
-          let early = all .loads .early some-load in
-          let few : t .load ≤ 2049 = omega (arith, all .state .limits .few-events) in
-          let ruling =
-          broke-ruling (events bytes) N (t .load) work whole early (all .state .rows) (all .loads .broke some-load)
-          in (
-            rw (passes, some, is, up-is (t .load) few, ruling, kind-is (missingBy work (suc (t .load))) _) refl,
-            rw (passes, some, is, ruling) refl,
-          )
-
-      robust-verdict : t .load ≡ 0 → Judged t work cut
-      unfolding verdictAfter cutFrom
-      robust-verdict none-found =
-          let passes = eq-eqb (t .refusal) 0 none in
-          let nothing-found = eq-eqb (t .load) 0 none-found in
-          let end = good-robust (events bytes) N work cut whole right-size (all .loads .none-yet none-found) in (
-            rw (passes, nothing-found, is, end .ruling, all .state .numbers .stretch-is, end .share) refl,
-            rw (passes, nothing-found, is, end .ruling, end .cut) refl,
-          )
-
-    -- THE VERDICT AFTER A RUN, AND THE CUT BUFFER, ARE THE DEFINITIONS'
-    pub verdict-is : Judged t work cut
-    verdict-is = by-refusal (same? (t .refusal) 0)
-      where
-        by-load : t .refusal ≡ 0 → (t .load ≡ 0) ⊎ (t .load ≢ 0) → Judged t work cut
-        by-load none (inl none-found) = robust-verdict none none-found
-        by-load none (inr some-load) = broken-verdict none some-load
-
-        by-refusal : (t .refusal ≡ 0) ⊎ (t .refusal ≢ 0) → Judged t work cut
-        by-refusal (inl none) = by-load none (same? (t .load) 0)
-        by-refusal (inr some-number) = refused-verdict some-number
+        by-reading :
+            (r : Reading) → readingOf bytes ≡ r → answers.verdictAnswer v ≡ readingAnswer bytes r
+            → answers.orderAnswer (standingAfter v work p q) ≡ readingStanding bytes p q r
+        by-reading (turnedAway k e) is answer-is = refused-standing k e v answer-is
+        by-reading (accepted N) is answer-is = accepted-standing N is v answer-is

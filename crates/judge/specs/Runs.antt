@@ -1,24 +1,25 @@
 -- What a run over a trace's records has reached: the first n records pass, the machine's state is what they make it,
--- and so is what their loads show; or a record was turned away.
-use Prim.Native.Nat.{ℕ, _≤_, _<_}
+-- and so are the marks; or the run is over.
+use Prim.Native.Nat.{ℕ, suc, _<_}
 use mathlib.Core.Path.{_≡_}
 use mathlib.Core.Logic.{_≢_}
 use mathlib.Core.List.{List}
-use lib.Dec.{eqb}
-use lib.ListN.{replicate}
-use Rattle.record.specs.declared.scanning.Scan.{Scan}
-use Rattle.record.specs.Tests.{_gives_else_}
+use lib.ListN.{replicate, length}
+use Prim.Native.Nat.{_≤_}
 use Rattle.record.specs.Parts.{start}
-use Rattle.model.specs.Reading.{events, refusalAt, AcceptedWith, TurnedAwayWith}
+use Rattle.model.specs.declared.Verdict.{Verdict}
+use Rattle.model.specs.Answers.{verdictAnswer}
+use Rattle.model.specs.Reading.{events, refusalAt, readingOf, AcceptedWith, TurnedAwayWith}
+use Rattle.model.specs.Judge.{readingAnswer}
 use Rattle.machine.specs.declared.state.Machine.{Machine}
 use Rattle.machine.specs.Twin.{World, stateOf, world}
 use Rattle.machine.specs.Sim.{Sim}
+use Rattle.marks.specs.Marks.{Marks, marksOf}
+use Rattle.marks.specs.Good.{Held}
 use Rattle.judge.specs.declared.run.Begun.{Begun}
 use Rattle.judge.specs.declared.run.Turn.{Turn}
-use Rattle.judge.specs.declared.run.End.{End}
-use Rattle.judge.specs.declared.run.Decoded.{Decoded}
-use Rattle.judge.specs.declared.run.Decoded.the-variants.{Event, Refused}
-use Rattle.judge.specs.Judging.{Held}
+use Rattle.judge.specs.declared.run.Turned.{Turned}
+use Rattle.judge.specs.declared.run.Turned.the-variants.{On, Ended}
 
 -- a begin that is turned away
 abbrev pub beginEnded : ℕ → Begun
@@ -26,15 +27,19 @@ beginEnded refusal = record { threads = 0; locations = 0; at = 0; refusal = refu
 
 -- the turn after an accepted begin, which ends at `past`
 abbrev pub startedAt : ℕ → Turn
-startedAt past = record { stretch = 1; event = 1; at = past; refusal = 0 }
+startedAt past = record { stretch = 1; row = 0; at = past }
 
--- the turn that ends a run
-abbrev pub ended : ℕ → ℕ → Turn
-ended refusal event = record { stretch = 0; event = event; at = 0; refusal = refusal }
+-- the number of what ends a run, 0 if it goes on
+abbrev pub numberIn : Turned → ℕ
+numberIn (On t) = 0
+numberIn (Ended k) = k
 
--- a scanned record's event, or the number of its refusal
-abbrev pub decoded : Scan → Decoded
-decoded r = eqb (r .refusal) 0 gives Event r else Refused (r .refusal)
+-- the tables and the marks before the first event
+abbrev pub noTables : List ℕ
+noTables = replicate 3008 0
+
+abbrev pub noMarks : Marks
+noMarks = marksOf (replicate 648 0) (replicate 2048 0)
 
 module _ (bytes : List ℕ) where
   -- what the begin says
@@ -43,39 +48,43 @@ module _ (bytes : List ℕ) where
     abbrev pub machineIn : ℕ → Machine
     machineIn j = record { stretch = j; threads = threads; locations = locations }
 
-    -- the machine's whole state: the stretch, the number of the next event, the rows of the threads, and the work area
+    -- the machine's whole state: the stretch, where the next event's row begins, its tables and the work area
     abbrev pub worldOf : ℕ → ℕ → List ℕ → List ℕ → World
-    worldOf j e rows work = world (stateOf (machineIn j) e rows) work
+    worldOf j row tables work = world (stateOf (machineIn j) row) tables work
 
-    -- before record n, which starts at the turn's position; `load` broke the trace, or is 0
-    pub record Reached (n : ℕ) (t : Turn) (load : ℕ) (rows work : List ℕ) : Type 0 where
+    -- before record n, which starts at the turn's position
+    pub record Reached (n : ℕ) (t : Turn) (tables : List ℕ) (m : Marks) (work : List ℕ) : Type 0 where
       pub position : t .at ≡ start bytes n
       pub all-pass : (e : ℕ) → e < n → refusalAt bytes e ≡ 0
-      pub state : Sim (events bytes) n (worldOf (t .stretch) (t .event) rows work)
-      pub loads : Held (events bytes) n load work
+      pub state : Sim (events bytes) n (worldOf (t .stretch) (t .row) tables work)
+      pub loads : Held (events bytes) n m
 
-    -- after record n - 1
-    pub record Turned (n : ℕ) (t : Turn) (load : ℕ) (rows work : List ℕ) : Type 0 where
-      pub few : t .event ≤ 2049
-      pub passes : t .refusal ≡ 0 → Reached n t load rows work
-      pub turned-away : t .refusal ≢ 0 → TurnedAwayWith bytes (t .refusal) (t .event)
+    -- behind all N records
+    pub record AllRead (N : ℕ) (tables : List ℕ) (m : Marks) (work : List ℕ) : Type 0 where
+      pub accepted : AcceptedWith bytes N
+      pub stretch : ℕ
+      pub row : ℕ
+      pub state : Sim (events bytes) N (worldOf stretch row tables work)
+      pub loads : Held (events bytes) N m
 
-  -- after the begin, over cleared rows and a cleared work area
+    -- the run is over before record n: number 1 where no record is left, else that of what turns the record away
+    pub record Stopped (n k : ℕ) (tables : List ℕ) (m : Marks) (work : List ℕ) : Type 0 where
+      pub all-read : k ≡ 1 → AllRead n tables m work
+      pub turned-away : k ≢ 1 → TurnedAwayWith bytes k n
+
+    -- after record n, or where there is none
+    abbrev pub After : ℕ → Turned → List ℕ → Marks → List ℕ → Type 0
+    After n (On t) tables m work = Reached (suc n) t tables m work
+    After n (Ended k) tables m work = Stopped n k tables m work
+
+  -- after the begin, with any work area
   pub record Began (b : Begun) : Type 0 where
     pub passes :
-        b .refusal ≡ 0
-        → Reached (b .threads) (b .locations) 1 (startedAt (b .at)) 0 (replicate 128 0) (replicate 32768 0)
+        b .refusal ≡ 0 → (work : List ℕ) → 32768 ≤ length work
+        → Reached (b .threads) (b .locations) 1 (startedAt (b .at)) noTables noMarks work
     pub turned-away : b .refusal ≢ 0 → TurnedAwayWith bytes (b .refusal) 0
 
-  -- at the end, behind all N records
-  pub record AllRead (N : ℕ) (t : End) (work : List ℕ) : Type 0 where
-    pub accepted : AcceptedWith bytes N
-    pub threads : ℕ
-    pub locations : ℕ
-    pub rows : List ℕ
-    pub state : Sim (events bytes) N (worldOf threads locations (t .stretch) (t .event) rows work)
-    pub loads : Held (events bytes) N (t .load) work
-
-  pub record Ran (t : End) (work : List ℕ) : Type 0 where
-    pub all-read : t .refusal ≡ 0 → AllRead (t .event) t work
-    pub turned-away : t .refusal ≢ 0 → TurnedAwayWith bytes (t .refusal) (t .event)
+  -- at the end: the verdict is the definitions', and of an accepted trace the work area has the rows of its stores
+  pub record Ran (v : Verdict) (work : List ℕ) : Type 0 where
+    pub answer : verdictAnswer v ≡ readingAnswer bytes (readingOf bytes)
+    pub rows : (N : ℕ) → AcceptedWith bytes N → (w : World) × ((w .work ≡ work) × Sim (events bytes) N w)

@@ -1,17 +1,20 @@
--- The verdict after a run, and the cut buffer: the run's refusal, the evidence of the load that broke the trace, or the
--- least choice.
-use Prim.Native.Nat.{ℕ, _-_}
+-- The verdict at the end of a run, and the cut buffer: the run's refusal, the evidence of the load that broke the
+-- trace, or the least choice.
+use Prim.Native.Nat.{ℕ, _-_, min}
 use mathlib.Core.Bool.{cond, _&&_}
 use mathlib.Core.List.{List}
 use lib.Dec.{eqb}
 use Rattle.record.specs.Tests.{_gives_else_}
+use Rattle.model.specs.Answers.{percent}
 use Rattle.model.specs.declared.Kind.{Kind}
 use Rattle.model.specs.declared.Kind.the-variants.{Contradiction, Flush}
 use Rattle.model.specs.declared.Verdict.{Verdict}
 use Rattle.model.specs.declared.Verdict.the-variants.{Refused, Robust, Broken}
-use Rattle.marks.specs.Ending.{copied, shareBy}
+use Rattle.machine.specs.Tables.{committedIn}
+use Rattle.marks.specs.Marks.{Marks, brokenIn}
+use Rattle.marks.specs.Ending.{copied, keptIn}
 use Rattle.judge.specs.declared.loads.Evidence.{Evidence}
-use Rattle.judge.specs.declared.run.End.{End}
+use Rattle.judge.specs.declared.verdict.End.{End}
 use Rattle.judge.specs.Judging.{evidenceAt}
 
 abbrev pub kindBy : ℕ → ℕ → Kind
@@ -20,13 +23,17 @@ kindBy missing observed = cond (eqb missing observed) Contradiction Flush
 abbrev pub brokenBy : ℕ → Evidence → Verdict
 brokenBy events f = Broken events (f .load) (f .missing) (f .observed) (kindBy (f .missing) (f .observed))
 
-unfoldable pub verdictAfter : End → List ℕ → Verdict
-verdictAfter t work =
+abbrev pub shareBy : List ℕ → List ℕ → ℕ
+shareBy counts tables = min (percent (keptIn counts) (committedIn tables)) 65535
+
+unfoldable pub verdictAfter : End → List ℕ → Marks → List ℕ → Verdict
+verdictAfter t tables m work =
     let events = t .event - 1 in
-    eqb (t .refusal) 0 gives
-    (eqb (t .load) 0 gives Robust events (shareBy work (t .stretch)) else brokenBy events (evidenceAt work (t .load)))
+    let load = brokenIn (m .counts) in
+    eqb (t .number) 1 gives
+    (eqb load 0 gives Robust events (shareBy (m .counts) tables) else brokenBy events (evidenceAt work m load))
     else
-    Refused (t .refusal) (t .event)
+    Refused (t .number) (t .event)
 
 unfoldable pub cutFrom : End → List ℕ → List ℕ → List ℕ
-cutFrom t work cut = (eqb (t .refusal) 0 && eqb (t .load) 0) gives copied 56 work cut else cut
+cutFrom t counts cut = (eqb (t .number) 1 && eqb (brokenIn counts) 0) gives copied 56 counts cut else cut

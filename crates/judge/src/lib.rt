@@ -30,9 +30,7 @@ fn judge_over(trace: &[u8], area: &mut [u16], cut: &mut [u16]) -> Verdict
         ≡ readingCut (now (trace .entry)) (now (cut .entry)) (readingOf (now (trace .entry)))) ⌝ }
     ensures { λ _. ⌜ now (area .exit) ≡ replicate 32768 0 ⌝ }
 {
-    area::clear(area);
-    let t = run::run(trace, area);
-    let r = verdict::verdict(t, area, cut);
+    let r = run::run(trace, area, cut);
     area::clear(area);
     r
 }
@@ -68,16 +66,16 @@ pub fn judge(trace: &[u8], work: &mut [u16], cut: &mut [u16]) -> Verdict
 
 // ---- the order query
 
-// The query over a work area of 32,768 numbers.
+// The query over a work area of 32,768 numbers. The run is the one that judges; its cut buffer is this call's own.
 fn order_over(trace: &[u8], area: &mut [u16], first: u16, second: u16) -> Order
     requires { ⌜ length (now area) ≡ 32768 ⌝ }
     ensures { λ r. ⌜ (orderAnswer r
         ≡ readingStanding (now (trace .entry)) first second (readingOf (now (trace .entry)))) ⌝ }
     ensures { λ _. ⌜ now (area .exit) ≡ replicate 32768 0 ⌝ }
 {
-    area::clear(area);
-    let t = run::run(trace, area);
-    let r = standing::standing(t, area, first, second);
+    let mut cut: [u16; 56] = [0; 56];
+    let v = run::run(trace, area, &mut cut);
+    let r = standing::standing(v, area, first, second);
     area::clear(area);
     r
 }

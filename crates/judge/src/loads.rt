@@ -1,6 +1,12 @@
-// Counted loads, judged as they come. The first that breaks the trace is kept; none after it is judged.
+// Counted loads, judged as they come, and the evidence of the one that breaks the trace.
 ghost use mathlib.Core.Path.{_≡_};
-ghost use Rattle.judge.specs.Judging.{loadIn, evidenceAt, judgedWork, notedLoad};
+ghost use Prim.Native.Nat.{_≤_};
+ghost use lib.ListN.{length};
+ghost use Rattle.marks.specs.Marks.{marksOf};
+ghost use Rattle.judge.specs.Judging.{evidenceAt, judgedBy};
+use machine::Tables;
+use marks::Flags;
+use marks::Marks;
 use marks::evidence;
 use marks::judged;
 use record::Fields;
@@ -12,13 +18,14 @@ pub struct Evidence {
     pub observed: u16,
 }
 
-// The evidence over records 0 to `load`, whose marks the work area holds: later loads leave none.
-pub(crate) fn evidence_at(work: &[u16], load: u16) -> Evidence
-    ensures { λ r. ⌜ r ≡ evidenceAt (now (work .entry)) load ⌝ }
+// The evidence over records 0 to `load`, whose marks these are: later loads leave none.
+pub(crate) fn evidence_at(marks: &Marks, flags: &Flags, work: &[u16], load: u16) -> Evidence
+    ensures { λ r. ⌜ (r
+        ≡ evidenceAt (now (work .entry)) (marksOf (now (marks .entry)) (now (flags .entry))) load) ⌝ }
 {
     let n = area::numbers::next_number(load);
-    let missing = evidence::missing(work, n);
-    let observed = evidence::observed(work, n, missing);
+    let missing = evidence::missing(marks, flags, work, n);
+    let observed = evidence::observed(flags, work, n, missing);
     Evidence {
         load,
         missing,
@@ -26,20 +33,24 @@ pub(crate) fn evidence_at(work: &[u16], load: u16) -> Evidence
     }
 }
 
-// Event e, which passes, with the fields f: if it is a counted load and no load before it broke the trace, it is
-// judged, and kept if it breaks the trace. What is kept changes at most once, so it stays in memory, behind the rows of
-// the threads: handed on from turn to turn it would be moved at every record.
-pub(crate) fn judge_event(state: &mut [u16], counted: bool, work: &mut [u16], e: u16, f: Fields)
-    ensures { λ _. ⌜ now (state .exit) ≡ notedLoad (now (state .entry)) counted (now (work .entry)) e f ⌝ }
-    ensures { λ _. ⌜ now (work .exit) ≡ judgedWork (loadIn (now (state .entry))) counted (now (work .entry)) f ⌝ }
+// The event whose row begins at `row`, which passes, with the fields f: a counted load is judged.
+pub(crate) fn judge_event(
+    tables: &Tables,
+    marks: &mut Marks,
+    flags: &mut Flags,
+    counted: bool,
+    work: &[u16],
+    row: usize,
+    f: Fields,
+)
+    requires { ⌜ (row ≤ 32768) × (32768 ≤ length (now work)) ⌝ }
+    ensures { λ _. ⌜ (marksOf (now (marks .exit)) (now (flags .exit)) ≡ judgedBy counted
+        (now (tables .entry)) (now (work .entry)) (marksOf (now (marks .entry)) (now (flags .entry))) row f) ⌝ }
 {
     if !counted {
         return;
     }
-    if area::get(state, 128) != 0 {
-        return;
-    }
-    if judged::judge_load(work, f.location, f.source) {
-        area::put(state, 128, e);
-    }
+    let h = machine::last_committed(tables, f.location);
+    let e = area::event_at(row);
+    judged::judge_load(marks, flags, work, h, f.location, f.source, e);
 }

@@ -1,15 +1,22 @@
-// A trace's records, one after the other. A record that is turned away ends the run there.
+// A trace's records, one after the other, and the verdict. A record that is turned away ends the run there.
 ghost use mathlib.Core.Path.{_≡_};
-ghost use Prim.Native.Nat.{suc, _<_};
-ghost use lib.ListN.{length, replicate};
+ghost use lib.ListN.{length};
 ghost use Rattle.record.specs.Answers.{readAnswer};
-ghost use Rattle.model.specs.Reading.{refusalIn};
-ghost use Rattle.judge.specs.Judging.{rowsIn, loadIn};
-ghost use Rattle.judge.specs.Runs.{beginEnded, startedAt, ended, decoded, Began, Reached, Turned, Ran};
+ghost use Rattle.area.specs.Cells.{eventAt};
+ghost use Rattle.model.specs.Reading.{refusalIn, readingOf};
+ghost use Rattle.model.specs.Judge.{readingCut};
+ghost use Rattle.marks.specs.Marks.{marksOf};
+ghost use Rattle.judge.specs.Runs.{beginEnded, startedAt, numberIn, Began, Reached, After, Ran};
 use crate::loads;
+use crate::verdict;
+use crate::verdict::End;
 use machine::Machine;
+use machine::Tables;
+use marks::Flags;
+use marks::Marks;
+use model::Verdict;
 use record::Read;
-use record::Scan;
+use record::Scanned;
 
 // What the begin says, the position past it, and refusal 0. Or the refusal's number.
 pub struct Begun {
@@ -32,13 +39,11 @@ impl Begun {
     }
 }
 
-// After a record: the stretch, the number of the next event, the position past the record, and refusal 0. Or a refusal,
-// with its event number.
+// Between two records: the stretch, where the row of the next event begins, and the position of the next record.
 pub struct Turn {
     pub stretch: u16,
-    pub event: usize,
+    pub row: usize,
     pub at: usize,
-    pub refusal: u16,
 }
 
 impl Turn {
@@ -48,31 +53,26 @@ impl Turn {
     {
         Turn {
             stretch: 1,
-            event: 1,
+            row: 0,
             at,
-            refusal: 0,
-        }
-    }
-
-    // The turn that ends the run. Nothing of the state is needed any more.
-    fn refuse(refusal: u16, event: usize) -> Turn
-        ensures { λ r. ⌜ r ≡ ended refusal event ⌝ }
-    {
-        Turn {
-            stretch: 0,
-            event,
-            at: 0,
-            refusal,
         }
     }
 }
 
-// The end of a run: the turn's numbers, and the load that breaks the trace, 0 if none does.
-pub struct End {
-    pub stretch: u16,
-    pub event: u16,
-    pub load: u16,
-    pub refusal: u16,
+// After a record: what the next one meets; or the number of what ends the run, which is 1 where no record is left.
+pub enum Turned {
+    On(Turn),
+    Ended(u16),
+}
+
+// The number of what ends the run, 0 if it goes on.
+fn number_in(t: Turned) -> u16
+    ensures { λ r. ⌜ r ≡ numberIn t ⌝ }
+{
+    match t {
+        Turned::On(_) => 0,
+        Turned::Ended(k) => k,
+    }
 }
 
 // The number of the record layer's refusal, and 0 where it refuses nothing.
@@ -85,24 +85,8 @@ fn number_of(r: Read) -> u16
     }
 }
 
-// A scanned record's event, or the number of its refusal.
-pub enum Decoded {
-    Event(Scan),
-    Refused(u16),
-}
-
-fn event_or_refusal(r: Scan) -> Decoded
-    ensures { λ d. ⌜ d ≡ decoded r ⌝ }
-{
-    if r.refusal == 0 {
-        Decoded::Event(r)
-    } else {
-        Decoded::Refused(r.refusal)
-    }
-}
-
-// The first record. It is read through the table: a second caller of `scan_at` would keep the compiler from taking the
-// scan into the loop below.
+// The first record. A second caller of `scan_at` would keep the compiler from taking the scan into the loop below, so
+// the begin is read as an event.
 fn begin(trace: &[u8]) -> Begun
     ensures { λ r. ⌜ Began (now (trace .entry)) r ⌝ }
 {
@@ -124,27 +108,27 @@ fn begin(trace: &[u8]) -> Begun
 }
 
 // The judging step: a record that can't be read ends the judging there with its refusal, as does an event that a rule
-// forbids; any other takes its step, and is judged if it is a counted load. `state` holds the rows of the threads, and
-// behind them the load that breaks the trace.
+// forbids; any other takes its step, and is judged if it is a counted load. At the trace's end there are no bytes to
+// read, which is the reader's refusal 1; no later record has that number otherwise.
 fn judge_record(
     trace: &[u8],
     threads: u16,
     locations: u16,
     t: Turn,
-    state: &mut [u16],
+    tables: &mut Tables,
+    marks: &mut Marks,
+    flags: &mut Flags,
     work: &mut [u16],
-) -> Turn
-    requires { ⌜ (Reached (now trace) threads locations (t .event) t
-        (loadIn (now state)) (rowsIn (now state)) (now work)) ⌝ }
-    requires { ⌜ (t .at < length (now trace)) × (length (now state) ≡ 129) ⌝ }
-    ensures { λ r. ⌜ (Turned (now (trace .entry)) threads locations (suc (t .event)) r
-        (loadIn (now (state .exit))) (rowsIn (now (state .exit))) (now (work .exit))) ⌝ }
+) -> Turned
+    requires { ⌜ (Reached (now trace) threads locations (eventAt (t .row)) t
+        (now tables) (marksOf (now marks) (now flags)) (now work)) ⌝ }
+    ensures { λ r. ⌜ (After (now (trace .entry)) threads locations (eventAt (t .row)) r
+        (now (tables .exit)) (marksOf (now (marks .exit)) (now (flags .exit))) (now (work .exit))) ⌝ }
 {
-    let n = t.event;
-    let r = record::scan_at(trace, t.at);
-    let d = event_or_refusal(r);
-    let Decoded::Event(e) = d else {
-        return Turn::refuse(r.refusal, n);
+    let row = t.row;
+    let d = record::scan_at(trace, t.at);
+    let Scanned::Record(e) = d else {
+        return Turned::Ended(record::refusal_of(d));
     };
     let f = e.fields;
     let m = Machine {
@@ -152,52 +136,57 @@ fn judge_record(
         threads,
         locations,
     };
-    let rows: usize = 128;
-    let s = machine::step(m, n, &mut state[..rows], work, e.kind, f);
+    let s = machine::step(m, row, tables, work, e.kind, f);
     if s.refusal != 0 {
-        return Turn::refuse(s.refusal, n);
+        return Turned::Ended(s.refusal);
     }
-    loads::judge_event(state, s.counted, work, n as u16, f);
-    Turn {
+    loads::judge_event(tables, marks, flags, s.counted, work, row, f);
+    Turned::On(Turn {
         stretch: s.stretch,
-        event: n + 1,
+        row: row + 16,
         at: e.next,
-        refusal: 0,
-    }
+    })
 }
 
-// All records, over a cleared work area. It is lent on at a constant length, so that the compiler drops the tests of
-// that length from every read and store.
-pub(crate) fn run(trace: &[u8], work: &mut [u16]) -> End
-    requires { ⌜ now work ≡ replicate 32768 0 ⌝ }
+// All records, and the verdict. The machine's tables and the marks are arrays of this call, so that the compiler knows
+// them apart from the work area; and the work area is lent on at a constant length, so that it drops the tests of that
+// length from every read and store.
+pub(crate) fn run(trace: &[u8], work: &mut [u16], cut: &mut [u16]) -> Verdict
+    requires { ⌜ (length (now work) ≡ 32768) × (length (now cut) ≡ 56) ⌝ }
     ensures { λ r. ⌜ Ran (now (trace .entry)) r (now (work .exit)) ⌝ }
+    ensures { λ _. ⌜ (now (cut .exit)
+        ≡ readingCut (now (trace .entry)) (now (cut .entry)) (readingOf (now (trace .entry)))) ⌝ }
 {
     let size: usize = 32768;
-    let mut state: [u16; 129] = [0; 129];
     let b = begin(trace);
     if b.refusal != 0 {
-        return End {
-            stretch: 0,
+        return Verdict::Refused {
+            number: b.refusal,
             event: 0,
-            load: 0,
-            refusal: b.refusal,
         };
     }
+    let mut tables: Tables = [0; 3008];
+    let mut marks: Marks = [0; 648];
+    let mut flags: Flags = [0; 2048];
     let mut t = Turn::start(b.at);
-    while t.refusal == 0 && t.at < trace.len() {
-        t = judge_record(
+    loop {
+        let r = judge_record(
             trace,
             b.threads,
             b.locations,
             t,
-            &mut state,
+            &mut tables,
+            &mut marks,
+            &mut flags,
             &mut work[..size],
         );
-    }
-    End {
-        stretch: t.stretch,
-        event: t.event as u16,
-        load: area::get(&state, 128),
-        refusal: t.refusal,
+        let Turned::On(next) = r else {
+            let end = End {
+                number: number_in(r),
+                event: area::event_at(t.row),
+            };
+            return verdict::verdict(end, &tables, &marks, &flags, &work[..size], cut);
+        };
+        t = next;
     }
 }

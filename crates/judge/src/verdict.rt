@@ -1,13 +1,24 @@
-// The verdict after a run, and the cut buffer.
+// The verdict at the end of a run, and the cut buffer.
 ghost use mathlib.Core.Path.{_≡_};
 ghost use Prim.Native.Nat.{_-_};
-ghost use Rattle.judge.specs.Verdicts.{kindBy, brokenBy, verdictAfter, cutFrom};
+ghost use lib.ListN.{length};
+ghost use Rattle.marks.specs.Marks.{marksOf};
+ghost use Rattle.judge.specs.Verdicts.{kindBy, brokenBy, shareBy, verdictAfter, cutFrom};
 use crate::loads;
 use crate::loads::Evidence;
-use crate::run::End;
+use machine::Tables;
+use marks::Flags;
+use marks::Marks;
 use marks::end;
 use model::Kind;
 use model::Verdict;
+
+// The end of a run: what ended it, 1 where no record was left, or the number of what turned a record away; and the
+// number of the event that would have been next.
+pub struct End {
+    pub number: u16,
+    pub event: u16,
+}
 
 // One less, and at least 0.
 fn preceding(x: u16) -> u16
@@ -39,22 +50,39 @@ fn broken(events: u16, f: Evidence) -> Verdict
     }
 }
 
-// Only a robust trace changes the cut buffer.
-pub(crate) fn verdict(t: End, work: &[u16], cut: &mut [u16]) -> Verdict
-    ensures { λ r. ⌜ r ≡ verdictAfter t (now (work .entry)) ⌝ }
-    ensures { λ _. ⌜ now (cut .exit) ≡ cutFrom t (now (work .entry)) (now (cut .entry)) ⌝ }
+// The percentage of the stores committed in finished stretches that are in the least choice.
+fn share(marks: &Marks, tables: &Tables) -> u16
+    ensures { λ r. ⌜ r ≡ shareBy (now (marks .entry)) (now (tables .entry)) ⌝ }
 {
-    if t.refusal != 0 {
+    end::percentage(end::kept(marks), machine::all_committed(tables))
+}
+
+// Only a robust trace changes the cut buffer.
+pub(crate) fn verdict(
+    t: End,
+    tables: &Tables,
+    marks: &Marks,
+    flags: &Flags,
+    work: &[u16],
+    cut: &mut [u16],
+) -> Verdict
+    requires { ⌜ length (now cut) ≡ 56 ⌝ }
+    ensures { λ r. ⌜ (r ≡ verdictAfter t
+        (now (tables .entry)) (marksOf (now (marks .entry)) (now (flags .entry))) (now (work .entry))) ⌝ }
+    ensures { λ _. ⌜ now (cut .exit) ≡ cutFrom t (now (marks .entry)) (now (cut .entry)) ⌝ }
+{
+    if t.number != 1 {
         return Verdict::Refused {
-            number: t.refusal,
+            number: t.number,
             event: t.event,
         };
     }
     let events = preceding(t.event);
-    if t.load != 0 {
-        return broken(events, loads::evidence_at(work, t.load));
+    let load = marks::broken_at(marks);
+    if load != 0 {
+        return broken(events, loads::evidence_at(marks, flags, work, load));
     }
-    end::copy_cut(work, cut);
-    let share = end::share(work, t.stretch);
+    end::copy_cut(marks, cut);
+    let share = share(marks, tables);
     Verdict::Robust { events, share }
 }

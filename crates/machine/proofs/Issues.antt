@@ -1,14 +1,15 @@
 -- Issues keep `Sim`: the store n joins its thread's queue behind the thread's newest store of the stretch, and its
 -- row holds its clock, which is what its thread has seen, and of its own thread one more than its place.
--- In order: the newest store so far; the thread; the rows; the links; the newest stores; the step.
+-- In order: the newest store so far; the thread; the row; the links; the tables; the step.
 use mathlib.Core.Path.{_≡_, refl, sym, ap, _∙_}
-use mathlib.Core.Bool.{true, false}
+use mathlib.Core.Bool.{true, false, cond}
 use mathlib.Core.List.{List}
 use mathlib.Core.Logic.{_⊎_, inl, inr, _≢_}
-use Prim.Native.Nat.{ℕ, suc, _-_, _≤_, _<_}
+use Prim.Native.Nat.{ℕ, suc, _+_, _-_, _*_, _≤_, _<_}
 use native.Mathlib.Omega.{arith}
-use borrow.Author.Tests.{eqb-true, ne-eqb}
+use borrow.Author.Tests.{eqb-true, eq-eqb, ne-eqb}
 use lib.Dec.{eqb}
+use lib.ListN.{length, getD}
 use Rattle.record.specs.declared.events.Event.{Event}
 use Rattle.record.specs.Tests.{_gives_else_}
 use Rattle.model.specs.Trace.{kind, thread, location, is, issue?, commit?, crash?, Issue, Load, stretch, issues, place}
@@ -24,21 +25,20 @@ use Rattle.model.proofs.Committed.{commits-below-issues}
 use Rattle.model.proofs.StorePlaces.{count-most, Store, its-place, store-at-of, store-at-is, store-at-none}
 use Rattle.model.proofs.StorePlaces.{store-at-here, store-at-else}
 use Rattle.model.proofs.Unchanged.{live-away, live-here, skipping-away, newest-away, newest-here, seen-away}
-use Rattle.area.specs.Cells.{getRow, cell, up}
-use Rattle.area.specs.Tables.{newestRow, lastSlot, commitsSlot}
+use Rattle.area.specs.Cells.{rowStart, getRow, putRow, eventAt, up}
 use Rattle.area.specs.Rows.{StoreRow, Rows}
-use Rattle.area.proofs.ReadBack.{put-same}
+use Rattle.area.proofs.ReadBack.{rows-apart, length-put, put-same, put-row, put-column}
 use Rattle.machine.specs.declared.threads.Thread.{Thread}
-use Rattle.machine.specs.Threads.{firstOf, issuedT, putIssued}
-use Rattle.machine.specs.Twin.{World, world, threadAt, withRows}
-use Rattle.machine.specs.Effects.{issuedWork, issueW}
+use Rattle.machine.specs.Tables.{newestCell}
+use Rattle.machine.specs.Threads.{firstOf, issuedT, threadOf, ofThread}
+use Rattle.machine.specs.Twin.{World, world, ticked}
+use Rattle.machine.specs.Effects.{written, issuedTables, issuedWork, issueW}
 use Rattle.machine.specs.Sim.{issued, done, Queue, Links, Newest, Sim}
-use Rattle.machine.proofs.CellLaws.{up-is, put-row, issued-replaced}
-use Rattle.machine.proofs.Keep.{limits-next, in-time, rows-numbers, queues-with, row-same, chains-keep}
-use Rattle.machine.proofs.Keep.{commits-keep, seen-with}
-use Rattle.machine.proofs.IssuedRows.{issued-size, issued-column, issued-other, issued-newest-other}
-use Rattle.machine.proofs.IssuedRows.{issued-link, issued-newest, issued-stretch, issued-location}
-use Rattle.machine.proofs.IssuedRows.{issued-thread, issued-own, issued-clock}
+use Rattle.area.proofs.ReadBack.{up-is}
+use Rattle.machine.proofs.TableLaws.{issued-replaced, issued-beyond, issued-newest}
+use Rattle.machine.proofs.RowLaws.{Written, written-size, written-elsewhere, written-far, written-row}
+use Rattle.machine.proofs.Keep.{limits-next, in-time, numbers-next, queues-with, seen-keep, commits-keep}
+use Rattle.machine.proofs.Keep.{sources-keep, chains-keep, row-same}
 
 module _ (ev : ℕ → Event) (n : ℕ) (w : World) (sim : Sim ev n w) (passes : refusal ev n ≡ 0)
     (store : Issue ev n) (few : thread ev n < 8) (small : location ev n < 256) where
@@ -51,8 +51,11 @@ module _ (ev : ℕ → Event) (n : ℕ) (w : World) (sim : Sim ev n w) (passes :
   abbrev j : ℕ
   j = stretch ev n
 
-  abbrev rows : List ℕ
-  rows = w .state .rows
+  abbrev row : ℕ
+  row = w .state .row
+
+  abbrev tables : List ℕ
+  tables = w .tables
 
   abbrev l : List ℕ
   l = w .work
@@ -148,74 +151,83 @@ module _ (ev : ℕ → Event) (n : ℕ) (w : World) (sim : Sim ev n w) (passes :
             (sym (store-at-here ev n j t (suc (issued ev n t) - 1) store refl refl (omega arith)));
       }
 
-  -- ---- the rows
+  -- ---- the row
+
+  abbrev begins : row + 16 ≡ 16 * n
+  begins = sim .numbers .row-is
 
   abbrev count-now : ℕ
   count-now = suc (issued ev n t)
 
+  abbrev linked : List ℕ
+  linked = putRow l newest 11 n
+
   abbrev after : List ℕ
-  after = issuedWork rows l newest n t count-now x j
+  after = written tables t row count-now x j linked
+
+  room : 32768 ≤ length linked
+  room = rw (length-put l newest 11 n) (sim .rows .room)
+
+  whole : Written after n t count-now x j (λ u. ofThread tables t u)
+  whole = written-row row n begins n-small tables t count-now x j linked few room
 
   new-row : StoreRow ev after n
   new-row = record {
-    clock-is = λ u few-u. clock-entry u few-u (same? u t);
-    thread-is =
-        issued-thread rows l newest n t count-now x j (sim .rows .room) n-some n-small (sim .numbers .eight) few;
-    location-is =
-        issued-location rows l newest n t count-now x j (sim .rows .room) n-some n-small (sim .numbers .eight) few;
-    stretch-is =
-        issued-stretch rows l newest n t count-now x j (sim .rows .room) n-some n-small (sim .numbers .eight) few;
+    clock-is = λ u few-u. whole .clock-is u few-u ∙ clock-entry u few-u (same? t u);
+    thread-is = whole .thread-is;
+    location-is = whole .location-is;
+    stretch-is = whole .stretch-is;
   }
     where
       no-load : Load ev n → thread ev n ≡ t → ⊥
       no-load loads _ = omega (arith, kind-is, eqb-true (kind ev n) 4 (loads .test))
 
-      clock-entry : (u : ℕ) → u < 8 → (u ≡ t) ⊎ (u ≢ t) → getRow after n u ≡ vc ev n u
-      clock-entry u few-u (inl own) =
-          rw (own, vc-own ev n t store refl)
-          (issued-own rows l newest n t count-now x j (sim .rows .room) n-some n-small (sim .numbers .eight) few)
+      clock-entry :
+          (u : ℕ) → u < 8 → (t ≡ u) ⊎ (t ≢ u) → cond (eqb t u) count-now (ofThread tables t u) ≡ vc ev n u
+      clock-entry u few-u (inl own) = rw (eq-eqb t u own) (sym (vc-own ev n u store (sym own)))
       clock-entry u few-u (inr other) =
-          rw (vc-other ev n u store other)
-          (issued-clock rows l newest n t count-now x j (sim .rows .room) n-some n-small (sim .numbers .eight) few u
-          few-u (λ same. other (sym same))
-          ∙ sim .seen-are t u few few-u ∙ sym (seen-away ev n t u no-crash no-load))
+          rw (ne-eqb t u other, vc-other ev n u store (λ same. other (sym same)))
+          (sim .seen-are t u few few-u ∙ sym (seen-away ev n t u no-crash no-load))
 
-  slots-stay : (i : ℕ) → cell after i ≡ cell l i
-  slots-stay i = issued-column rows l newest n t count-now x j (suc i) 13 (omega arith) (λ is-15. omega arith) few
+  -- the rows of earlier events are as the link left them
+  earlier-row : (p k : ℕ) → 1 ≤ p → p < n → getRow after p k ≡ getRow linked p k
+  earlier-row p k from-one early =
+      written-elsewhere row n begins n-small tables t count-now x j linked few p k from-one (omega (arith, n-small))
+      (λ same. omega arith)
+
+  -- which is in column 11
+  beside-link : (p k : ℕ) → 1 ≤ p → p < n → k < 11 → getRow after p k ≡ getRow l p k
+  beside-link p k from-one early low =
+      earlier-row p k from-one early
+      ∙ put-column l newest 11 n p k (omega arith) (omega arith) (λ same. omega arith)
+
+  store-some : (p : ℕ) → Issue ev p → 1 ≤ p
+  store-some p is-store = let some : p ≢ 0 = store-not-0 ev n (sim .limits .accepted) is-store in omega arith
 
   rows-next : Rows ev (suc n) after
   rows-next = record {
-    room = rw (issued-size rows l newest n t count-now x j) (sim .rows .room);
+    room = rw (written-size row n begins n-small tables t count-now x j linked few) room;
     stores = λ p early is-store. own-or-other p early is-store (same? p n);
-    others = λ p none. no-row p none (same? p n);
-    chains = chains-keep ev n l after no-commit links-stay (λ y _. slots-stay (lastSlot y)) (sim .rows);
-    commits-are = commits-keep ev n l after no-crash (λ k u _ _ _. slots-stay (commitsSlot k u)) (sim .rows);
+    others = λ p from-one early none. no-row p from-one early none (same? p n);
   }
     where
-      links-stay : (p : ℕ) → getRow after p 14 ≡ getRow l p 14
-      links-stay p = issued-column rows l newest n t count-now x j p 14 (omega arith) (λ is-15. omega arith) few
-
       own-or-other : (p : ℕ) → p < suc n → Issue ev p → (p ≡ n) ⊎ (p ≢ n) → StoreRow ev after p
       own-or-other p early is-store (inl own) = rw own new-row
       own-or-other p early is-store (inr other) =
-          row-same ev n l after p
-          (λ k low. issued-other rows l newest n t count-now x j p k (λ same. other (sym same)) low few)
+          row-same ev n l after p (λ k low. beside-link p k (store-some p is-store) (omega arith) low)
           (sim .rows .stores p (omega arith) is-store)
 
-      no-row : (p : ℕ) → (p < suc n → Issue ev p → ⊥) → (p ≡ n) ⊎ (p ≢ n) → getRow after p 10 ≡ 0
-      no-row p none (inl own) = absurd (none (omega arith) (rw own store))
-      no-row p none (inr other) =
-          issued-other rows l newest n t count-now x j p 10 (λ same. other (sym same)) (omega arith) few
-          ∙ sim .rows .others p (λ early is-store. none (omega arith) is-store)
+      no-row : (p : ℕ) → 1 ≤ p → p < suc n → issue? ev p ≡ false → (p ≡ n) ⊎ (p ≢ n) → getRow after p 10 ≡ 0
+      no-row p from-one early none (inl own) = false-true (sym none ∙ rw own (store .test))
+      no-row p from-one early none (inr other) =
+          beside-link p 10 from-one (omega arith) (omega arith) ∙ sim .rows .others p from-one (omega arith) none
 
   -- ---- the links
 
   -- of the new store: there is none after it
   link-new : getRow after n 11 ≡ storeAt ev (suc n) j t (suc (issued ev n t))
   link-new =
-      issued-link rows l newest n t count-now x j n few
-      ∙ put-row l newest 11 n n 11 (λ same. omega (arith, newest-early))
-      ∙ sim .links .free n (omega arith)
+      whole .link-is
       ∙ sym
       (store-at-none ev (suc n) j t (suc (issued ev n t))
       (omega (arith, count-it ev (issue? ev) n j t (store .test) refl refl)))
@@ -225,16 +237,13 @@ module _ (ev : ℕ → Event) (n : ℕ) (w : World) (sim : Sim ev n w) (passes :
       (p : ℕ) → p < n → Issue ev p → p ≡ newest
       → getRow after p 11 ≡ storeAt ev (suc n) (stretch ev p) (thread ev p) (suc (place ev p))
   link-newest p early is-store is-newest =
-      issued-link rows l newest n t count-now x j p few
-      ∙ rw (← is-newest) (put-same l p 11 n (sim .rows .room) p-some (omega (arith, n-small)) (omega arith))
+      earlier-row p 11 (store-some p is-store) early
+      ∙ rw (← is-newest) (put-same l p 11 n (sim .rows .room))
       ∙ sym (store-at-here ev n (stretch ev p) (thread ev p) (suc (place ev p)) store
       (sym (found .at-place .in-j)) (sym (found .at-place .by-t)) next-place)
     where
       found : IsNewest p
       found = newest-found p is-store is-newest
-
-      p-some : 1 ≤ p
-      p-some = let some : p ≢ 0 = store-not-0 ev n (sim .limits .accepted) is-store in omega arith
 
       next-place : issues ev n (stretch ev p) (thread ev p) ≡ suc (place ev p)
       next-place =
@@ -246,10 +255,16 @@ module _ (ev : ℕ → Event) (n : ℕ) (w : World) (sim : Sim ev n w) (passes :
       (p : ℕ) → p < n → Issue ev p → p ≢ newest
       → getRow after p 11 ≡ storeAt ev (suc n) (stretch ev p) (thread ev p) (suc (place ev p))
   link-other p early is-store other =
-      issued-link rows l newest n t count-now x j p few ∙ put-row l newest 11 n p 11 (λ same. other (sym same))
-      ∙ sim .links .next-is p early is-store
+      earlier-row p 11 (store-some p is-store) early
+      ∙ put-row l newest 11 n p 11 (omega arith) (omega arith) apart
+      ∙ sim .links p early is-store
       ∙ sym (store-at-else ev n (stretch ev p) (thread ev p) (suc (place ev p)) (λ is-next. other (is-newest is-next)))
     where
+      apart : rowStart newest ≢ rowStart p
+      apart =
+          rows-apart newest p (omega (arith, newest-early, n-small)) (store-some p is-store) (omega (arith, n-small))
+          (λ same. other (sym same))
+
       is-newest : Store ev (suc n) (stretch ev p) (thread ev p) (suc (place ev p)) n → p ≡ newest
       is-newest next =
           let in-j : stretch ev p ≡ j = sym (next .in-j) in
@@ -261,71 +276,88 @@ module _ (ev : ℕ → Event) (n : ℕ) (w : World) (sim : Sim ev n w) (passes :
           (record { store = is-store; early = early; in-j = in-j; by-t = by-t; at-i = omega arith }))
 
   links-next : Links ev (suc n) after
-  links-next = record {
-    next-is = λ p early is-store. by-store p early is-store (same? p n) (same? p newest);
-    free = λ p past.
-        issued-link rows l newest n t count-now x j p few
-        ∙ put-row l newest 11 n p 11 (λ same. omega (arith, newest-early))
-        ∙ sim .links .free p (omega arith);
-  }
+  links-next p below is-store = by-store (same? p n) (same? p newest)
     where
       by-store :
-          (p : ℕ) → p < suc n → Issue ev p → (p ≡ n) ⊎ (p ≢ n) → (p ≡ newest) ⊎ (p ≢ newest)
+          (p ≡ n) ⊎ (p ≢ n) → (p ≡ newest) ⊎ (p ≢ newest)
           → getRow after p 11 ≡ storeAt ev (suc n) (stretch ev p) (thread ev p) (suc (place ev p))
-      by-store p early is-store (inl own) either = rw own link-new
-      by-store p early is-store (inr differs) (inl is-newest) = link-newest p (omega arith) is-store is-newest
-      by-store p early is-store (inr differs) (inr other) = link-other p (omega arith) is-store other
+      by-store (inl own) either = rw own link-new
+      by-store (inr differs) (inl is-newest) = link-newest p (omega arith) is-store is-newest
+      by-store (inr differs) (inr other) = link-other p (omega arith) is-store other
 
-  -- ---- the newest stores
+  -- ---- the tables
 
-  newest-next :
-      (y u : ℕ) → y < 256 → u < 8 → (x ≡ y) ⊎ (x ≢ y) → (t ≡ u) ⊎ (t ≢ u)
-      → getRow after (newestRow y u) 15 ≡ newestAt ev (suc n) y u
-  newest-next y u few-y few-u (inl same-x) (inl same-t) =
-      rw (← same-x, ← same-t)
-      (issued-newest rows l newest n t count-now x j (sim .rows .room) (omega (arith, few, small))
-      ∙ sym (newest-here ev n store))
-  newest-next y u few-y few-u (inl same-x) (inr other) =
-      issued-newest-other rows l newest n t count-now x j (newestRow y u) (λ same. other (omega (arith, few))) few
-      ∙ sim .newest-are y u few-y few-u ∙ sym (newest-away ev n y u (λ _ _ same. other same))
-  newest-next y u few-y few-u (inr other) either =
-      issued-newest-other rows l newest n t count-now x j (newestRow y u) (λ same. other (omega (arith, few))) few
-      ∙ sim .newest-are y u few-y few-u ∙ sym (newest-away ev n y u (λ _ same _. other same))
+  event-is : eventAt row ≡ n
+  event-is = let at = begins in omega arith
 
-  newest-all : Newest ev (suc n) after
-  newest-all y u few-y few-u = newest-next y u few-y few-u (same? x y) (same? t u)
+  abbrev tables′ : List ℕ
+  tables′ = issuedTables tables row t x
+
+  beyond : (i : ℕ) → 128 ≤ i → newestCell x t ≢ i → getD tables′ i 0 ≡ getD tables i 0
+  beyond = issued-beyond tables t few (sim .size) row x small
+
+  newest-next : Newest ev (suc n) tables′
+  newest-next y u few-y few-u = by-place (same? x y) (same? t u)
+    where
+      stays :
+          (location ev n ≡ y → thread ev n ≡ u → ⊥) → getD tables′ (newestCell y u) 0 ≡ newestAt ev (suc n) y u
+      stays other =
+          beyond (newestCell y u) (omega arith) (λ same. other (omega (arith, few)) (omega (arith, few)))
+          ∙ sim .newest-are y u few-y few-u ∙ sym (newest-away ev n y u (λ _ same-x same-t. other same-x same-t))
+
+      by-place :
+          (x ≡ y) ⊎ (x ≢ y) → (t ≡ u) ⊎ (t ≢ u) → getD tables′ (newestCell y u) 0 ≡ newestAt ev (suc n) y u
+      by-place (inl same-x) (inl same-t) =
+          rw (← same-x, ← same-t)
+          (issued-newest tables t few (sim .size) row x small ∙ event-is ∙ sym (newest-here ev n store))
+      by-place (inl same-x) (inr other) = stays (λ _ same. other same)
+      by-place (inr other) either = stays (λ same _. other same)
 
   -- ---- the step
 
+  -- for values equal to these
   with-values :
       (g e c i : ℕ) → g ≡ newest → e ≡ n → c ≡ count-now → i ≡ j
       → Sim ev (suc n)
-      (world (withRows (w .state) (putIssued rows t (issuedT (threadAt (w .state) t) e)))
-      (issuedWork rows l g e t c x i))
+      (world (ticked (w .state)) tables′ (written tables t row c x i (putRow l g 11 e)))
   with-values g e c i g-is e-is c-is i-is =
       let is-2 = kind-is in
       let no-load = ne-eqb (kind ev n) 4 (λ is-4. omega arith) in
-      let new = issuedT (threadAt (w .state) t) n in
-      let rows′ = putIssued rows t new in
-      let replaced = issued-replaced rows t (sim .numbers .eight) few n in
+      let new = issuedT (threadOf tables t) (eventAt row) in
+      let replaced = issued-replaced tables t few (sim .size) row x small in
       rw (g-is, e-is, c-is, i-is)
       (record {
-        numbers =
-            rows-numbers ev n (w .state) rows′ (sim .numbers) n-small no-crash (replaced .size ∙ sim .numbers .eight);
+        numbers = numbers-next ev n (w .state) (sim .numbers) no-crash;
         limits = limits-next ev n (sim .limits) passes;
+        size = replaced .size ∙ sim .size;
         queues =
-            queues-with ev n (w .state) rows′ new replaced no-crash
-            (queue-next (threadAt (w .state) t) (sim .queues t few)) (sim .queues);
-        seen-are = seen-with ev n (w .state) rows′ t new replaced no-crash no-load (sim .seen-are);
+            queues-with ev n tables tables′ no-crash new replaced
+            (rw event-is (queue-next (threadOf tables t) (sim .queues t few))) (sim .queues);
+        seen-are = seen-keep ev n tables tables′ no-crash no-load (replaced .seen-same) (sim .seen-are);
+        newest-are = newest-next;
+        commits-are =
+            commits-keep ev n tables tables′ no-crash
+            (λ i low high. beyond i (omega arith) (λ same. omega arith)) (sim .commits-are);
+        sources =
+            sources-keep ev n tables tables′ (λ i low high. beyond i (omega arith) (λ same. omega arith))
+            (sim .sources);
+        chains =
+            chains-keep ev n tables tables′ l after no-commit links-stay
+            (λ i low high. beyond i low (λ same. omega arith))
+            (λ i low high. beyond i (omega arith) (λ same. omega (arith, few))) (sim .chains);
         rows = rows-next;
         links = links-next;
-        newest-are = newest-all;
       })
+    where
+      -- those of the chains
+      links-stay : (p : ℕ) → getRow after p 14 ≡ getRow l p 14
+      links-stay p =
+          written-far row n begins n-small tables t count-now x j linked few p 14 (omega arith) (omega arith)
+          ∙ put-column l newest 11 n p 14 (omega arith) (omega arith) (λ same. omega arith)
 
   pub issue-next : Sim ev (suc n) (issueW w t x)
-  unfolding issueW
+  unfolding issueW issuedWork
   issue-next =
       let queue = sim .queues t few in
-      with-values (threadAt (w .state) t .newest) (w .state .event) (up (threadAt (w .state) t .issued))
-      (w .state .stretch) (queue .newest-is) (sim .numbers .event-is)
-      (counted-up (threadAt (w .state) t) queue) (sim .numbers .stretch-is)
+      with-values (threadOf tables t .newest) (eventAt row) (up (threadOf tables t .issued)) (w .state .stretch)
+      (queue .newest-is) event-is (counted-up (threadOf tables t) queue) (sim .numbers .stretch-is)

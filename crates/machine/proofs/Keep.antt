@@ -1,14 +1,15 @@
--- What an event leaves of the state, and how the parts of `Sim` pass from event n to the next where the event does not
--- concern them.
--- In order: limits and numbers; threads; rows and chains; links and newest stores; an untouched work area.
-use mathlib.Core.Path.{_≡_, refl, sym, ap, _∙_}
-use mathlib.Core.Bool.{Bool, true, false, not}
+-- How the parts of `Sim` pass from event n to the next where the event does not concern them: the definitions stay, and
+-- so do the numbers that hold them.
+-- In order: limits and numbers; threads; the tables of locations and of finished stretches; rows, links and chains.
+use mathlib.Core.Path.{_≡_, refl, sym, _∙_}
+use mathlib.Core.Bool.{Bool, true, false, cond, not}
 use mathlib.Core.List.{List, [], _∷_}
 use mathlib.Core.Logic.{_⊎_, inl, inr, _≢_}
-use Prim.Native.Nat.{ℕ, suc, _-_, _≤_, _<_}
+use Prim.Native.Nat.{ℕ, suc, _+_, _-_, _*_, _≤_, _<_}
 use native.Mathlib.Omega.{arith}
-use lib.Dec.{eqb}
-use lib.ListN.{length}
+use borrow.Author.Tests.{ltb-true}
+use lib.Dec.{eqb, ltb}
+use lib.ListN.{getD}
 use Rattle.record.specs.declared.events.Event.{Event}
 use Rattle.record.specs.Fields.{threadIn, locationIn}
 use Rattle.record.specs.Table.{rowOf}
@@ -16,40 +17,34 @@ use Rattle.model.specs.Trace.{kind, thread, location, is, issue?, commit?, load
 use Rattle.model.specs.Trace.{stretch, commits, place}
 use Rattle.model.specs.Machine.{skipping}
 use Rattle.model.specs.Rules.{refusal}
-use Rattle.model.specs.Stores.{storeAt, landed}
+use Rattle.model.specs.Choice.{finished}
+use Rattle.model.specs.Stores.{landed}
 use Rattle.model.proofs.Searching.{false-true, same?}
 use Rattle.model.proofs.Counting.{stretch-else}
-use Rattle.model.proofs.Acceptance.{event-bound}
+use Rattle.model.proofs.Acceptance.{event-bound, store-not-0}
 use Rattle.model.proofs.Limits.{accepted-next, few-threads, few-locations, few-crashes, thread-below}
 use Rattle.model.proofs.Limits.{location-below}
 use Rattle.model.proofs.Unchanged.{count-away, live-away, store-at-away, skipping-away, newest-away, seen-away}
-use Rattle.model.proofs.Unchanged.{landed-away, Lacks}
-use Rattle.area.specs.Cells.{getRow, cell}
-use Rattle.area.specs.Tables.{newestRow, lastSlot, commitsSlot}
+use Rattle.model.proofs.Unchanged.{landed-away}
+use Rattle.area.specs.Cells.{getRow}
 use Rattle.area.specs.Rows.{Linked, StoreRow, Rows}
 use Rattle.machine.specs.declared.threads.Thread.{Thread}
+use Rattle.machine.specs.Tables.{lastCell, sourceCell, commitsCell, newestCell, stretchCell}
 use Rattle.machine.specs.Threads.{skippedT, threadOf}
-use Rattle.machine.specs.Twin.{State, threadAt, withRows}
-use Rattle.machine.specs.Sim.{issued, done, Numbers, Limits, Queue, Seen, Links, Newest}
-use Rattle.machine.proofs.CellLaws.{up-is, Replaced, thread-other}
-
--- ---- chains
+use Rattle.machine.specs.Twin.{State, ticked}
+use Rattle.machine.specs.Sim.{issued, done, Numbers, Limits, Queue, Queues, Seen, Newest, Commits, PastAt}
+use Rattle.machine.specs.Sim.{Sources, Chains, Links}
+use Rattle.machine.proofs.Storing.{Same}
+use Rattle.machine.proofs.TableLaws.{Replaced, thread-same}
+use Rattle.machine.proofs.RowLaws.{NoStore}
 
 -- the links spell the same list where they are as they were
-pub linked-same :
+linked-same :
     (l l′ : List ℕ) → ((q : ℕ) → getRow l′ q 14 ≡ getRow l q 14)
     → (h : ℕ) (ps : List ℕ) → Linked l h ps → Linked l′ h ps
 linked-same l l′ same h [] linked = linked
 linked-same l l′ same h (p ∷ ps) linked =
     (linked .0, rw (same p) (linked-same l l′ same (getRow l p 14) ps (linked .1)))
-
--- and where they are but for a store that is not in the list
-pub linked-but :
-    (ev : ℕ → Event) (l l′ : List ℕ) (p : ℕ) → ((q : ℕ) → q ≢ p → getRow l′ q 14 ≡ getRow l q 14)
-    → (h : ℕ) (ps : List ℕ) → Lacks ev p ps → Linked l h ps → Linked l′ h ps
-linked-but ev l l′ p same h [] lacks linked = linked
-linked-but ev l l′ p same h (q ∷ qs) lacks linked =
-    (linked .0, rw (same q (lacks .0)) (linked-but ev l l′ p same (getRow l q 14) qs (lacks .1) (linked .1)))
 
 module _ (ev : ℕ → Event) (n : ℕ) where
   -- ---- limits and numbers
@@ -84,45 +79,23 @@ module _ (ev : ℕ → Event) (n : ℕ) where
       let next = limits-next limits passes in
       omega (arith, location-below ev (suc n) (next .accepted) n (omega arith) (rw kind-is has), next .few-locations)
 
-  pub rows-numbers :
-      (m : State) (rows : List ℕ) → Numbers ev n m → n ≤ 2048 → crash? ev n ≡ false → length rows ≡ 128
-      → Numbers ev (suc n) (withRows m rows)
-  unfolding withRows
-  rows-numbers m rows numbers small no-crash eight = record {
-    event-is = up-is (m .event) (omega (arith, numbers .event-is)) ∙ ap suc (numbers .event-is);
+  pub numbers-next : (st : State) → Numbers ev n st → crash? ev n ≡ false → Numbers ev (suc n) (ticked st)
+  unfolding ticked
+  numbers-next st numbers no-crash = record {
+    row-is = omega (arith, numbers .row-is);
     stretch-is = numbers .stretch-is ∙ sym (stretch-else ev n no-crash);
     threads-is = numbers .threads-is;
     locations-is = numbers .locations-is;
-    eight = eight;
   }
 
   -- ---- threads
 
   -- the event does nothing to thread t
-  pub record Leaves (t : ℕ) : Type 0 where
-    pub no-issue : issue? ev n ≡ true → thread ev n ≡ t → ⊥
-    pub no-commit : commit? ev n ≡ true → thread ev n ≡ t → ⊥
-    pub no-on : is ev 10 n ≡ true → thread ev n ≡ t → ⊥
-    pub no-off : is ev 11 n ≡ true → thread ev n ≡ t → ⊥
-
-  -- an event that is neither an issue, a commit nor a skip leaves all threads
-  pub all-left :
-      issue? ev n ≡ false → commit? ev n ≡ false → is ev 10 n ≡ false → is ev 11 n ≡ false → (t : ℕ) → Leaves t
-  all-left no-issue no-commit no-on no-off t = record {
-    no-issue = λ is _. false-true (sym no-issue ∙ is);
-    no-commit = λ is _. false-true (sym no-commit ∙ is);
-    no-on = λ is _. false-true (sym no-on ∙ is);
-    no-off = λ is _. false-true (sym no-off ∙ is);
-  }
-
-  -- an event leaves the threads that are not its own
-  others-left : (t : ℕ) → thread ev n ≢ t → Leaves t
-  others-left t other = record {
-    no-issue = λ _ same. other same;
-    no-commit = λ _ same. other same;
-    no-on = λ _ same. other same;
-    no-off = λ _ same. other same;
-  }
+  record Leaves (t : ℕ) : Type 0 where
+    no-issue : issue? ev n ≡ true → thread ev n ≡ t → ⊥
+    no-commit : commit? ev n ≡ true → thread ev n ≡ t → ⊥
+    no-on : is ev 10 n ≡ true → thread ev n ≡ t → ⊥
+    no-off : is ev 11 n ≡ true → thread ev n ≡ t → ⊥
 
   -- an event that is at most a skip on or off of thread t
   pub queue-skip :
@@ -153,48 +126,102 @@ module _ (ev : ℕ → Event) (n : ℕ) where
       queue-skip t s (s .skip) no-crash (leaves .no-issue) (leaves .no-commit)
       (skipping-away ev n t no-crash (leaves .no-on) (leaves .no-off) ∙ sym (queue .skip-is)) queue
 
-  abbrev pub Queues : State → Type 0
-  Queues m = (t : ℕ) → t < 8 → Queue ev n t (threadAt m t)
+  module _ (tables tables′ : List ℕ) (no-crash : crash? ev n ≡ false) where
+    -- no thread's state changed, by an event that is neither an issue, a commit nor a skip
+    pub queues-keep :
+        issue? ev n ≡ false → commit? ev n ≡ false → is ev 10 n ≡ false → is ev 11 n ≡ false
+        → ((t : ℕ) → t < 8 → Same (16 * t + 8) (16 * t + 13) tables tables′) → Queues ev n tables
+        → Queues ev (suc n) tables′
+    queues-keep no-issue no-commit no-on no-off same queues t few =
+        rw (thread-same tables tables′ t (same t few))
+        (queue-keep t (threadOf tables t) no-crash
+        (record {
+          no-issue = λ is-it _. false-true (sym no-issue ∙ is-it);
+          no-commit = λ is-it _. false-true (sym no-commit ∙ is-it);
+          no-on = λ is-it _. false-true (sym no-on ∙ is-it);
+          no-off = λ is-it _. false-true (sym no-off ∙ is-it);
+        })
+        (queues t few))
 
-  -- no thread's state changed
-  pub queues-keep :
-      (m : State) (rows : List ℕ) → crash? ev n ≡ false → ((t : ℕ) → Leaves t)
-      → ((t : ℕ) → threadOf rows t ≡ threadAt m t) → Queues m
-      → (t : ℕ) → t < 8 → Queue ev (suc n) t (threadAt (withRows m rows) t)
-  unfolding withRows
-  queues-keep m rows no-crash leaves same queues t few =
-      rw (same t) (queue-keep t (threadAt m t) no-crash (leaves t) (queues t few))
+    -- the event's own thread changed
+    pub queues-with :
+        (s : Thread) → Replaced tables tables′ (thread ev n) s → Queue ev (suc n) (thread ev n) s → Queues ev n tables
+        → Queues ev (suc n) tables′
+    queues-with s replaced new queues t few = own-or-other (same? (thread ev n) t)
+      where
+        own-or-other : (thread ev n ≡ t) ⊎ (thread ev n ≢ t) → Queue ev (suc n) t (threadOf tables′ t)
+        own-or-other (inl same) = rw (← same, replaced .own) new
+        own-or-other (inr other) =
+            rw (thread-same tables tables′ t (replaced .others t few other))
+            (queue-keep t (threadOf tables t) no-crash
+            (record {
+              no-issue = λ _ same. other same;
+              no-commit = λ _ same. other same;
+              no-on = λ _ same. other same;
+              no-off = λ _ same. other same;
+            })
+            (queues t few))
 
-  -- the event's own thread changed
-  pub queues-with :
-      (m : State) (rows : List ℕ) (s : Thread) → Replaced (m .rows) rows (thread ev n) s → crash? ev n ≡ false
-      → Queue ev (suc n) (thread ev n) s → Queues m
-      → (t : ℕ) → t < 8 → Queue ev (suc n) t (threadAt (withRows m rows) t)
-  unfolding withRows
-  queues-with m rows s replaced no-crash new queues t few = own-or-other (same? (thread ev n) t)
-    where
-      own-or-other : (thread ev n ≡ t) ⊎ (thread ev n ≢ t) → Queue ev (suc n) t (threadOf rows t)
-      own-or-other (inl own) = rw (← own, replaced .own) new
-      own-or-other (inr other) =
-          rw (thread-other (m .rows) rows (thread ev n) s replaced t other)
-          (queue-keep t (threadAt m t) no-crash (others-left t other) (queues t few))
+    -- an event that is no load and no crash leaves what the threads have seen
+    pub seen-keep :
+        load? ev n ≡ false → ((t : ℕ) → t < 8 → Same (16 * t) (16 * t + 8) tables tables′) → Seen ev n tables
+        → Seen ev (suc n) tables′
+    seen-keep no-load same seen-are t u few-t few-u =
+        same t few-t (16 * t + u) (omega arith) (omega arith) ∙ seen-are t u few-t few-u
+        ∙ sym (seen-away ev n t u no-crash (λ loads _. false-true (sym no-load ∙ loads .test)))
 
-  -- an event that is no load and no crash leaves what the threads have seen
-  pub seen-keep :
-      (rows rows′ : List ℕ) → crash? ev n ≡ false → load? ev n ≡ false
-      → ((e k : ℕ) → k < 8 → getRow rows′ e k ≡ getRow rows e k) → Seen ev n rows → Seen ev (suc n) rows′
-  seen-keep rows rows′ no-crash no-load same seen-are t u few-t few-u =
-      same (suc t) u few-u ∙ seen-are t u few-t few-u
-      ∙ sym (seen-away ev n t u no-crash (λ loads _. false-true (sym no-load ∙ loads .test)))
+    -- an event that is no crash finishes no stretch
+    pub commits-keep : Same 640 704 tables tables′ → Commits ev n tables → Commits ev (suc n) tables′
+    unfolding finished
+    commits-keep same commits-are j t from-one to-seven few =
+        same (commitsCell j t) (omega arith) (omega arith) ∙ commits-are j t from-one to-seven few
+        ∙ rw (stretch-else ev n no-crash) (by-test (ltb j (stretch ev n)) refl)
+      where
+        by-test :
+            (past : Bool) → ltb j (stretch ev n) ≡ past
+            → cond past (commits ev n j t) 0 ≡ cond past (commits ev (suc n) j t) 0
+        by-test true past =
+            sym (count-away ev (commit? ev) n j t (λ _ in-j _. omega (arith, ltb-true j (stretch ev n) past)))
+        by-test false _ = refl
 
-  pub seen-with :
-      (m : State) (rows : List ℕ) (t : ℕ) (s : Thread) → Replaced (m .rows) rows t s → crash? ev n ≡ false
-      → load? ev n ≡ false → Seen ev n (m .rows) → Seen ev (suc n) (withRows m rows .rows)
-  unfolding withRows
-  seen-with m rows t s replaced no-crash no-load =
-      seen-keep (m .rows) rows no-crash no-load (λ e k low. replaced .leaves e k (λ _. low))
+  -- ---- locations
 
-  -- ---- rows and chains, from the work area l to l′
+  -- whatever the event is
+  pub past-keep : (x s : ℕ) → PastAt ev n x s → PastAt ev (suc n) x s
+  past-keep x s past = record {
+    load = past .load;
+    early = omega (arith, past .early);
+    at-x = past .at-x;
+    is-past = past .is-past;
+  }
+
+  module _ (tables tables′ : List ℕ) where
+    pub newest-keep :
+        issue? ev n ≡ false → Same 704 2752 tables tables′ → Newest ev n tables → Newest ev (suc n) tables′
+    newest-keep no-issue same newest-are x t few-x few-t =
+        same (newestCell x t) (omega arith) (omega arith) ∙ newest-are x t few-x few-t
+        ∙ sym (newest-away ev n x t (λ store _ _. false-true (sym no-issue ∙ store .test)))
+
+    pub sources-keep : Same 384 640 tables tables′ → Sources ev n tables → Sources ev (suc n) tables′
+    sources-keep same sources x few =
+        rw (same (sourceCell x) (omega arith) (omega arith)) (λ some. past-keep x _ (sources x few some))
+
+    -- an event that is no commit
+    pub chains-keep :
+        (l l′ : List ℕ) → commit? ev n ≡ false → ((q : ℕ) → getRow l′ q 14 ≡ getRow l q 14)
+        → Same 128 384 tables tables′ → Same 2752 3008 tables tables′ → Chains ev n tables l
+        → Chains ev (suc n) tables′ l′
+    chains-keep l l′ no-commit links heads stretches chains x few =
+        let head = heads (lastCell x) (omega arith) (omega arith) in
+        record {
+          links =
+              rw (landed-away ev n x (λ commits _. false-true (sym no-commit ∙ commits .test)), head)
+              (linked-same l l′ links (getD tables (lastCell x) 0) (landed ev n x) (chains x few .links));
+          stretch-is =
+              rw (head, stretches (stretchCell x) (omega arith) (omega arith)) (chains x few .stretch-is);
+        }
+
+  -- ---- rows and links, from the work area l to l′
 
   module _ (l l′ : List ℕ) where
     pub row-same : (p : ℕ) → ((k : ℕ) → k < 11 → getRow l′ p k ≡ getRow l p k) → StoreRow ev l p → StoreRow ev l′ p
@@ -206,88 +233,41 @@ module _ (ev : ℕ → Event) (n : ℕ) where
     }
 
     -- an event that is no store
-    pub stores-keep :
-        issue? ev n ≡ false → ((p k : ℕ) → k < 11 → getRow l′ p k ≡ getRow l p k) → Rows ev n l
-        → (p : ℕ) → p < suc n → Issue ev p → StoreRow ev l′ p
-    stores-keep no-issue same rows p early store = row-same p (same p) (rows .stores p (earlier (same? p n)) store)
-      where
-        earlier : (p ≡ n) ⊎ (p ≢ n) → p < n
-        earlier (inl is) = false-true (sym no-issue ∙ (rw is at store) .test)
-        earlier (inr differs) = omega arith
+    module _ (limits : Limits ev n) (no-issue : issue? ev n ≡ false) (it : NoStore n l l′) where
+      -- a store is an earlier event, and not event 0
+      record Early (p : ℕ) : Type 0 where
+        from-one : 1 ≤ p
+        early : p < n
 
-    pub others-keep :
-        ((p k : ℕ) → k < 11 → getRow l′ p k ≡ getRow l p k) → Rows ev n l
-        → (p : ℕ) → (p < suc n → Issue ev p → ⊥) → getRow l′ p 10 ≡ 0
-    others-keep same rows p none =
-        same p 10 (omega arith) ∙ rows .others p (λ early store. none (omega arith) store)
+      store-early : (p : ℕ) → p < suc n → Issue ev p → Early p
+      store-early p below store = by-equality (same? p n)
+        where
+          by-equality : (p ≡ n) ⊎ (p ≢ n) → Early p
+          by-equality (inl is-n) = false-true (sym no-issue ∙ (rw is-n at store) .test)
+          by-equality (inr differs) =
+              let some : p ≢ 0 = store-not-0 ev n (limits .accepted) store in
+              record { from-one = omega arith; early = omega arith }
 
-    -- an event that is no commit
-    pub chains-keep :
-        commit? ev n ≡ false → ((q : ℕ) → getRow l′ q 14 ≡ getRow l q 14)
-        → ((x : ℕ) → x < 256 → cell l′ (lastSlot x) ≡ cell l (lastSlot x)) → Rows ev n l
-        → (x : ℕ) → x < 256 → Linked l′ (cell l′ (lastSlot x)) (landed ev (suc n) x)
-    chains-keep no-commit links heads rows x few =
-        rw (landed-away ev n x (λ commits _. false-true (sym no-commit ∙ commits .test)), heads x few)
-        (linked-same l l′ links (cell l (lastSlot x)) (landed ev n x) (rows .chains x few))
+      pub rows-keep : Rows ev n l → Rows ev (suc n) l′
+      rows-keep rows = record {
+        room = rw (it .size) (rows .room);
+        stores = λ p below store.
+            let old = store-early p below store in
+            row-same p (λ k low. it .earlier p k (old .from-one) (old .early) (omega arith))
+            (rows .stores p (old .early) store);
+        others = λ p from-one below none. by-equality p from-one below none (same? p n);
+      }
+        where
+          by-equality :
+              (p : ℕ) → 1 ≤ p → p < suc n → issue? ev p ≡ false → (p ≡ n) ⊎ (p ≢ n) → getRow l′ p 10 ≡ 0
+          by-equality p from-one below none (inl is-n) = rw is-n (it .none)
+          by-equality p from-one below none (inr differs) =
+              it .earlier p 10 from-one (omega arith) (omega arith) ∙ rows .others p from-one (omega arith) none
 
-    -- the commits of a stretch that was finished before the event
-    pub commits-kept :
-        (j t : ℕ) → 1 ≤ j → j ≤ 7 → j < stretch ev n → t < 8 → cell l′ (commitsSlot j t) ≡ cell l (commitsSlot j t)
-        → Rows ev n l → cell l′ (commitsSlot j t) ≡ commits ev (suc n) j t
-    commits-kept j t from-one to-seven finished few same rows =
-        same ∙ rows .commits-are j t from-one to-seven finished few
-        ∙ sym (count-away ev (commit? ev) n j t (λ _ in-j _. omega arith))
-
-    -- an event that is no crash finishes no stretch
-    pub commits-keep :
-        crash? ev n ≡ false
-        → ((j t : ℕ) → 1 ≤ j → j ≤ 7 → t < 8 → cell l′ (commitsSlot j t) ≡ cell l (commitsSlot j t)) → Rows ev n l
-        → (j t : ℕ) → 1 ≤ j → j ≤ 7 → j < stretch ev (suc n) → t < 8
-        → cell l′ (commitsSlot j t) ≡ commits ev (suc n) j t
-    commits-keep no-crash same rows j t from-one to-seven finished few =
-        commits-kept j t from-one to-seven (omega (arith, stretch-else ev n no-crash)) few
-        (same j t from-one to-seven few) rows
-
-    -- ---- links and newest stores
-
-    pub links-keep :
-        issue? ev n ≡ false → ((p : ℕ) → getRow l′ p 11 ≡ getRow l p 11) → Links ev n l → Links ev (suc n) l′
-    links-keep no-issue same links = record {
-      next-is = λ p early store. same p ∙ links .next-is p (earlier p early store (same? p n)) store ∙ sym (stays p);
-      free = λ p past. same p ∙ links .free p (omega arith);
-    }
-      where
-        earlier : (p : ℕ) → p < suc n → Issue ev p → (p ≡ n) ⊎ (p ≢ n) → p < n
-        earlier p early store (inl is) = false-true (sym no-issue ∙ (rw is at store) .test)
-        earlier p early store (inr differs) = omega arith
-
-        stays :
-            (p : ℕ)
-            → storeAt ev (suc n) (stretch ev p) (thread ev p) (suc (place ev p))
-            ≡ storeAt ev n (stretch ev p) (thread ev p) (suc (place ev p))
-        stays p =
-            store-at-away ev n (stretch ev p) (thread ev p) (suc (place ev p))
-            (λ store _. false-true (sym no-issue ∙ store .test))
-
-    pub newest-keep :
-        issue? ev n ≡ false → ((p : ℕ) → getRow l′ p 15 ≡ getRow l p 15) → Newest ev n l → Newest ev (suc n) l′
-    newest-keep no-issue same newest-are x t few-x few-t =
-        same (newestRow x t) ∙ newest-are x t few-x few-t
-        ∙ sym (newest-away ev n x t (λ store _ _. false-true (sym no-issue ∙ store .test)))
-
-  -- an event that is neither issue nor commit nor crash leaves the work area
-  module _ (l : List ℕ) (no-issue : issue? ev n ≡ false) where
-    pub rows-keep : commit? ev n ≡ false → crash? ev n ≡ false → Rows ev n l → Rows ev (suc n) l
-    rows-keep no-commit no-crash rows = record {
-      room = rows .room;
-      stores = stores-keep l l no-issue (λ p k _. refl) rows;
-      others = others-keep l l (λ p k _. refl) rows;
-      chains = chains-keep l l no-commit (λ q. refl) (λ x _. refl) rows;
-      commits-are = commits-keep l l no-crash (λ j t _ _ _. refl) rows;
-    }
-
-    pub links-same : Links ev n l → Links ev (suc n) l
-    links-same = links-keep l l no-issue (λ p. refl)
-
-    pub newest-same : Newest ev n l → Newest ev (suc n) l
-    newest-same = newest-keep l l no-issue (λ p. refl)
+      pub links-keep : Links ev n l → Links ev (suc n) l′
+      links-keep links p below store =
+          let old = store-early p below store in
+          it .earlier p 11 (old .from-one) (old .early) (omega arith) ∙ links p (old .early) store
+          ∙ sym
+          (store-at-away ev n (stretch ev p) (thread ev p) (suc (place ev p))
+          (λ is-store _. false-true (sym no-issue ∙ is-store .test)))

@@ -4,7 +4,7 @@ use mathlib.Core.Path.{_≡_, refl, sym, ap, _∙_}
 use mathlib.Core.Bool.{Bool, true, false, cond, _&&_, _||_, not}
 use Prim.Native.Nat.{ℕ, _<_}
 use native.Mathlib.Omega.{arith}
-use borrow.Author.Tests.{ne-eqb, lt-ltb, le-ltb, le-leb, leb-true, leb-false}
+use borrow.Author.Tests.{ne-eqb, lt-ltb, le-ltb, ltb-true, le-leb, leb-true, leb-false}
 use lib.Dec.{eqb, ltb, leb}
 use Rattle.record.specs.declared.events.Event.{Event}
 use Rattle.record.specs.declared.events.Event.the-variants.{Begin, Issue, Commit, Load, Clflush, Clwb}
@@ -15,10 +15,10 @@ use Rattle.record.specs.Tests.{_gives_else_}
 use Rattle.model.specs.Trace.{thread, location, source, threads, locations, stretch}
 use Rattle.model.specs.Machine.{sourceFits, skipping}
 use Rattle.model.specs.Rules.{answer, rules, refusal}
-use Rattle.area.specs.Rows.{Sources}
+use Rattle.model.proofs.Searching.{same-test}
 use Rattle.machine.specs.Arms.{byKind}
 use Rattle.machine.specs.Twin.{World, threadAt, fitsW}
-use Rattle.machine.specs.Turning.{emptyM, onThread, onPlace, refusalK, refusalW, beginRule, beginK, beginRefusal}
+use Rattle.machine.specs.Turning.{empty, onThread, onPlace, refusalK, refusalW, beginRule, beginK, beginRefusal}
 use Rattle.machine.specs.Sim.{issued, done, Sim}
 use Rattle.machine.proofs.Searches.{fits-is}
 
@@ -104,10 +104,10 @@ module _ (ev : ℕ → Event) (n : ℕ) (begun : 0 < n) where
 
 -- ---- the machine's tests are theirs
 
--- the same choice, where the second answers agree wherever they count
-under : (b : Bool) (a r r′ : ℕ) → (b ≡ false → r ≡ r′) → (b gives a else r) ≡ cond b a r′
-under true a r r′ agree = refl
-under false a r r′ agree = agree refl
+-- the same choice in both forms
+chosen : (b : Bool) (a r : ℕ) → (b gives a else r) ≡ cond b a r
+chosen true a r = refl
+chosen false a r = refl
 
 twice : (b : Bool) (a r : ℕ) → cond b a r ≡ cond (not (not b)) a r
 twice true a r = refl
@@ -117,49 +117,69 @@ swapped : (b : Bool) (a r : ℕ) → cond b a r ≡ cond (not b) r a
 swapped true a r = refl
 swapped false a r = refl
 
-module _ (ev : ℕ → Event) (n : ℕ) (w : World) (sim : Sim ev n w) (sources : Sources ev n (w .work)) where
+ltb-not : (a b : ℕ) → ltb a b ≡ not (leb b a)
+ltb-not a b = by-test (leb b a) refl
+  where
+    by-test : (le : Bool) → leb b a ≡ le → ltb a b ≡ not le
+    by-test true is = le-ltb a b (leb-true b a is)
+    by-test false is = lt-ltb a b (leb-false b a is)
+
+module _ (ev : ℕ → Event) (n : ℕ) (w : World) (sim : Sim ev n w) where
   abbrev begun : 0 < n
   begun = sim .limits .accepted .some-record
 
+  -- the row of an event past the last is behind the work area's rows
+  late-is : leb 32768 (w .state .row) ≡ ltb 2048 n
+  late-is =
+      same-test (leb 32768 (w .state .row)) (ltb 2048 n)
+      (λ late. lt-ltb 2048 n (omega (arith, leb-true 32768 (w .state .row) late, sim .numbers .row-is)))
+      (λ late. le-leb 32768 (w .state .row) (omega (arith, ltb-true 2048 n late, sim .numbers .row-is)))
+
   on-thread : (t r r′ : ℕ) → (t < 8 → r ≡ r′) → onThread (w .state) t r ≡ threadRule ev n begun t r′
   on-thread t r r′ agree =
-      rw (sim .numbers .event-is, sim .numbers .threads-is)
-      (under (ltb 2048 n) 13 _ _ (λ _. by-eight (leb 8 t) refl))
+      rw (late-is, sim .numbers .threads-is, ltb-not t (threads ev))
+      (by-tests (ltb 2048 n) (leb (threads ev) t) refl)
     where
-      one-of-eight : leb (threads ev) t ≡ false → t < 8
-      one-of-eight below = omega (arith, leb-false (threads ev) t below, sim .limits .few-threads)
-
-      by-eight :
-          (high : Bool) → leb 8 t ≡ high
-          → (high gives 7 else leb (threads ev) t gives 7 else r) ≡ cond (leb (threads ev) t) 7 r′
-      by-eight true is-high =
-          rw (le-leb (threads ev) t (omega (arith, leb-true 8 t is-high, sim .limits .few-threads))) refl
-      by-eight false _ = under (leb (threads ev) t) 7 r r′ (λ below. agree (one-of-eight below))
+      by-tests :
+          (late high : Bool) → leb (threads ev) t ≡ high
+          → ((late gives false else not high) gives r else (late gives 13 else high gives 7 else 8))
+          ≡ cond late 13 (cond high 7 r′)
+      by-tests true high is = refl
+      by-tests false true is = refl
+      by-tests false false is = agree (omega (arith, leb-false (threads ev) t is, sim .limits .few-threads))
 
   on-place :
       (t x r r′ : ℕ) → (t < 8 → x < 256 → r ≡ r′) → onPlace (w .state) t x r ≡ placeRule ev n begun t x r′
   on-place t x r r′ agree =
-      on-thread t _ _
-      (λ few. rw (sim .numbers .locations-is) (by-256 few (leb 256 x) refl))
+      rw (
+        late-is,
+        sim .numbers .threads-is,
+        sim .numbers .locations-is,
+        ltb-not t (threads ev),
+        ltb-not x (locations ev),
+      )
+      (by-tests (ltb 2048 n) (leb (threads ev) t) (leb (locations ev) x) refl refl)
     where
-      in-range : leb (locations ev) x ≡ false → x < 256
-      in-range below = omega (arith, leb-false (locations ev) x below, sim .limits .few-locations)
-
-      by-256 :
-          t < 8 → (far : Bool) → leb 256 x ≡ far
-          → (far gives 8 else leb (locations ev) x gives 8 else r) ≡ cond (leb (locations ev) x) 8 r′
-      by-256 few true is-far =
-          rw (le-leb (locations ev) x (omega (arith, leb-true 256 x is-far, sim .limits .few-locations))) refl
-      by-256 few false _ = under (leb (locations ev) x) 8 r r′ (λ below. agree few (in-range below))
+      by-tests :
+          (late high far : Bool) → leb (threads ev) t ≡ high → leb (locations ev) x ≡ far
+          → (((late gives false else not high) gives not far else false) gives r else
+          (late gives 13 else high gives 7 else 8))
+          ≡ cond late 13 (cond high 7 (cond far 8 r′))
+      by-tests true high far t-is x-is = refl
+      by-tests false true far t-is x-is = refl
+      by-tests false false true t-is x-is = refl
+      by-tests false false false t-is x-is =
+          agree (omega (arith, leb-false (threads ev) t t-is, sim .limits .few-threads))
+          (omega (arith, leb-false (locations ev) x x-is, sim .limits .few-locations))
 
   empty-is :
-      (t a r : ℕ) → t < 8 → (emptyM (w .state) t gives a else r) ≡ cond (eqb (issued ev n t) (done ev n t)) a r
+      (t a r : ℕ) → t < 8 → (empty (threadAt w t) gives a else r) ≡ cond (eqb (issued ev n t) (done ev n t)) a r
   empty-is t a r few =
       let queue = sim .queues t few in
-      rw (queue .issued-is, queue .committed-is) (under (eqb (issued ev n t) (done ev n t)) a r r (λ _. refl))
+      rw (queue .issued-is, queue .committed-is) (chosen (eqb (issued ev n t) (done ev n t)) a r)
 
-  skip-is : (t a r : ℕ) → t < 8 → (threadAt (w .state) t .skip gives a else r) ≡ cond (skipping ev n t) a r
-  skip-is t a r few = rw (sim .queues t few .skip-is) (under (skipping ev n t) a r r (λ _. refl))
+  skip-is : (t a r : ℕ) → t < 8 → (threadAt w t .skip gives a else r) ≡ cond (skipping ev n t) a r
+  skip-is t a r few = rw (sim .queues t few .skip-is) (chosen (skipping ev n t) a r)
 
   load-rule :
       (t x s : ℕ) → ev n ≡ Load t x s → t < 8 → x < 256
@@ -168,8 +188,8 @@ module _ (ev : ℕ → Event) (n : ℕ) (w : World) (sim : Sim ev n w) (sources 
       let t-is : t ≡ thread ev n = sym (ap (λ (e : Event). fieldsOf e .thread) is) in
       let x-is : x ≡ location ev n = sym (ap (λ (e : Event). fieldsOf e .location) is) in
       let s-is : s ≡ source ev n = sym (ap (λ (e : Event). fieldsOf e .source) is) in
-      rw (t-is, x-is, s-is, fits-is ev n w sim sources (rw (← t-is) few-t) (rw (← x-is) few-x))
-      (under (sourceFits ev n) 0 9 9 (λ _. refl) ∙ swapped (sourceFits ev n) 0 9)
+      rw (t-is, x-is, s-is, fits-is ev n w sim (rw (← t-is) few-t) (rw (← x-is) few-x))
+      (chosen (sourceFits ev n) 0 9 ∙ swapped (sourceFits ev n) 0 9)
 
   crash-rule :
       (late eighth : Bool) → _≡_ {A = ℕ} (late gives 13 else eighth gives 13 else 0) (cond (late || eighth) 13 0)
@@ -192,7 +212,7 @@ module _ (ev : ℕ → Event) (n : ℕ) (w : World) (sim : Sim ev n w) (sources 
       on-thread t _ _ (λ few. empty-is t 0 11 few ∙ swapped (eqb (issued ev n t) (done ev n t)) 0 11)
       ∙ sym (refusal-mfence ev n begun t is)
   refusal-is Crash is =
-      rw (refusal-crash ev n begun is, sim .numbers .event-is, sim .numbers .stretch-is)
+      rw (refusal-crash ev n begun is, late-is, sim .numbers .stretch-is)
       (crash-rule (ltb 2048 n) (eqb (stretch ev n) 8))
   refusal-is (SkipOn t) is =
       on-thread t _ _
@@ -226,13 +246,6 @@ begin-tests true true false d e = refl
 begin-tests true true true false e = refl
 begin-tests true true true true false = refl
 begin-tests true true true true true = refl
-
-ltb-not : (a b : ℕ) → ltb a b ≡ not (leb b a)
-ltb-not a b = by-test (leb b a) refl
-  where
-    by-test : (le : Bool) → leb b a ≡ le → ltb a b ≡ not le
-    by-test true is = le-ltb a b (leb-true b a is)
-    by-test false is = lt-ltb a b (leb-false b a is)
 
 module _ (ev : ℕ → Event) where
   first-is : (e : Event) → ev 0 ≡ e → beginRefusal e ≡ refusal ev 0

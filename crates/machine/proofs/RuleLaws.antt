@@ -1,113 +1,120 @@
--- One rule after the other: a number that is not 0 turns the event away whatever the later rules say, and behind a rule
--- that passes the next one decides. And what a choice by two tests gives.
-use mathlib.Core.Path.{_≡_, refl, sym}
-use mathlib.Core.Bool.{Bool, true, false, _&&_}
+-- What a step answers, by the rules in their order: a number that is not 0 turns the event away and all is as it was,
+-- else the event passes. And the load rule's three cases.
+use mathlib.Core.Path.{_≡_, refl, sym, _∙_}
+use mathlib.Core.Bool.{Bool, true, false, not}
 use mathlib.Core.Logic.{_≢_}
 use mathlib.Core.List.{List}
-use Prim.Native.Nat.{ℕ, _≤_}
+use Prim.Native.Nat.{ℕ, _+_, _≤_, _<_}
 use native.Mathlib.Omega.{arith}
-use borrow.Author.Tests.{ne-eqb, ltb-false}
-use lib.Dec.{eqb, ltb, leb}
+use borrow.Author.Tests.{ne-eqb, not-true, not-false}
+use lib.Dec.{leb}
+use lib.ListN.{set}
+use lib.Seq.{getD-set-other}
 use Rattle.record.specs.Tests.{_gives_else_}
-use Rattle.area.specs.Cells.{up}
-use Rattle.machine.specs.Twin.{State, World, world}
-use Rattle.machine.specs.Turning.{threadRule, placeRule}
-use Rattle.machine.specs.Outcomes.{turned, byRule}
+use Rattle.machine.specs.declared.state.Machine.{Machine}
+use Rattle.machine.specs.declared.state.Step.{Step}
+use Rattle.machine.specs.Tables.{threadCell, sourceCell}
+use Rattle.machine.specs.Threads.{threadOf}
+use Rattle.machine.specs.Twin.{World, stateOf, world, ticked, admits, admitted}
+use Rattle.machine.specs.Twin.{waitingW, lastW, hereW, fitsW}
+use Rattle.machine.specs.Turning.{Fits, placeFits, placeRefusal}
+use Rattle.machine.specs.Effects.{loadW}
+use Rattle.machine.specs.Outcomes.{outcome, byRule, onlyO, acrossO, loadO}
 
--- ---- the rules that kinds share, with the number r of a later rule
+-- ---- the work area
 
-rule-stops :
-    (late high none : Bool) (k r : ℕ) → k ≡ (late gives 13 else high gives 7 else none gives 7 else 0) → k ≢ 0
-    → (late gives 13 else high gives 7 else none gives 7 else r) ≡ k
-rule-stops true high none k r is some = sym is
-rule-stops false true none k r is some = sym is
-rule-stops false false true k r is some = sym is
-rule-stops false false false k r is some = absurd (some is)
+pub row-inside : (m : Machine) (row size : ℕ) → Fits m row size → row < 32768 → row + 16 ≤ size
+row-inside m row size fits early = omega (arith, fits .inside early)
 
-rule-passes :
-    (late high none : Bool) (k r : ℕ) → k ≡ (late gives 13 else high gives 7 else none gives 7 else 0) → k ≡ 0
-    → (late gives 13 else high gives 7 else none gives 7 else r) ≡ r
-rule-passes true high none k r is none-yet = absurd (omega arith)
-rule-passes false true none k r is none-yet = absurd (omega arith)
-rule-passes false false true k r is none-yet = absurd (omega arith)
-rule-passes false false false k r is none-yet = refl
+-- ---- the rules that kinds share
 
-place-stops :
-    (late high none far nowhere : Bool) (k r : ℕ)
-    → k ≡ (late gives 13 else high gives 7 else none gives 7 else far gives 8 else nowhere gives 8 else 0) → k ≢ 0
-    → (late gives 13 else high gives 7 else none gives 7 else far gives 8 else nowhere gives 8 else r) ≡ k
-place-stops late high none true nowhere k r is some = sym is
-place-stops late high none false true k r is some = sym is
-place-stops late high none false false k r is some = rule-stops late high none k r is some
+-- where one of the tests fails, the number is that of a rule
+refusal-is-some : (threads row t : ℕ) → placeRefusal threads row t ≢ 0
+refusal-is-some threads row t = by-tests (leb 32768 row) (leb threads t)
+  where
+    by-tests : (late none : Bool) → _≢_ {A = ℕ} (late gives 13 else none gives 7 else 8) 0
+    by-tests true none is = omega arith
+    by-tests false true is = omega arith
+    by-tests false false is = omega arith
 
-place-passes :
-    (late high none far nowhere : Bool) (k r : ℕ)
-    → k ≡ (late gives 13 else high gives 7 else none gives 7 else far gives 8 else nowhere gives 8 else 0) → k ≡ 0
-    → (late gives 13 else high gives 7 else none gives 7 else far gives 8 else nowhere gives 8 else r) ≡ r
-place-passes true high none far nowhere k r is none-yet = absurd (omega arith)
-place-passes false true none far nowhere k r is none-yet = absurd (omega arith)
-place-passes false false true far nowhere k r is none-yet = absurd (omega arith)
-place-passes false false false true nowhere k r is none-yet = absurd (omega arith)
-place-passes false false false false true k r is none-yet = absurd (omega arith)
-place-passes false false false false false k r is none-yet = refl
+-- where they pass, the later rule decides
+pub behind :
+    (fits asked : Bool) (later other : ℕ) → asked ≡ fits → not asked ≡ false → (fits gives later else other) ≡ later
+behind fits asked later other is on = rw (sym is ∙ not-false asked on) refl
 
-module _ (threads e t : ℕ) where
-  pub thread-stops : (k r : ℕ) → k ≡ threadRule threads e t 0 → k ≢ 0 → threadRule threads e t r ≡ k
-  thread-stops = rule-stops (ltb 2048 e) (leb 8 t) (leb threads t)
+-- ---- answers
 
-  pub thread-passes : (k r : ℕ) → k ≡ threadRule threads e t 0 → k ≡ 0 → threadRule threads e t r ≡ r
-  thread-passes = rule-passes (ltb 2048 e) (leb 8 t) (leb threads t)
+abbrev refused : Machine → ℕ → Step
+refused m k = record { stretch = m .stretch; refusal = k; counted = false }
 
-  module _ (locations x : ℕ) where
-    pub at-stops : (k r : ℕ) → k ≡ placeRule threads locations e t x 0 → k ≢ 0 → placeRule threads locations e t x r ≡ k
-    at-stops = place-stops (ltb 2048 e) (leb 8 t) (leb threads t) (leb 256 x) (leb locations x)
+abbrev passed : Machine → Bool → Step
+passed m counted = record { stretch = m .stretch; refusal = 0; counted = counted }
 
-    pub at-passes :
-        (k r : ℕ) → k ≡ placeRule threads locations e t x 0 → k ≡ 0 → placeRule threads locations e t x r ≡ r
-    at-passes = place-passes (ltb 2048 e) (leb 8 t) (leb threads t) (leb 256 x) (leb locations x)
+module _ (m : Machine) (row : ℕ) (tables l : List ℕ) (r : Step) (counted : Bool) (after : World) where
+  -- the rule gives the number k, which is not 0
+  pub stopped :
+      (rule k : ℕ) → rule ≡ k → k ≢ 0 → r ≡ refused m k
+      → outcome m row r tables l ≡ byRule rule (world (stateOf m row) tables l) counted after
+  unfolding byRule
+  stopped rule k is some answer = rw (answer, is, ne-eqb k 0 some) refl
 
-    -- an event at a place that passes has a number that a store can have
-    pub at-in-time : (k : ℕ) → k ≡ placeRule threads locations e t x 0 → k ≡ 0 → e ≤ 2048
-    at-in-time k = by-test (ltb 2048 e) refl
-      where
-        later : ℕ
-        later = leb 8 t gives 7 else leb threads t gives 7 else leb 256 x gives 8 else leb locations x gives 8 else 0
+  -- a test of the place fails
+  pub turned-away :
+      (fits asked : Bool) (t k later : ℕ) → asked ≡ fits → not asked ≡ true → k ≡ placeRefusal (m .threads) row t
+      → r ≡ refused m k
+      → outcome m row r tables l
+      ≡ byRule (fits gives later else placeRefusal (m .threads) row t) (world (stateOf m row) tables l) counted after
+  turned-away fits asked t k later is off number answer =
+      stopped (fits gives later else placeRefusal (m .threads) row t) k
+      (rw (sym is ∙ not-true asked off) (sym number))
+      (λ none. refusal-is-some (m .threads) row t (sym number ∙ none))
+      answer
 
-        by-test : (late : Bool) → ltb 2048 e ≡ late → k ≡ (late gives 13 else later) → k ≡ 0 → e ≤ 2048
-        by-test true is k-is none = absurd (omega arith)
-        by-test false is k-is none = ltb-false 2048 e is
+  -- the rule gives 0
+  pub passes :
+      (rule : ℕ) (w : World) → rule ≡ 0 → after ≡ world (ticked (stateOf m row)) tables l → r ≡ passed m counted
+      → outcome m row r tables l ≡ byRule rule w counted after
+  unfolding byRule ticked
+  passes rule w is effect answer = rw (is, effect, answer) refl
 
--- ---- outcomes
+-- ---- the load rule, behind the tests of the place
 
--- a state, field by field
-abbrev pub stateFrom : ℕ → ℕ → ℕ → ℕ → List ℕ → State
-stateFrom e j threads locations rows =
-    record { event = e; stretch = j; threads = threads; locations = locations; rows = rows }
+module _
+    (w : World) (t x s : ℕ)
+    (asked : Bool) (is : asked ≡ placeFits (w .state .threads) (w .state .locations) (w .state .row) t x)
+    (on : not asked ≡ false)
+    (p : ℕ) (p-is : p ≡ waitingW w t x) where
+  placed : placeFits (w .state .threads) (w .state .locations) (w .state .row) t x ≡ true
+  placed = sym is ∙ not-false asked on
 
--- the rule gives the number k, which is not 0: the number of the event stays
-pub stopped :
-    (rule k e j threads locations : ℕ) (rows l : List ℕ) (after : World) (counted : Bool) → rule ≡ k → k ≢ 0
-    → turned k (world (stateFrom (eqb k 0 gives up e else e) j threads locations rows) l)
-    ≡ byRule rule (world (stateFrom e j threads locations rows) l) counted after
-unfolding byRule
-stopped rule k e j threads locations rows l after counted is some = rw (is, ne-eqb k 0 some) refl
+  -- a store waits
+  pub load-waits : p ≢ 0 → onlyO w t s p ≡ loadO w t x s
+  unfolding fitsW loadW
+  load-waits some = rw (placed, ← p-is, ne-eqb p 0 some) refl
 
--- the rule gives 0
-pub passes :
-    (rule : ℕ) (w after : World) (counted : Bool) → rule ≡ 0
-    → record { refusal = 0; counted = counted; after = after } ≡ byRule rule w counted after
-unfolding byRule
-passes rule w after counted is = rw is refl
+  -- none does, and a store of the stretch is committed
+  pub load-here : p ≡ 0 → hereW w x ≡ true → onlyO w t s (lastW w x) ≡ loadO w t x s
+  unfolding fitsW loadW
+  load-here none here = rw (placed, ← p-is, none, here) refl
 
--- ---- choices
+  -- neither
+  pub load-crosses : p ≡ 0 → hereW w x ≡ false → acrossO w t x s ≡ loadO w t x s
+  unfolding fitsW loadW
+  load-crosses none not-here = rw (placed, ← p-is, none, not-here) refl
 
-module _ {A : Type 0} (x y : A) where
-  pub first-off : (a b : Bool) → a ≡ false → y ≡ ((a && b) gives x else y)
-  first-off a b off = rw off refl
+-- a crossing load's source is noted if it may be
+module _ (j row : ℕ) (tables l : List ℕ) (x s : ℕ) where
+  pub source-noted : admits j row tables l x s ≡ true → admitted j row tables l x s ≡ set tables (sourceCell x) s
+  unfolding admitted
+  source-noted on = rw on refl
 
-  pub second-off : (a b : Bool) → b ≡ false → y ≡ ((a && b) gives x else y)
-  second-off true b off = rw off refl
-  second-off false b off = refl
+  pub source-not-noted : admits j row tables l x s ≡ false → admitted j row tables l x s ≡ tables
+  unfolding admitted
+  source-not-noted off = rw off refl
 
-  pub both-on : (a b : Bool) → a ≡ true → b ≡ true → x ≡ ((a && b) gives x else y)
-  both-on a b on-first on-second = rw (on-first, on-second) refl
+-- which changes no thread
+pub skip-stays :
+    (tables : List ℕ) (t x s : ℕ) → t < 8 → threadOf (set tables (sourceCell x) s) t .skip ≡ threadOf tables t .skip
+unfolding threadOf
+skip-stays tables t x s few =
+    rw (getD-set-other tables (sourceCell x) (threadCell t 12) s 0 (λ same. omega arith)) refl

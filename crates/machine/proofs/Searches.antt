@@ -1,42 +1,40 @@
 -- The load rule's searches: under `Sim` the machine finds in its tables what the definitions search for. By the laws of
--- model's proofs/LoadRule.antt, the newest store and the newest committed store of a location are enough. And a noted
--- source is a store of an earlier stretch, as `Sources` says.
+-- model's proofs/LoadRule.antt, the newest store and the newest committed store of a location are enough; and a source
+-- that was of an earlier stretch once is so ever after.
 -- In order: `waiting`; `current`; `past`; the rule.
 use mathlib.Core.Path.{_≡_, refl, sym, _∙_, ap₂}
 use mathlib.Core.Bool.{Bool, true, false, cond, _&&_, _||_, not}
-use mathlib.Core.List.{List, [], _∷_}
+use mathlib.Core.List.{List}
 use mathlib.Core.Logic.{_⊎_, inl, inr, _≢_}
-use Prim.Native.Nat.{ℕ, suc, _≤_, _<_}
+use Prim.Native.Nat.{ℕ, suc, _*_, _≤_, _<_}
 use native.Mathlib.Omega.{arith}
-use borrow.Author.Tests.{eqb-true, eqb-false, eq-eqb, ne-eqb, lt-ltb, le-ltb, le-leb, lt-leb, ltb-true}
+use borrow.Author.Tests.{eqb-true, eqb-false, eq-eqb, ne-eqb, lt-ltb, le-ltb, le-leb, lt-leb}
 use lib.Dec.{eqb, ltb, leb}
+use lib.ListN.{getD}
 use Rattle.record.specs.declared.events.Event.{Event}
 use Rattle.record.specs.Tests.{_gives_else_}
 use Rattle.record.specs.Table.{rowOf}
-use Rattle.model.specs.Trace.{kind, thread, location, source, issue?, hasThread?, Issue, stretch, issues}
+use Rattle.model.specs.Trace.{kind, thread, location, source, issue?, commit?, hasThread?, Issue, stretch, issues}
 use Rattle.model.specs.Trace.{commits, place}
 use Rattle.model.specs.Machine.{committedBy, waiting, current, past, sourceFits}
-use Rattle.model.specs.Stores.{storeAt, newestAt, landed}
-use Rattle.model.proofs.Searching.{false-true, test, same?, less?, both, parts}
+use Rattle.model.specs.Choice.{finished}
+use Rattle.model.specs.Stores.{headOf, storeAt, newestAt, landed}
+use Rattle.model.proofs.Searching.{test, same?, less?, both}
 use Rattle.model.proofs.Counting.{stretch-mono, earlier-stretch, count-mono, count-lt}
 use Rattle.model.proofs.Roles.{issue-or-not}
 use Rattle.model.proofs.ClockSteps.{vc-own}
 use Rattle.model.proofs.Limits.{thread-below}
-use Rattle.model.proofs.Acceptance.{store-not-0}
+use Rattle.model.proofs.Acceptance.{store-not-0, FromPast, past-is}
 use Rattle.model.proofs.StorePlaces.{fails, stretch-some, Store, store-at-is, store-at-none}
-use Rattle.model.proofs.LoadRule.{Made, newest-made, Waits, waiting-newest, waiting-none, headOf, head-store}
-use Rattle.model.proofs.LoadRule.{head-early, current-head, current-none}
-use Rattle.area.specs.Cells.{getRow, cell}
-use Rattle.area.specs.Tables.{lastSlot, commitsSlot, loadSourceSlot}
-use Rattle.area.specs.Rows.{Linked, StoreRow, Past, Sources}
-use Rattle.area.proofs.ReadBack.{row-zero}
-use Rattle.machine.specs.Twin.{World, waitingIn, currentIn, pastIn, waitingW, currentW, pastW, fitsW}
+use Rattle.model.proofs.LoadRule.{Made, newest-made, Waits, waiting-newest, waiting-none}
+use Rattle.model.proofs.LoadRule.{current-head, current-none}
+use Rattle.area.specs.Cells.{getRow}
+use Rattle.area.specs.Rows.{StoreRow}
+use Rattle.area.proofs.Chains.{linked-head}
+use Rattle.machine.specs.Tables.{sourceCell, commitsCell}
+use Rattle.machine.specs.Twin.{World, waitingIn, pastIn, acrossIn, admits, waitingW, lastW, hereW, crossingW}
+use Rattle.machine.specs.Twin.{admitsW, fitsW}
 use Rattle.machine.specs.Sim.{issued, Sim}
-
--- the first link is the list's head
-linked-head : (ev : ℕ → Event) (l : List ℕ) (h : ℕ) (ps : List ℕ) → Linked l h ps → h ≡ headOf ev ps
-linked-head ev l h [] linked = linked
-linked-head ev l h (p ∷ ps) linked = linked .0
 
 -- `suc a ≤ b` and `a < b` are the same test
 pub leb-suc : (a b : ℕ) → leb (suc a) b ≡ ltb a b
@@ -45,6 +43,27 @@ leb-suc a b = by-order (less? a b)
     by-order : (a < b) ⊎ (b ≤ a) → leb (suc a) b ≡ ltb a b
     by-order (inl less) = le-leb (suc a) b less ∙ sym (lt-ltb a b less)
     by-order (inr not-less) = lt-leb (suc a) b (omega arith) ∙ sym (le-ltb a b not-less)
+
+-- what a source from the past has
+pub →past : (ev : ℕ → Event) (n s : ℕ) → FromPast ev n s → past ev n s ≡ true
+→past ev n s from =
+    both _ _
+    (both _ _ (both _ _ (from .store .test) (eq-eqb _ _ (from .to-it))) (lt-ltb _ _ (from .earlier)))
+    (lt-ltb _ _ (from .kept))
+
+-- it has at every later event of its location too
+past-later :
+    (ev : ℕ → Event) (l n s : ℕ) → l ≤ n → location ev l ≡ location ev n → past ev l s ≡ true → past ev n s ≡ true
+past-later ev l n s later at-it is-past =
+    let from = past-is ev l s is-past in
+    →past ev n s
+    (record {
+      store = from .store;
+      to-it = from .to-it ∙ at-it;
+      earlier = omega (arith, from .earlier, stretch-mono ev l n later);
+      kept =
+          omega (arith, from .kept, count-mono ev (commit? ev) l n (stretch ev s) (thread ev s) later);
+    })
 
 module _ (ev : ℕ → Event) (n : ℕ) (w : World) (sim : Sim ev n w) where
   abbrev x : ℕ
@@ -137,7 +156,7 @@ module _ (ev : ℕ → Event) (n : ℕ) (w : World) (sim : Sim ev n w) where
     waiting-by-queue (inr empty) =
         rw (store-at-none ev n (stretch ev n) t (committedBy ev n) empty) (sym (none-waits (λ _. none-queued empty)))
 
-  pub waiting-is : t < 8 → x < 256 → waitingW w t x ≡ waiting ev n
+  waiting-is : t < 8 → x < 256 → waitingW w t x ≡ waiting ev n
   unfolding waitingIn waiting-in
   waiting-is few-t few-x =
       rw (sim .newest-are x t few-x few-t, sim .queues t few-t .oldest-is)
@@ -145,35 +164,47 @@ module _ (ev : ℕ → Event) (n : ℕ) (w : World) (sim : Sim ev n w) where
 
   -- ---- current
 
-  current-by-head :
-      (p : ℕ) → headOf ev (landed ev n x) ≡ p → (p ≡ 0) ⊎ (p ≢ 0)
-      → (eqb (getRow l p 10) (stretch ev n) gives p else 0) ≡ current ev n
-  current-by-head p is-head (inl none) =
-      rw (none, row-zero l 10, ne-eqb 0 (stretch ev n) (λ is-0. omega (arith, stretch-some ev n)))
-      (sym (current-none ev n n (sim .limits .accepted) (omega arith) p is-head (λ some. absurd (some none))))
-  current-by-head p is-head (inr some) = by-stretch (same? (stretch ev p) (stretch ev n))
+  -- p heads the chain of the location
+  record Heads (p : ℕ) : Type 0 where
+    here-is : eqb (eqb p 0 gives 0 else stretch ev p) (stretch ev n) ≡ not (eqb (current ev n) 0)
+    last-is : current ev n ≢ 0 → p ≡ current ev n
+
+  heads-of : (p : ℕ) → headOf (landed ev n x) ≡ p → (p ≡ 0) ⊎ (p ≢ 0) → Heads p
+  heads-of p is-head (inl none) =
+      let is-0 = current-none ev n n (sim .limits .accepted) (omega arith) p is-head (λ some. absurd (some none)) in
+      record {
+        here-is = rw (is-0, none, ne-eqb 0 (stretch ev n) (λ is. omega (arith, stretch-some ev n))) refl;
+        last-is = λ some. absurd (some is-0);
+      }
+  heads-of p is-head (inr some) = by-stretch (same? (stretch ev p) (stretch ev n))
     where
-      row : getRow l p 10 ≡ stretch ev p
-      row =
-          let head = head-store ev n n (sim .limits .accepted) (omega arith) x p is-head some in
-          let early = head-early ev n n (sim .limits .accepted) (omega arith) head in
-          sim .rows .stores p early (head .store .store) .stretch-is
-
-      by-stretch :
-          (stretch ev p ≡ stretch ev n) ⊎ (stretch ev p ≢ stretch ev n)
-          → (eqb (getRow l p 10) (stretch ev n) gives p else 0) ≡ current ev n
+      by-stretch : (stretch ev p ≡ stretch ev n) ⊎ (stretch ev p ≢ stretch ev n) → Heads p
       by-stretch (inl here) =
-          rw (row, eq-eqb (stretch ev p) (stretch ev n) here)
-          (sym (current-head ev n n (sim .limits .accepted) (omega arith) p is-head some here))
+          let is-p = current-head ev n n (sim .limits .accepted) (omega arith) p is-head some here in
+          record {
+            here-is = rw (is-p, ne-eqb p 0 some, eq-eqb (stretch ev p) (stretch ev n) here) refl;
+            last-is = λ _. sym is-p;
+          }
       by-stretch (inr elsewhere) =
-          rw (row, ne-eqb (stretch ev p) (stretch ev n) elsewhere)
-          (sym (current-none ev n n (sim .limits .accepted) (omega arith) p is-head (λ _. elsewhere)))
+          let is-0 = current-none ev n n (sim .limits .accepted) (omega arith) p is-head (λ _. elsewhere) in
+          record {
+            here-is = rw (is-0, ne-eqb p 0 some, ne-eqb (stretch ev p) (stretch ev n) elsewhere) refl;
+            last-is = λ some-current. absurd (some-current is-0);
+          }
 
-  pub current-is : x < 256 → currentW w x ≡ current ev n
-  unfolding currentIn
-  current-is few-x =
-      let is-head = linked-head ev l (cell l (lastSlot x)) (landed ev n x) (sim .rows .chains x few-x) in
-      rw (is-head, sim .numbers .stretch-is) (current-by-head (headOf ev (landed ev n x)) refl (same? _ 0))
+  heads : x < 256 → Heads (lastW w x)
+  heads few-x =
+      heads-of (lastW w x) (sym (linked-head l (lastW w x) (landed ev n x) (sim .chains x few-x .links))) (same? _ 0)
+
+  here-is : x < 256 → hereW w x ≡ not (eqb (current ev n) 0)
+  here-is few-x = rw (sim .chains x few-x .stretch-is, sim .numbers .stretch-is) (heads few-x .here-is)
+
+  pub crossing-is : t < 8 → x < 256 → crossingW w t x ≡ (eqb (waiting ev n) 0 && eqb (current ev n) 0)
+  crossing-is few-t few-x = rw (waiting-is few-t few-x, here-is few-x) (twice (eqb (current ev n) 0))
+    where
+      twice : (b : Bool) → (eqb (waiting ev n) 0 && not (not b)) ≡ (eqb (waiting ev n) 0 && b)
+      twice true = refl
+      twice false = refl
 
   -- ---- past
 
@@ -181,7 +212,7 @@ module _ (ev : ℕ → Event) (n : ℕ) (w : World) (sim : Sim ev n w) where
   past-in p j u y =
       eqb j 0 gives false else
       leb (stretch ev n) j gives false else
-      eqb y x gives leb (getRow l p u) (cell l (commitsSlot j u)) else
+      eqb y x gives leb (getRow l p u) (getD (w .tables) (commitsCell j u) 0) else
       false
 
   -- a test that has a failing part
@@ -189,6 +220,14 @@ module _ (ev : ℕ → Event) (n : ℕ) (w : World) (sim : Sim ev n w) where
   third-fails true true c d e = rw e refl
   third-fails true false c d e = refl
   third-fails false b c d e = refl
+
+  -- the table has the commits of an earlier stretch
+  past-commits :
+      (j u : ℕ) → 1 ≤ j → j < stretch ev n → u < 8 → getD (w .tables) (commitsCell j u) 0 ≡ commits ev n j u
+  unfolding finished
+  past-commits j u from-one earlier few =
+      sim .commits-are j u from-one (omega (arith, sim .limits .few-crashes)) few
+      ∙ rw (lt-ltb j (stretch ev n) earlier) refl
 
   past-of-store :
       (p : ℕ) → p < n → Issue ev p → StoreRow ev l p
@@ -209,8 +248,6 @@ module _ (ev : ℕ → Event) (n : ℕ) (w : World) (sim : Sim ev n w) where
       refl
   past-of-store p early store row (inl earlier) (inl here) =
       let few = store-thread p early store in
-      let in-range : stretch ev p ≤ 7 = omega (arith, sim .limits .few-crashes) in
-      let of-stretch = sim .rows .commits-are (stretch ev p) (thread ev p) (stretch-some ev p) in-range earlier few in
       rw (
         ne-eqb (stretch ev p) 0 (λ is-0. omega (arith, stretch-some ev p)),
         lt-leb _ _ earlier,
@@ -218,7 +255,7 @@ module _ (ev : ℕ → Event) (n : ℕ) (w : World) (sim : Sim ev n w) where
         eq-eqb (location ev p) x here,
         row .clock-is (thread ev p) few,
         vc-own ev p (thread ev p) store refl,
-        of-stretch,
+        past-commits (stretch ev p) (thread ev p) (stretch-some ev p) earlier few,
         leb-suc (place ev p) (commits ev n (stretch ev p) (thread ev p)),
         store .test,
       )
@@ -229,64 +266,78 @@ module _ (ev : ℕ → Event) (n : ℕ) (w : World) (sim : Sim ev n w) where
   past-of-other p no-store =
       fails _
       (λ passes.
-      let to-x = issue? ev p && eqb (location ev p) x in
-      let outer = parts (to-x && ltb (stretch ev p) (stretch ev n)) _ passes in
-      let middle = parts to-x _ (outer .0) in
-      let inner = parts (issue? ev p) _ (middle .0) in
-      no-store (earlier-stretch ev p n (ltb-true _ _ (middle .1))) (record { test = inner .0 }))
+      let from = past-is ev n p passes in
+      no-store (earlier-stretch ev p n (from .earlier)) (from .store))
 
-  past-is : (p : ℕ) → pastW w x p ≡ past ev n p
+  -- of an earlier event
+  earlier-past : (p : ℕ) → 1 ≤ p → p < n → pastIn (w .state .stretch) (w .tables) l x p ≡ past ev n p
   unfolding pastIn past-in
-  past-is p = by-role (less? p n) (issue-or-not ev p)
+  earlier-past p from-one early = by-role (issue-or-not ev p)
     where
-      none : (p < n → Issue ev p → ⊥) → pastW w x p ≡ past ev n p
-      none no-store = rw (sim .rows .others p no-store) (sym (past-of-other p no-store))
-
-      by-role : (p < n) ⊎ (n ≤ p) → Issue ev p ⊎ (issue? ev p ≡ false) → pastW w x p ≡ past ev n p
-      by-role (inr later) either = none (λ early _. omega arith)
-      by-role (inl early) (inr no-issue) = none (λ _ store. false-true (sym no-issue ∙ store .test))
-      by-role (inl early) (inl store) =
+      by-role :
+          Issue ev p ⊎ (issue? ev p ≡ false) → pastIn (w .state .stretch) (w .tables) l x p ≡ past ev n p
+      by-role (inr no-issue) = rw (sim .rows .others p from-one early no-issue, no-issue) refl
+      by-role (inl store) =
           let row = sim .rows .stores p early store in
           rw (row .stretch-is, row .thread-is, row .location-is, sim .numbers .stretch-is)
           (past-of-store p early store row (less? (stretch ev p) (stretch ev n)) (same? (location ev p) x))
 
   -- ---- the rule
 
-  →past : (s : ℕ) → Past ev n x s → past ev n s ≡ true
-  →past s it =
-      both _ _
-      (both _ _ (both _ _ (it .store .test) (eq-eqb _ _ (it .to-x))) (lt-ltb _ _ (it .earlier)))
-      (lt-ltb _ _ (it .kept))
+  abbrev s : ℕ
+  s = source ev n
 
-  pub fits-is : Sources ev n l → t < 8 → x < 256 → fitsW w t x (source ev n) ≡ sourceFits ev n
-  unfolding fitsW sourceFits
-  fits-is sources few-t few-x =
-      rw (waiting-is few-t few-x, current-is few-x, past-is s)
-      (by-tests (eqb (waiting ev n) 0) (eqb (current ev n) 0) (eqb s 0) (eqb s noted) refl refl)
+  across-is :
+      acrossIn (w .state .stretch) (w .state .row) (w .tables) l x s ≡ (eqb s 0 || past ev n s)
+  unfolding acrossIn
+  across-is = by-source (same? s 0) (less? s n)
     where
-      s : ℕ
-      s = source ev n
+      by-source :
+          (s ≡ 0) ⊎ (s ≢ 0) → (s < n) ⊎ (n ≤ s)
+          → acrossIn (w .state .stretch) (w .state .row) (w .tables) l x s ≡ (eqb s 0 || past ev n s)
+      by-source (inl none) either = rw (eq-eqb s 0 none) refl
+      by-source (inr some) (inl early) =
+          rw (ne-eqb s 0 some, le-ltb (w .state .row) (16 * s) (omega (arith, sim .numbers .row-is)))
+          (earlier-past s (omega arith) early)
+      by-source (inr some) (inr late) =
+          rw (
+            ne-eqb s 0 some,
+            lt-ltb (w .state .row) (16 * s) (omega (arith, sim .numbers .row-is)),
+            past-of-other s (λ early _. omega arith),
+          )
+          refl
 
+  admits-is : x < 256 → admitsW w x s ≡ (eqb s 0 || past ev n s)
+  unfolding admits
+  admits-is few-x = by-noted (same? s noted) (same? s 0)
+    where
       noted : ℕ
-      noted = cell l (loadSourceSlot x)
+      noted = getD (w .tables) (sourceCell x) 0
 
-      -- a noted source is one
-      past-noted : eqb s 0 ≡ false → eqb s noted ≡ true → past ev n s ≡ true
-      past-noted some is-noted =
-          let same : s ≡ noted = eqb-true s noted is-noted in
-          rw same (→past noted (sources x few-x (λ is-0. eqb-false s 0 some (same ∙ is-0))))
+      by-noted :
+          (s ≡ noted) ⊎ (s ≢ noted) → (s ≡ 0) ⊎ (s ≢ 0) → admitsW w x s ≡ (eqb s 0 || past ev n s)
+      by-noted (inr other) either = rw (ne-eqb s noted other) across-is
+      by-noted (inl is-noted) (inl none) = rw (eq-eqb s noted is-noted, eq-eqb s 0 none) refl
+      by-noted (inl is-noted) (inr some) =
+          let it = sim .sources x few-x (λ is-0. some (is-noted ∙ is-0)) in
+          let still : past ev n s ≡ true =
+          rw is-noted (past-later ev (it .load) n noted (omega (arith, it .early)) (it .at-x) (it .is-past))
+          in
+          rw (eq-eqb s noted is-noted, ne-eqb s 0 some, still) refl
 
+  pub fits-is : t < 8 → x < 256 → fitsW w t x s ≡ sourceFits ev n
+  unfolding fitsW sourceFits
+  fits-is few-t few-x =
+      rw (waiting-is few-t few-x, here-is few-x, admits-is few-x)
+      (by-tests (eqb (waiting ev n) 0) (eqb (current ev n) 0) refl)
+    where
       by-tests :
-          (none-waits none-current none is-noted : Bool) → eqb s 0 ≡ none → eqb s noted ≡ is-noted
+          (none-waits none-current : Bool) → eqb (current ev n) 0 ≡ none-current
           → (none-waits gives
-          (none-current gives
-          (none gives true else is-noted gives true else past ev n s) else
-          eqb s (current ev n)) else
+          (not none-current gives eqb s (lastW w x) else (eqb s 0 || past ev n s)) else
           eqb s (waiting ev n))
           ≡ cond (not none-waits) (eqb s (waiting ev n))
-          (cond (not none-current) (eqb s (current ev n)) (none || past ev n s))
-      by-tests true true true is-noted some same = refl
-      by-tests true true false true some same = sym (past-noted some same)
-      by-tests true true false false some same = refl
-      by-tests true false none is-noted some same = refl
-      by-tests false none-current none is-noted some same = refl
+          (cond (not none-current) (eqb s (current ev n)) (eqb s 0 || past ev n s))
+      by-tests true true _ = refl
+      by-tests true false some = rw (heads few-x .last-is (eqb-false (current ev n) 0 some)) refl
+      by-tests false none-current _ = refl

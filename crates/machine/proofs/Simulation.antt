@@ -24,9 +24,10 @@ use Rattle.machine.specs.Turning.{countsK, countsW}
 use Rattle.machine.specs.Effects.{stepK, stepW}
 use Rattle.machine.specs.Sim.{Sim}
 use Rattle.machine.proofs.Keep.{few-own, small-own}
-use Rattle.machine.proofs.Searches.{waiting-is, current-is}
+use Rattle.machine.proofs.Searches.{crossing-is}
 use Rattle.machine.proofs.Refusals.{refusal-begin}
-use Rattle.machine.proofs.Quiet.{pass-next, skip-next, crash-next}
+use Rattle.machine.proofs.Quiet.{pass-next, skip-next}
+use Rattle.machine.proofs.Crashes.{crash-next}
 use Rattle.machine.proofs.Loads.{load-next}
 use Rattle.machine.proofs.Commits.{commit-next}
 use Rattle.machine.proofs.Issues.{issue-next}
@@ -104,10 +105,4 @@ module _ (ev : ℕ → Event) (n : ℕ) (w : World) (sim : Sim ev n w) (passes :
           let kind-is = eqb-true (kind ev n) 4 (loads .test) in
           let few = few-own ev n (sim .limits) passes 4 kind-is refl in
           let small = small-own ev n (sim .limits) passes 4 kind-is refl in
-          rw (
-            loads .test,
-            waiting-is ev n w sim few small,
-            current-is ev n w sim small,
-            sim .queues (thread ev n) few .skip-is,
-          )
-          refl
+          rw (loads .test, crossing-is ev n w sim few small, sim .queues (thread ev n) few .skip-is) refl

@@ -3,7 +3,7 @@
 use mathlib.Core.Path.{_≡_, refl, sym, _∙_}
 use mathlib.Core.Bool.{Bool, true, false, _&&_, not}
 use mathlib.Core.Logic.{_⊎_, inl, inr, _≢_}
-use Prim.Native.Nat.{ℕ, _≤_, _<_}
+use Prim.Native.Nat.{ℕ, _-_, _≤_, _<_}
 use native.Mathlib.Omega.{arith}
 use borrow.Author.Tests.{eq-eqb, ne-eqb, lt-ltb, le-ltb, ltb-true}
 use lib.Dec.{eqb, ltb, leb}
@@ -14,9 +14,10 @@ use Rattle.model.specs.Trace.{thread, issue?, Issue, stretch, place}
 use Rattle.model.specs.Clocks.{vc}
 use Rattle.model.specs.Answers.{before, after, same, neither, orderAnswer}
 use Rattle.model.specs.Judge.{store?, standing}
-use Rattle.model.proofs.Searching.{false-true, same?, less?, both, parts, second-fails}
+use Rattle.model.proofs.Searching.{same?, less?, both, parts, second-fails}
 use Rattle.model.proofs.Roles.{issue-or-not}
 use Rattle.model.proofs.ClockSteps.{vc-own}
+use Rattle.model.proofs.Acceptance.{store-not-0}
 use Rattle.model.proofs.StorePlaces.{stretch-some}
 use Rattle.area.specs.Cells.{getRow}
 use Rattle.machine.specs.Twin.{World}
@@ -48,26 +49,38 @@ standing-by-tests false true false false = refl
 standing-by-tests false false earlier later = refl
 
 module _ (ev : ℕ → Event) (n : ℕ) (w : World) (sim : Sim ev n w) where
-  pub store-is : (p : ℕ) → storeW (w .work) p ≡ store? ev n p
+  abbrev begun : 0 < n
+  begun = sim .limits .accepted .some-record
+
+  pub store-is : (p : ℕ) → storeW (w .work) (n - 1) p ≡ store? ev n p
   unfolding storeW
-  store-is p = by-role (less? p n) (issue-or-not ev p)
+  store-is p = by-number (same? p 0) (less? p n) (issue-or-not ev p)
     where
-      by-role : (p < n) ⊎ (n ≤ p) → Issue ev p ⊎ (issue? ev p ≡ false) → storeW (w .work) p ≡ store? ev n p
-      by-role (inl early) (inl store) =
+      by-number :
+          (p ≡ 0) ⊎ (p ≢ 0) → (p < n) ⊎ (n ≤ p) → Issue ev p ⊎ (issue? ev p ≡ false)
+          → storeW (w .work) (n - 1) p ≡ store? ev n p
+      by-number (inl is-0) order (inl store) = absurd (store-not-0 ev n (sim .limits .accepted) store is-0)
+      by-number (inl is-0) order (inr no-issue) =
+          rw (eq-eqb p 0 is-0, second-fails (ltb p n) (issue? ev p) no-issue) refl
+      by-number (inr some) (inr later) role =
+          rw (ne-eqb p 0 some, lt-ltb (n - 1) p (omega (arith, begun)), le-ltb p n later) refl
+      by-number (inr some) (inl early) (inl store) =
           rw (
+            ne-eqb p 0 some,
+            le-ltb (n - 1) p (omega arith),
             sim .rows .stores p early store .stretch-is,
             ne-eqb (stretch ev p) 0 (λ is-0. omega (arith, stretch-some ev p)),
             both _ _ (lt-ltb p n early) (store .test),
           )
           refl
-      by-role (inl early) (inr no-issue) =
+      by-number (inr some) (inl early) (inr no-issue) =
           rw (
-            sim .rows .others p (λ _ store. false-true (sym no-issue ∙ store .test)),
+            ne-eqb p 0 some,
+            le-ltb (n - 1) p (omega arith),
+            sim .rows .others p (omega arith) early no-issue,
             second-fails (ltb p n) (issue? ev p) no-issue,
           )
           refl
-      by-role (inr later) either =
-          rw (sim .rows .others p (λ early _. omega arith), le-ltb p n later) refl
 
   -- p's clock of its own thread is covered by q's exactly if q's counts p
   covered :

@@ -1,18 +1,19 @@
--- The state after an accepted begin, over a cleared work area: a begin changes nothing that the tables hold, and before
--- it there is nothing.
+-- The state after an accepted begin, over cleared tables and any work area: a begin changes nothing that the tables
+-- hold, before it there is nothing, and nothing is said of the rows of events to come.
 use mathlib.Core.Path.{_≡_, refl, sym, _∙_}
 use mathlib.Core.Bool.{Bool, false}
 use mathlib.Core.List.{List, []}
 use mathlib.Core.Logic.{_≢_}
-use Prim.Native.Nat.{ℕ, suc, _-_, _≤_, _<_}
+use Prim.Native.Nat.{ℕ, _+_, _-_, _*_, _≤_, _<_}
 use native.Mathlib.Omega.{arith}
-use borrow.Author.Tests.{eqb-true, ne-eqb}
-use lib.ListN.{length, replicate, length-replicate}
+use borrow.Author.Tests.{eqb-true, ne-eqb, le-ltb}
+use lib.ListN.{length, getD, replicate, length-replicate}
 use Rattle.record.specs.declared.events.Event.{Event}
 use Rattle.model.specs.Search.{last}
-use Rattle.model.specs.Trace.{kind, is, crash?, Issue, threads, locations, stretch, count, commits}
+use Rattle.model.specs.Trace.{kind, is, crash?, Issue, threads, locations, stretch, count}
 use Rattle.model.specs.Machine.{skipping}
 use Rattle.model.specs.Rules.{refusal, Accepted}
+use Rattle.model.specs.Choice.{finished}
 use Rattle.model.specs.Stores.{newestAt, landed}
 use Rattle.model.proofs.Searching.{false-true}
 use Rattle.model.proofs.Counting.{stretch-else}
@@ -22,14 +23,12 @@ use Rattle.model.proofs.Acceptance.{begins}
 use Rattle.model.proofs.Limits.{few-threads, few-locations}
 use Rattle.model.proofs.StorePlaces.{store-at-none}
 use Rattle.model.proofs.Unchanged.{live-away, skipping-away, newest-away, seen-away, landed-away}
-use Rattle.area.specs.Cells.{getRow}
-use Rattle.area.specs.Tables.{newestRow, lastSlot}
-use Rattle.area.specs.Rows.{Rows}
-use Rattle.area.proofs.ReadBack.{cleared-cell}
+use Rattle.area.proofs.ReadBack.{cleared-at}
+use Rattle.machine.specs.Tables.{lastCell, sourceCell, commitsCell, newestCell, stretchCell}
 use Rattle.machine.specs.Threads.{fresh}
 use Rattle.machine.specs.Twin.{world, started}
-use Rattle.machine.specs.Sim.{issued, done, Queue, Seen, Links, Newest, Sim}
-use Rattle.machine.proofs.CellLaws.{thread-cleared}
+use Rattle.machine.specs.Sim.{issued, done, Queue, Seen, Newest, Commits, Chains, Sim}
+use Rattle.machine.proofs.TableLaws.{thread-fresh}
 
 module _ (ev : ℕ → Event) (passes : refusal ev 0 ≡ 0) where
   accepted : Accepted ev 1
@@ -98,56 +97,46 @@ module _ (ev : ℕ → Event) (passes : refusal ev 0 ≡ 0) where
         newest-is = sym (store-at-none ev 1 (stretch ev 1) t (issued ev 1 t - 1) (omega arith));
       }
 
-  seen-start : Seen ev 1 (replicate 128 0)
-  seen-start t u _ _ =
-      cleared-cell 128 (suc t) u
-      ∙ sym
-      (seen-away ev 0 t u no-crash (λ loads _. false-true (sym (no-other 4 (λ is-1. omega arith)) ∙ loads .test))
-      ∙ seen-zero ev t u)
+  no-store : (p : ℕ) → p < 1 → Issue ev p → ⊥
+  no-store p early store =
+      let is-0 : p ≡ 0 = omega arith in
+      begin-no-issue ev (begins ev 1 accepted) (rw is-0 at store)
 
-  -- ---- over a cleared work area
+  -- ---- over cleared tables
 
-  module _ (l : List ℕ) (room : 32768 ≤ length l) (clear : (e k : ℕ) → getRow l e k ≡ 0) where
-    no-store : (p : ℕ) → p < 1 → Issue ev p → ⊥
-    no-store p early store =
-        let is-0 : p ≡ 0 = omega arith in
-        begin-no-issue ev (begins ev 1 accepted) (rw is-0 at store)
+  module _ (tables l : List ℕ) (clear : (i : ℕ) → getD tables i 0 ≡ 0) where
+    seen-start : Seen ev 1 tables
+    seen-start t u _ _ =
+        clear (16 * t + u)
+        ∙ sym
+        (seen-away ev 0 t u no-crash (λ loads _. false-true (sym (no-other 4 (λ is-1. omega arith)) ∙ loads .test))
+        ∙ seen-zero ev t u)
 
-    rows-start : Rows ev 1 l
-    rows-start = record {
-      room = room;
-      stores = λ p early store. absurd (no-store p early store);
-      others = λ p _. clear p 10;
-      chains = λ x _.
+    newest-start : Newest ev 1 tables
+    newest-start x t _ _ =
+        clear (newestCell x t)
+        ∙ sym (newest-away ev 0 x t (λ store _ _. no-store 0 (omega arith) store) ∙ newest-0 x t)
+
+    commits-start : Commits ev 1 tables
+    unfolding finished
+    commits-start j t from-one _ _ =
+        clear (commitsCell j t) ∙ rw (le-ltb j (stretch ev 1) (omega (arith, stretch-1))) refl
+
+    chains-start : Chains ev 1 tables l
+    chains-start x _ = record {
+      links =
           rw (
             landed-away ev 0 x (λ commits _. false-true (sym (no-other 3 (λ is-1. omega arith)) ∙ commits .test)),
             landed-0 x,
           )
-          (clear (suc (lastSlot x)) 13);
-      commits-are = λ j t from-one _ finished _. absurd (omega (arith, stretch-1));
+          (clear (lastCell x));
+      stretch-is = rw (clear (lastCell x)) (clear (stretchCell x));
     }
 
-    links-start : Links ev 1 l
-    links-start = record {
-      next-is = λ p early store. absurd (no-store p early store);
-      free = λ p _. clear p 11;
-    }
-
-    newest-start : Newest ev 1 l
-    newest-start x t _ _ =
-        clear (newestRow x t) 15
-        ∙ sym (newest-away ev 0 x t (λ store _ _. no-store 0 (omega arith) store) ∙ newest-0 x t)
-
-    -- THE STATE AFTER AN ACCEPTED BEGIN
-    pub sim-start : Sim ev 1 (world (started (threads ev) (locations ev)) l)
-    sim-start = record {
-      numbers = record {
-        event-is = refl;
-        stretch-is = sym stretch-1;
-        threads-is = refl;
-        locations-is = refl;
-        eight = length-replicate {A = ℕ} 128 0;
-      };
+    start-with :
+        length tables ≡ 3008 → 32768 ≤ length l → Sim ev 1 (world (started (threads ev) (locations ev)) tables l)
+    start-with size room = record {
+      numbers = record { row-is = omega arith; stretch-is = sym stretch-1; threads-is = refl; locations-is = refl };
       limits = record {
         accepted = accepted;
         few-threads = few-threads ev 1 accepted;
@@ -155,9 +144,22 @@ module _ (ev : ℕ → Event) (passes : refusal ev 0 ≡ 0) where
         few-events = omega arith;
         few-crashes = omega (arith, stretch-1);
       };
-      queues = λ t _. rw (thread-cleared 128 t) (fresh-queue t);
+      size = size;
+      queues = λ t _. rw (thread-fresh tables t (λ k _. clear (16 * t + k))) (fresh-queue t);
       seen-are = seen-start;
-      rows = rows-start;
-      links = links-start;
       newest-are = newest-start;
+      commits-are = commits-start;
+      sources = λ x _ some. absurd (some (clear (sourceCell x)));
+      chains = chains-start;
+      rows = record {
+        room = room;
+        stores = λ p early store. absurd (no-store p early store);
+        others = λ p from-one early _. absurd (omega arith);
+      };
+      links = λ p early store. absurd (no-store p early store);
     }
+
+  -- THE STATE AFTER AN ACCEPTED BEGIN
+  pub sim-start :
+      (l : List ℕ) → 32768 ≤ length l → Sim ev 1 (world (started (threads ev) (locations ev)) (replicate 3008 0) l)
+  sim-start l room = start-with (replicate 3008 0) l (cleared-at 3008) (length-replicate {A = ℕ} 3008 0) room

@@ -1,5 +1,5 @@
 -- What the outcome of a step says of an event: the rule that turns it away, or 0, whether it counts, and its effect.
--- And that a counted load leaves the work area.
+-- All of them go by the kind, and so does the outcome: of each kind it is the outcome by that rule.
 use mathlib.Core.Path.{_≡_, refl, sym, ap, _∙_}
 use mathlib.Core.Bool.{Bool, true, false}
 use Prim.Native.Nat.{ℕ}
@@ -11,13 +11,11 @@ use Rattle.record.specs.declared.events.Event.the-variants.{Sfence, Mfence, Cra
 use Rattle.record.specs.Events.{kindOf}
 use Rattle.record.specs.Fields.{fieldsOf}
 use Rattle.record.specs.Tests.{_gives_else_}
-use Rattle.model.proofs.Searching.{false-true}
 use Rattle.machine.specs.Arms.{byKind}
 use Rattle.machine.specs.Twin.{World}
 use Rattle.machine.specs.Turning.{refusalK, refusalW, countsK, countsW}
 use Rattle.machine.specs.Effects.{stepK, stepW}
 use Rattle.machine.specs.Outcomes.{Outcome, turned, byRule, stepO}
-use Rattle.machine.proofs.Loading.{load-stays}
 
 -- an outcome by a rule has the rule's number
 rule-told : (k : ℕ) (w after : World) (counted : Bool) → byRule k w counted after .refusal ≡ k
@@ -63,17 +61,3 @@ module _ (w : World) (e : Event) (o : Outcome) (is : o ≡ stepO w (kindOf e) (f
 
     pub after-told : o .after ≡ stepW w e
     after-told = ap (λ (p : Outcome). p .after) effect
-
-pub counted-stays : (w : World) (e : Event) → countsW w e ≡ true → stepW w e .work ≡ w .work
-unfolding countsK stepK byKind
-counted-stays w (Begin v a b) counts = false-true counts
-counted-stays w (Issue t x) counts = false-true counts
-counted-stays w (Commit t) counts = false-true counts
-counted-stays w (Load t x s) counts = load-stays w t x s
-counted-stays w (Clflush t x) counts = false-true counts
-counted-stays w (Clwb t x) counts = false-true counts
-counted-stays w (Sfence t) counts = false-true counts
-counted-stays w (Mfence t) counts = false-true counts
-counted-stays w Crash counts = false-true counts
-counted-stays w (SkipOn t) counts = false-true counts
-counted-stays w (SkipOff t) counts = false-true counts

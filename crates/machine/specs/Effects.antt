@@ -1,98 +1,123 @@
--- What an event that passes does to the machine's state and the work area, as total functions.
-use Prim.Native.Nat.{ℕ, zero, suc, max}
-use mathlib.Core.Bool.{Bool, _&&_}
+-- What an event that passes does to the machine's tables and to the work area, as total functions. `row` is where the
+-- event's own row begins.
+use Prim.Native.Nat.{ℕ, zero, suc, _+_, _%_, max}
+use mathlib.Core.Bool.{Bool}
 use mathlib.Core.List.{List}
-use lib.Dec.{eqb, leb}
+use lib.Dec.{eqb}
+use lib.ListN.{getD, set}
 use Rattle.record.specs.declared.events.Event.{Event}
 use Rattle.record.specs.declared.events.Fields.{Fields}
 use Rattle.record.specs.Tests.{_gives_else_}
 use Rattle.record.specs.Events.{kindOf}
 use Rattle.record.specs.Fields.{fieldsOf}
-use Rattle.area.specs.Cells.{getRow, putRow, hasRow, cell, putCell, up}
-use Rattle.area.specs.Tables.{newestRow, lastSlot, commitsSlot}
-use Rattle.machine.specs.Threads.{issuedT, committedT, skippedT, putIssued, putCommitted, putSkip}
-use Rattle.machine.specs.Twin.{World, world, threadAt, withRows, ticked, crashed, crossingW}
+use Rattle.area.specs.Cells.{rowStart, getRow, putRow, eventAt, noStore, up}
+use Rattle.machine.specs.Tables.{lastCell, sourceCell, commitsCell, newestCell, stretchCell}
+use Rattle.machine.specs.Threads.{issuedT, committedT, skippedT, crashedT, threadOf, ofThread, putThread}
+use Rattle.machine.specs.Threads.{putIssued, putCommitted, putSkip, restarted}
+use Rattle.machine.specs.Twin.{World, world, threadAt, ticked, crashed, crossingW}
 use Rattle.machine.specs.Arms.{byKind}
 
--- ---- clocks, where the rows of the threads stand in `rows` and those of stores in l
+-- ---- clocks
 
--- columns 0 to k - 1 of row e become those of thread t's row
+-- the first k numbers of the row become what thread t has seen
 unfoldable pub clocked : ℕ → List ℕ → ℕ → ℕ → List ℕ → List ℕ
-clocked zero rows t e l = l
-clocked (suc u) rows t e l = putRow (clocked u rows t e l) e u (getRow rows (suc t) u)
+clocked zero tables t row l = l
+clocked (suc u) tables t row l = set (clocked u tables t row l) (row + u) (ofThread tables t u)
 
--- a store's row: its clock, which is what thread t has seen, with c for t itself; its thread, location and stretch
-abbrev pub filled : List ℕ → ℕ → ℕ → ℕ → ℕ → ℕ → List ℕ → List ℕ
-filled rows t e c x j l =
-    let with-clock = putRow (clocked 8 rows t e l) e t c in
-    putRow (putRow (putRow with-clock e 8 t) e 9 x) e 10 j
-
--- the same, if t is a column and both rows are there
+-- a store's row: its clock, which is what thread t has seen, with c for t itself; its thread, location and stretch; and
+-- no next store
 unfoldable pub written : List ℕ → ℕ → ℕ → ℕ → ℕ → ℕ → List ℕ → List ℕ
-written rows t e c x j l = (leb t 15 && (hasRow rows (suc t) && hasRow l e)) gives filled rows t e c x j l else l
+written tables t row c x j l =
+    let with-clock = set (clocked 8 tables t row l) (row + t) c in
+    let with-thread = set with-clock (row + 8) t in
+    let with-location = set with-thread (row + 9) x in
+    set (set with-location (row + 10) j) (row + 11) 0
 
--- columns 0 to k - 1 of thread t's row become the larger of them and those of row s
+-- what thread t has seen of threads 0 to k - 1 becomes the larger of it and of store s's clock
 unfoldable pub joined : ℕ → List ℕ → ℕ → ℕ → List ℕ → List ℕ
-joined zero l t s rows = rows
-joined (suc u) l t s rows =
-    let so-far = joined u l t s rows in
-    putRow so-far (suc t) u (max (getRow so-far (suc t) u) (getRow l s u))
-
--- all eight, if both rows are there
-unfoldable pub met : List ℕ → ℕ → ℕ → List ℕ → List ℕ
-met l t s rows = (hasRow rows (suc t) && hasRow l s) gives joined 8 l t s rows else rows
+joined zero l t s tables = tables
+joined (suc u) l t s tables =
+    let so-far = joined u l t s tables in
+    putThread so-far t u (max (ofThread so-far t u) (getD l (rowStart s + u) 0))
 
 -- ---- the steps
 
--- the work area after an issue: g is the thread's newest store so far, e the event, c the thread's issues with it
-abbrev pub issuedWork : List ℕ → List ℕ → ℕ → ℕ → ℕ → ℕ → ℕ → ℕ → List ℕ
-issuedWork rows l g e t c x j =
-    let linked = putRow l g 11 e in
-    putRow (written rows t e c x j linked) (newestRow x t) 15 e
+-- after an issue of thread t at location x in stretch j
+unfoldable pub issuedTables : List ℕ → ℕ → ℕ → ℕ → List ℕ
+issuedTables tables row t x =
+    set (putIssued tables t (issuedT (threadOf tables t) (eventAt row))) (newestCell x t) (eventAt row)
+
+unfoldable pub issuedWork : List ℕ → List ℕ → ℕ → ℕ → ℕ → ℕ → List ℕ
+issuedWork tables l row t x j =
+    let old = threadOf tables t in
+    written tables t row (up (old .issued)) x j (putRow l (old .newest) 11 (eventAt row))
 
 unfoldable pub issueW : World → ℕ → ℕ → World
 issueW w t x =
-    let m = w .state in
-    let old = threadAt m t in
-    world (withRows m (putIssued (m .rows) t (issuedT old (m .event))))
-    (issuedWork (m .rows) (w .work) (old .newest) (m .event) t (up (old .issued)) x (m .stretch))
+    let st = w .state in
+    world (ticked st) (issuedTables (w .tables) (st .row) t x)
+    (issuedWork (w .tables) (w .work) (st .row) t x (st .stretch))
 
--- the work area after a commit of store p at location x: `link` is the store committed before it there
-abbrev pub committedWork : List ℕ → ℕ → ℕ → ℕ → List ℕ
-committedWork l p x link = putCell (putRow l p 14 link) (lastSlot x) p
+-- the location of the oldest store of thread t
+abbrev pub oldestPlace : List ℕ → List ℕ → ℕ → ℕ
+oldestPlace tables l t = getRow l (threadOf tables t .oldest) 9 % 256
+
+-- after a commit of thread t in stretch j: its oldest store heads its location's chain
+unfoldable pub committedTables : List ℕ → List ℕ → ℕ → ℕ → List ℕ
+committedTables tables l t j =
+    let old = threadOf tables t in
+    let x = oldestPlace tables l t in
+    putCommitted (set (set tables (lastCell x) (old .oldest)) (stretchCell x) j) t
+    (committedT old (getRow l (old .oldest) 11))
+
+unfoldable pub committedWork : List ℕ → List ℕ → ℕ → ℕ → List ℕ
+committedWork tables l row t =
+    let link = getD tables (lastCell (oldestPlace tables l t)) 0 in
+    putRow (noStore l row) (threadOf tables t .oldest) 14 link
 
 unfoldable pub commitW : World → ℕ → World
 commitW w t =
-    let m = w .state in
-    let old = threadAt m t in
-    let p = old .oldest in
-    let x = getRow (w .work) p 9 in
-    world (withRows m (putCommitted (m .rows) t (committedT old (getRow (w .work) p 11))))
-    (committedWork (w .work) p x (cell (w .work) (lastSlot x)))
+    let st = w .state in
+    world (ticked st) (committedTables (w .tables) (w .work) t (st .stretch))
+    (committedWork (w .tables) (w .work) (st .row) t)
+
+-- an event that has no effect but that it is no store, with other tables
+abbrev pub passWith : World → List ℕ → World
+passWith w tables = world (ticked (w .state)) tables (noStore (w .work) (w .state .row))
 
 unfoldable pub passW : World → World
-passW w = world (ticked (w .state)) (w .work)
+passW w = passWith w (w .tables)
 
 -- store s brings its clock to thread t
 unfoldable pub meetW : World → ℕ → ℕ → World
-meetW w t s = let m = w .state in world (withRows m (met (w .work) t s (m .rows))) (w .work)
+meetW w t s = passWith w (joined 8 (w .work) t s (w .tables))
+
+-- a crossing load at location x from s, which is noted
+unfoldable pub crossW : World → ℕ → ℕ → World
+crossW w x s = passWith w (set (w .tables) (sourceCell x) s)
 
 -- a load by thread t at location x from s: a crossing load brings no clock
 unfoldable pub loadW : World → ℕ → ℕ → ℕ → World
-loadW w t x s = crossingW w t x gives passW w else meetW w t s
+loadW w t x s = crossingW w t x gives crossW w x s else meetW w t s
 
--- the work area with the commits of threads 0 to k - 1 in stretch j, which a crash finishes
-unfoldable pub finishedWork : ℕ → ℕ → List ℕ → List ℕ → List ℕ
-finishedWork zero j rows l = l
-finishedWork (suc t) j rows l = putCell (finishedWork t j rows l) (commitsSlot j t) (getRow rows (suc t) 11)
+-- stretch j is finished: the commits of thread t are noted, and the thread starts afresh
+unfoldable pub finishedThread : List ℕ → ℕ → ℕ → List ℕ
+finishedThread tables j t =
+    let old = threadOf tables t in
+    restarted (set tables (commitsCell j t) (old .committed)) t (crashedT old)
+
+-- so of threads 0 to k - 1
+unfoldable pub finished : ℕ → List ℕ → ℕ → List ℕ
+finished zero tables j = tables
+finished (suc t) tables j = finishedThread (finished t tables j) j t
 
 unfoldable pub crashW : World → World
-crashW w = let m = w .state in world (crashed m) (finishedWork 8 (m .stretch) (m .rows) (w .work))
+crashW w =
+    let st = w .state in
+    world (crashed st) (finished 8 (w .tables) (st .stretch)) (noStore (w .work) (st .row))
 
 unfoldable pub skipW : World → ℕ → Bool → World
-skipW w t on =
-    let m = w .state in
-    world (withRows m (putSkip (m .rows) t (skippedT (threadAt m t) on))) (w .work)
+skipW w t on = passWith w (putSkip (w .tables) t (skippedT (threadAt w t) on))
 
 -- ---- the effect
 

@@ -1,39 +1,37 @@
 -- What the code's functions give for an event: the rule that turns it away first, or its effect. What a step leaves is
--- the state that it hands back, the rows of the threads and the work area.
-use Prim.Native.Nat.{ℕ}
+-- the state that it hands back, the machine's tables and the work area.
+use Prim.Native.Nat.{ℕ, _+_}
 use mathlib.Core.Bool.{Bool, false, not}
 use mathlib.Core.List.{List}
 use lib.Dec.{eqb}
 use Rattle.record.specs.declared.events.Fields.{Fields}
 use Rattle.record.specs.Tests.{_gives_else_}
-use Rattle.area.specs.Cells.{up}
 use Rattle.machine.specs.declared.state.Step.{Step}
 use Rattle.machine.specs.Arms.{byKind}
 use Rattle.machine.specs.declared.state.Machine.{Machine}
-use Rattle.machine.specs.Twin.{State, World, world, threadAt, acrossW}
+use Rattle.machine.specs.Twin.{State, World, world, threadAt, admitsW}
 use Rattle.machine.specs.Turning.{commitRule, loadRule, fenceRule, crashRule, skipRule}
-use Rattle.machine.specs.Turning.{inTime, onThread, onPlace, countedW}
-use Rattle.machine.specs.Effects.{issueW, commitW, passW, meetW, loadW, crashW, skipW}
+use Rattle.machine.specs.Turning.{onThread, onPlace, countedW}
+use Rattle.machine.specs.Effects.{issueW, commitW, passW, meetW, crossW, loadW, crashW, skipW}
 
 pub record Outcome : Type 0 where
   pub refusal : ℕ
   pub counted : Bool
   pub after : World
 
--- the state after event e, which led to r: an event that passes is followed by the next number
-abbrev pub stateAfter : Machine → ℕ → Step → List ℕ → State
-stateAfter m e r rows =
+-- the state after the event whose row begins at `row`, which led to r: an event that passes is followed by the next row
+abbrev pub stateAfter : Machine → ℕ → Step → State
+stateAfter m row r =
     record {
-      event = eqb (r .refusal) 0 gives up e else e;
+      row = eqb (r .refusal) 0 gives row + 16 else row;
       stretch = r .stretch;
       threads = m .threads;
       locations = m .locations;
-      rows = rows;
     }
 
 abbrev pub outcome : Machine → ℕ → Step → List ℕ → List ℕ → Outcome
-outcome m e r rows l =
-    record { refusal = r .refusal; counted = r .counted; after = world (stateAfter m e r rows) l }
+outcome m row r tables l =
+    record { refusal = r .refusal; counted = r .counted; after = world (stateAfter m row r) tables l }
 
 -- the rule of number k turns the event away, and all is as it was
 abbrev pub turned : ℕ → World → Outcome
@@ -50,7 +48,7 @@ abbrev pub issueO : World → ℕ → ℕ → Outcome
 issueO w t x = byRule (onPlace (w .state) t x 0) w false (issueW w t x)
 
 abbrev pub commitO : World → ℕ → Outcome
-commitO w t = byRule (onThread (w .state) t (commitRule (w .state) t)) w false (commitW w t)
+commitO w t = byRule (onThread (w .state) t (commitRule w t)) w false (commitW w t)
 
 -- a load that may have one source only
 abbrev pub onlyO : World → ℕ → ℕ → ℕ → Outcome
@@ -59,7 +57,7 @@ onlyO w t s only = byRule (eqb s only gives 0 else 9) w false (meetW w t s)
 -- a crossing load
 abbrev pub acrossO : World → ℕ → ℕ → ℕ → Outcome
 acrossO w t x s =
-    byRule (acrossW w x s gives 0 else 9) w (not (threadAt (w .state) t .skip)) (passW w)
+    byRule (admitsW w x s gives 0 else 9) w (not (threadAt w t .skip)) (crossW w x s)
 
 abbrev pub loadO : World → ℕ → ℕ → ℕ → Outcome
 loadO w t x s = byRule (onPlace (w .state) t x (loadRule w t x s)) w (countedW w t x) (loadW w t x s)
@@ -68,14 +66,14 @@ abbrev pub flushO : World → ℕ → ℕ → Outcome
 flushO w t x = byRule (onPlace (w .state) t x 0) w false (passW w)
 
 abbrev pub fenceO : World → ℕ → ℕ → Outcome
-fenceO w kind t = byRule (onThread (w .state) t (fenceRule (w .state) kind t)) w false (passW w)
+fenceO w kind t = byRule (onThread (w .state) t (fenceRule w kind t)) w false (passW w)
 
 abbrev pub crashO : World → Outcome
-crashO w = byRule (inTime (w .state) (crashRule (w .state))) w false (crashW w)
+crashO w = byRule (crashRule (w .state)) w false (crashW w)
 
 abbrev pub skipO : World → ℕ → ℕ → Outcome
 skipO w kind t =
-    byRule (onThread (w .state) t (skipRule (w .state) kind t)) w false (skipW w t (eqb kind 10))
+    byRule (onThread (w .state) t (skipRule w kind t)) w false (skipW w t (eqb kind 10))
 
 -- a later event: a begin, and what is no kind, is turned away by 5
 unfoldable pub stepO : World → ℕ → Fields → Outcome

@@ -1,22 +1,21 @@
--- A thread's state in its row, and what the methods of it compute. The row's columns 0 to 7 are how many of each
--- thread's first stores of the stretch the thread has seen by loads; 8 to 12 are the state.
-use Prim.Native.Nat.{ℕ, suc}
+-- A thread's state in its row of the tables, and what the methods of it compute.
+use Prim.Native.Nat.{ℕ, zero, suc}
 use mathlib.Core.Bool.{Bool, false, not}
 use mathlib.Core.List.{List}
 use mathlib.Core.Path.{_≡_}
 use mathlib.Core.Logic.{_≢_}
 use lib.Dec.{eqb}
+use lib.ListN.{getD, set}
 use Rattle.record.specs.Tests.{_gives_else_}
-use Rattle.area.specs.Cells.{getRow, putRow, up}
+use Rattle.area.specs.Cells.{up}
 use Rattle.machine.specs.declared.threads.Thread.{Thread}
+use Rattle.machine.specs.Tables.{threadCell}
+
+-- ---- a thread's state by itself
 
 -- a, or b if a is 0
 unfoldable pub firstOf : ℕ → ℕ → ℕ
 firstOf a b = eqb a 0 gives b else a
-
--- a thread as a stretch starts
-abbrev pub fresh : Thread
-fresh = record { oldest = 0; newest = 0; issued = 0; committed = 0; skip = false }
 
 -- store e joins the queue
 unfoldable pub issuedT : Thread → ℕ → Thread
@@ -51,35 +50,66 @@ skippedT t on =
       skip = on;
     }
 
+-- a thread as a stretch starts
+abbrev pub fresh : Thread
+fresh = record { oldest = 0; newest = 0; issued = 0; committed = 0; skip = false }
+
+-- a crash "drops waiting stores, ends skips and starts counts afresh"
+abbrev pub crashedT : Thread → Thread
+crashedT t = fresh
+
+-- ---- in the tables
+
 abbrev pub bit : Bool → ℕ
 bit b = b gives 1 else 0
 
--- thread t's state, where the rows of the threads stand one after the other
+-- number k of thread t's row
+abbrev pub ofThread : List ℕ → ℕ → ℕ → ℕ
+ofThread tables t k = getD tables (threadCell t k) 0
+
+-- the tables with v there
+abbrev pub putThread : List ℕ → ℕ → ℕ → ℕ → List ℕ
+putThread tables t k v = set tables (threadCell t k) v
+
+-- thread t's state
 unfoldable pub threadOf : List ℕ → ℕ → Thread
-threadOf rows t =
+threadOf tables t =
     record {
-      oldest = getRow rows (suc t) 8;
-      newest = getRow rows (suc t) 9;
-      issued = getRow rows (suc t) 10;
-      committed = getRow rows (suc t) 11;
-      skip = not (eqb (getRow rows (suc t) 12) 0);
+      oldest = ofThread tables t 8;
+      newest = ofThread tables t 9;
+      issued = ofThread tables t 10;
+      committed = ofThread tables t 11;
+      skip = not (eqb (ofThread tables t 12) 0);
     }
 
 -- a queue that is not empty has this oldest store
 abbrev pub KeepsOldest : List ℕ → ℕ → ℕ → Type 0
-KeepsOldest rows t oldest = getRow rows (suc t) 8 ≢ 0 → oldest ≡ getRow rows (suc t) 8
+KeepsOldest tables t oldest = ofThread tables t 8 ≢ 0 → oldest ≡ ofThread tables t 8
 
--- the rows with what an issue changes in thread t's state
+abbrev pub putOldest : List ℕ → ℕ → ℕ → List ℕ
+putOldest tables t oldest = putThread tables t 8 oldest
+
+-- the tables with what an issue changes in thread t's state
 unfoldable pub putIssued : List ℕ → ℕ → Thread → List ℕ
-putIssued rows t s =
-    let with-oldest = putRow rows (suc t) 8 (s .oldest) in
-    let with-newest = putRow with-oldest (suc t) 9 (s .newest) in
-    putRow with-newest (suc t) 10 (s .issued)
+putIssued tables t s = putThread (putThread (putOldest tables t (s .oldest)) t 9 (s .newest)) t 10 (s .issued)
 
 -- with what a commit changes
 unfoldable pub putCommitted : List ℕ → ℕ → Thread → List ℕ
-putCommitted rows t s = putRow (putRow rows (suc t) 8 (s .oldest)) (suc t) 11 (s .committed)
+putCommitted tables t s = putThread (putThread tables t 8 (s .oldest)) t 11 (s .committed)
 
--- and with what a skip changes
+-- with what a skip changes
 unfoldable pub putSkip : List ℕ → ℕ → Thread → List ℕ
-putSkip rows t s = putRow rows (suc t) 12 (bit (s .skip))
+putSkip tables t s = putThread tables t 12 (bit (s .skip))
+
+-- thread t has seen nothing of threads 0 to u - 1
+unfoldable pub unseen : ℕ → List ℕ → ℕ → List ℕ
+unseen zero tables t = tables
+unseen (suc u) tables t = putThread (unseen u tables t) t u 0
+
+-- thread t has seen nothing, and its state is s: what a crash changes
+unfoldable pub restarted : List ℕ → ℕ → Thread → List ℕ
+restarted tables t s =
+    let with-oldest = putThread (unseen 8 tables t) t 8 (s .oldest) in
+    let with-newest = putThread with-oldest t 9 (s .newest) in
+    let with-issued = putThread with-newest t 10 (s .issued) in
+    putSkip (putThread with-issued t 11 (s .committed)) t s

@@ -1,77 +1,91 @@
--- What turns an event away, and which loads count, read off the machine's state and the work area. 0: it passes.
-use Prim.Native.Nat.{ℕ}
-use mathlib.Core.Bool.{Bool, _&&_, not}
+-- What turns an event away, and which loads count, read off the machine's state and tables. 0: it passes.
+use Prim.Native.Nat.{ℕ, _+_, _≤_, _<_}
+use mathlib.Core.Bool.{Bool, false, _&&_, not}
 use lib.Dec.{eqb, leb, ltb}
 use Rattle.record.specs.declared.events.Event.{Event}
 use Rattle.record.specs.declared.events.Fields.{Fields}
 use Rattle.record.specs.Tests.{_gives_else_}
 use Rattle.record.specs.Events.{kindOf}
 use Rattle.record.specs.Fields.{fieldsOf}
+use Rattle.machine.specs.declared.threads.Thread.{Thread}
+use Rattle.machine.specs.declared.state.Machine.{Machine}
 use Rattle.machine.specs.Arms.{byKind}
 use Rattle.machine.specs.Twin.{State, World, threadAt, crossingW, fitsW}
 
+-- what a step asks of its caller: the begin's numbers are in range, and `row` is where a row begins, or behind the last
+-- row of the work area, which has `size` numbers
+pub record Fits (m : Machine) (row size : ℕ) : Type 0 where
+  pub few-threads : m .threads ≤ 8
+  pub few-locations : m .locations ≤ 256
+  pub room : 32768 ≤ size
+  pub inside : row < 32768 → row + 16 ≤ 32768
+
 -- ---- the kinds' own rules
 
--- the queue of thread t is empty
-abbrev pub emptyM : State → ℕ → Bool
-emptyM m t = eqb (threadAt m t .issued) (threadAt m t .committed)
+-- the queue is empty
+abbrev pub empty : Thread → Bool
+empty own = eqb (own .issued) (own .committed)
 
 abbrev pub loadRule : World → ℕ → ℕ → ℕ → ℕ
 loadRule w t x s = fitsW w t x s gives 0 else 9
 
-abbrev pub commitRule : State → ℕ → ℕ
-commitRule m t = emptyM m t gives 10 else 0
+abbrev pub commitRule : World → ℕ → ℕ
+commitRule w t = empty (threadAt w t) gives 10 else 0
 
 -- of a fence, kind 7 or 8: an mfence, 8, needs an empty queue
-abbrev pub fenceRule : State → ℕ → ℕ → ℕ
-fenceRule m kind t = eqb kind 7 gives 0 else emptyM m t gives 0 else 11
+abbrev pub fenceBy : ℕ → Thread → ℕ
+fenceBy kind own = eqb kind 7 gives 0 else empty own gives 0 else 11
+
+abbrev pub fenceRule : World → ℕ → ℕ → ℕ
+fenceRule w kind t = fenceBy kind (threadAt w t)
 
 abbrev pub crashRule : State → ℕ
-crashRule m = eqb (m .stretch) 8 gives 13 else 0
+crashRule st = leb 32768 (st .row) gives 13 else eqb (st .stretch) 8 gives 13 else 0
 
 -- of a skip on or off, kind 10 or 11, by a thread that is in a skip or not
 abbrev pub skipBy : ℕ → Bool → ℕ
 skipBy kind skip = eqb kind 10 gives (skip gives 12 else 0) else (skip gives 0 else 12)
 
-abbrev pub skipRule : State → ℕ → ℕ → ℕ
-skipRule m kind t = skipBy kind (threadAt m t .skip)
+abbrev pub skipRule : World → ℕ → ℕ → ℕ
+skipRule w kind t = skipBy kind (threadAt w t .skip)
 
--- ---- the rules that kinds share, of event e, with the number r of a later rule
+-- ---- the rules that kinds share, of the event whose row begins at `row`
 
-abbrev pub timeRule : ℕ → ℕ → ℕ
-timeRule e r = ltb 2048 e gives 13 else r
+abbrev pub threadFits : ℕ → ℕ → ℕ → Bool
+threadFits threads row t = leb 32768 row gives false else ltb t threads
 
-abbrev pub threadRule : ℕ → ℕ → ℕ → ℕ → ℕ
-threadRule threads e t r = timeRule e (leb 8 t gives 7 else leb threads t gives 7 else r)
+abbrev pub placeFits : ℕ → ℕ → ℕ → ℕ → ℕ → Bool
+placeFits threads locations row t x = threadFits threads row t gives ltb x locations else false
 
-abbrev pub placeRule : ℕ → ℕ → ℕ → ℕ → ℕ → ℕ → ℕ
-placeRule threads locations e t x r = threadRule threads e t (leb 256 x gives 8 else leb locations x gives 8 else r)
+-- the first of the rules that is broken, where one is
+abbrev pub placeRefusal : ℕ → ℕ → ℕ → ℕ
+placeRefusal threads row t = leb 32768 row gives 13 else leb threads t gives 7 else 8
 
-abbrev pub inTime : State → ℕ → ℕ
-inTime m r = timeRule (m .event) r
-
+-- with the number r of a later rule
 abbrev pub onThread : State → ℕ → ℕ → ℕ
-onThread m t r = threadRule (m .threads) (m .event) t r
+onThread st t r =
+    threadFits (st .threads) (st .row) t gives r else placeRefusal (st .threads) (st .row) t
 
 abbrev pub onPlace : State → ℕ → ℕ → ℕ → ℕ
-onPlace m t x r = placeRule (m .threads) (m .locations) (m .event) t x r
+onPlace st t x r =
+    placeFits (st .threads) (st .locations) (st .row) t x gives r else placeRefusal (st .threads) (st .row) t
 
 -- ---- the answers
 
 -- by the kind
 unfoldable pub refusalK : World → ℕ → Fields → ℕ
 refusalK w k f =
-    let m = w .state in
+    let st = w .state in
     let t = f .thread in
     let x = f .location in
     byKind k
-    (onPlace m t x 0)
-    (onThread m t (commitRule m t))
-    (onPlace m t x (loadRule w t x (f .source)))
-    (onPlace m t x 0)
-    (onThread m t (fenceRule m k t))
-    (inTime m (crashRule m))
-    (onThread m t (skipRule m k t))
+    (onPlace st t x 0)
+    (onThread st t (commitRule w t))
+    (onPlace st t x (loadRule w t x (f .source)))
+    (onPlace st t x 0)
+    (onThread st t (fenceRule w k t))
+    (crashRule st)
+    (onThread st t (skipRule w k t))
     5
 
 -- what turns the next event away, after the first
@@ -98,7 +112,7 @@ beginRefusal e = beginK (kindOf e) (fieldsOf e)
 
 -- a load by thread t at location x is crossing, and the thread is in no skip
 abbrev pub countedW : World → ℕ → ℕ → Bool
-countedW w t x = crossingW w t x && not (threadAt (w .state) t .skip)
+countedW w t x = crossingW w t x && not (threadAt w t .skip)
 
 -- the event is a counted load
 unfoldable pub countsK : World → ℕ → Fields → Bool

@@ -1,42 +1,37 @@
-// What turns an event away, by document 01's numbers and in its order, and the searches of the load rule. 0: the event
-// passes.
+// What turns an event away, by document 01's numbers and in its order, and the searches of the load rule. First it is
+// asked whether an event passes, and only then by which number it does not: a rule that answers its number at once is
+// slower.
 ghost use mathlib.Core.Path.{_≡_};
-ghost use Rattle.machine.specs.Twin.{waitingIn, currentIn, pastIn, acrossIn};
-ghost use Rattle.machine.specs.Turning.{skipBy, threadRule, placeRule, beginRule, beginK};
+ghost use mathlib.Core.Bool.{true};
+ghost use Prim.Native.Nat.{_<_};
+ghost use Rattle.machine.specs.Twin.{waitingIn, pastIn, acrossIn};
+ghost use Rattle.machine.specs.Turning.{threadFits, placeFits, placeRefusal, fenceBy, skipBy, beginRule, beginK};
 use crate::state::Machine;
+use crate::tables;
+use crate::tables::Tables;
 use crate::threads;
+use crate::threads::Thread;
 use record::Fields;
 
 // ---- the load rule
 
 // The newest waiting store of thread t at location x, 0 if there is none: the thread's newest store there, unless the
 // oldest that waits came later.
-pub(crate) fn waiting(rows: &[u16], work: &[u16], t: u16, x: u16) -> u16
-    ensures { λ r. ⌜ r ≡ waitingIn (now (rows .entry)) (now (work .entry)) t x ⌝ }
+pub(crate) fn waiting(tables: &Tables, t: u16, x: u16) -> u16
+    requires { ⌜ (t < 8) × (x < 256) ⌝ }
+    ensures { λ r. ⌜ r ≡ waitingIn (now (tables .entry)) t x ⌝ }
 {
-    let own = threads::thread_of(rows, t);
+    let own = threads::thread_of(tables, t);
     if own.oldest == 0 {
         return 0;
     }
-    let p = area::newest_get(work, x, t);
+    let p = tables[tables::newest(x, t)];
     if own.oldest <= p { p } else { 0 }
 }
 
-// The last store committed at location x in the stretch, 0 if there is none.
-pub(crate) fn current(m: Machine, work: &[u16], x: u16) -> u16
-    ensures { λ r. ⌜ r ≡ currentIn (m .stretch) (now (work .entry)) x ⌝ }
-{
-    let p = area::slot_get(work, area::slots::last(x));
-    if area::row_get(work, p, 10) == m.stretch {
-        p
-    } else {
-        0
-    }
-}
-
 // Store s is to location x and committed in an earlier stretch.
-fn past(m: Machine, work: &[u16], x: u16, s: u16) -> bool
-    ensures { λ r. ⌜ r ≡ pastIn (m .stretch) (now (work .entry)) x s ⌝ }
+fn past(m: Machine, tables: &Tables, work: &[u16], x: u16, s: u16) -> bool
+    ensures { λ r. ⌜ r ≡ pastIn (m .stretch) (now (tables .entry)) (now (work .entry)) x s ⌝ }
 {
     let j = area::row_get(work, s, 10);
     let t = area::row_get(work, s, 8);
@@ -49,50 +44,75 @@ fn past(m: Machine, work: &[u16], x: u16, s: u16) -> bool
     if area::row_get(work, s, 9) != x {
         return false;
     }
-    area::row_get(work, s, t) <= area::slot_get(work, area::slots::commits(j, t))
+    area::row_get(work, s, t) <= tables[tables::commits(j, t)]
 }
 
-// A crossing load at location x may have source s: none, that of the last counted load there, or another store of an
-// earlier stretch. The second is the third too; it is asked first since it is cheap.
-pub(crate) fn fits_across(m: Machine, work: &[u16], x: u16, s: u16) -> bool
-    ensures { λ r. ⌜ r ≡ acrossIn (m .stretch) (now (work .entry)) x s ⌝ }
+// A crossing load at location x, whose row begins at `row`, may have source s: none, or an earlier event that is a
+// store to x, committed in an earlier stretch.
+pub(crate) fn fits_across(
+    m: Machine,
+    row: usize,
+    tables: &Tables,
+    work: &[u16],
+    x: u16,
+    s: u16,
+) -> bool
+    ensures { λ r. ⌜ r ≡ acrossIn (m .stretch) row (now (tables .entry)) (now (work .entry)) x s ⌝ }
 {
     if s == 0 {
         return true;
     }
-    if s == area::slot_get(work, area::slots::load_source(x)) {
-        return true;
+    if row < 16 * (s as usize) {
+        return false;
     }
-    past(m, work, x, s)
+    past(m, tables, work, x, s)
 }
 
 // ---- the rules that kinds share
 
-// 13: "event 2,049"; 7: "no such thread". No begin has more than eight threads.
-pub(crate) fn thread_rule(m: Machine, e: usize, t: u16) -> u16
-    ensures { λ r. ⌜ r ≡ threadRule (m .threads) e t 0 ⌝ }
+// The event whose row begins at `row` is at most the 2,048th, and there is such a thread.
+pub(crate) fn thread_fits(m: Machine, row: usize, t: u16) -> bool
+    ensures { λ r. ⌜ r ≡ threadFits (m .threads) row t ⌝ }
+    ensures { λ r. ⌜ (r ≡ true → (row < 32768) × (t < m .threads)) ⌝ }
 {
-    if 2048 < e {
-        return 13;
+    if 32768 <= row {
+        return false;
     }
-    if 8 <= t {
-        return 7;
-    }
-    if m.threads <= t { 7 } else { 0 }
+    t < m.threads
 }
 
-// 13, 7, or 8: "no such location". No begin has more than 256 locations.
-pub(crate) fn place_rule(m: Machine, e: usize, t: u16, x: u16) -> u16
-    ensures { λ r. ⌜ r ≡ placeRule (m .threads) (m .locations) e t x 0 ⌝ }
+// And there is such a location.
+pub(crate) fn place_fits(m: Machine, row: usize, t: u16, x: u16) -> bool
+    ensures { λ r. ⌜ r ≡ placeFits (m .threads) (m .locations) row t x ⌝ }
+    ensures { λ r. ⌜ (r ≡ true → (row < 32768) × (t < m .threads) × (x < m .locations)) ⌝ }
 {
-    let k = thread_rule(m, e, t);
-    if k != 0 {
-        return k;
+    if !thread_fits(m, row, t) {
+        return false;
     }
-    if 256 <= x {
-        return 8;
+    x < m.locations
+}
+
+// What turns an event away for which one of these tests failed: 13: "event 2,049"; 7: "no such thread"; 8: "no such
+// location".
+pub(crate) fn place_refusal(m: Machine, row: usize, t: u16) -> u16
+    ensures { λ r. ⌜ r ≡ placeRefusal (m .threads) row t ⌝ }
+{
+    if 32768 <= row {
+        return 13;
     }
-    if m.locations <= x { 8 } else { 0 }
+    if m.threads <= t { 7 } else { 8 }
+}
+
+// ---- fences
+
+// 11: "mfence, queue not empty". An sfence, kind 7, has no rule of its own.
+pub(crate) fn fence_rule(kind: u16, own: Thread) -> u16
+    ensures { λ r. ⌜ r ≡ fenceBy kind own ⌝ }
+{
+    if kind == 7 {
+        return 0;
+    }
+    if own.issued == own.committed { 0 } else { 11 }
 }
 
 // ---- skips

@@ -1,7 +1,7 @@
 // The machine's state by value: the stretch, and what the begin said. And what an event makes of it.
 ghost use mathlib.Core.Path.{_≡_};
 ghost use mathlib.Core.Bool.{false};
-ghost use Rattle.machine.specs.Twin.{crashedM};
+ghost use Rattle.machine.specs.Twin.{nextStretch};
 
 pub struct Machine {
     pub stretch: u16,
@@ -11,7 +11,7 @@ pub struct Machine {
 
 // After an event: the stretch, refusal 0, and whether the event is a counted load. Or the number of what turns the
 // event away, with the stretch as it was. The rest of the state is the caller's to keep: threads and locations stay,
-// and an event that passes is followed by the next number.
+// and an event that passes is followed by the next row.
 pub struct Step {
     pub stretch: u16,
     pub refusal: u16,
@@ -19,9 +19,9 @@ pub struct Step {
 }
 
 impl Machine {
-    // After a crash.
-    pub(crate) fn crash(mut self) -> Machine
-        ensures { λ r. ⌜ r ≡ crashedM self ⌝ }
+    // In the stretch after this one.
+    pub(crate) fn next_stretch(mut self) -> Machine
+        ensures { λ r. ⌜ r ≡ nextStretch self ⌝ }
     {
         self.stretch = area::numbers::next_number(self.stretch);
         self

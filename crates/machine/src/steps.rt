@@ -1,210 +1,230 @@
-// What an event does. Each function makes the tests of its kind, in document 01's order, and turns the event away by
-// the first that fails; else it takes the step. An event that is turned away changes nothing.
+// The steps: each function makes the tests of its kind, in document 01's order, and turns the event away by the first
+// that fails; else the event takes effect. An event that is turned away changes nothing. `row` is where the event's row
+// begins: the caller sees to it that it is a row's begin, and that the begin's numbers are in range (`Fits`).
 ghost use mathlib.Core.Path.{_≡_};
 ghost use mathlib.Core.List.{List};
-ghost use Prim.Native.Nat.{ℕ};
-ghost use Rattle.machine.specs.Twin.{stateOf, world};
-ghost use Rattle.machine.specs.Effects.{finishedWork};
+ghost use Prim.Native.Nat.{ℕ, _<_};
+ghost use lib.ListN.{length};
+ghost use Rattle.machine.specs.Twin.{stateOf, world, admits, admitted};
+ghost use Rattle.machine.specs.Turning.{Fits};
 ghost use Rattle.machine.specs.Outcomes.{outcome, issueO, commitO, onlyO, acrossO, loadO, flushO, fenceO};
 ghost use Rattle.machine.specs.Outcomes.{crashO, skipO, stepO};
-use crate::clocks;
+use crate::effects;
 use crate::rules;
 use crate::state::Machine;
 use crate::state::Step;
+use crate::tables;
+use crate::tables::Tables;
 use crate::threads;
 use record::Fields;
 
-// "the store joins its thread's queue": its row, the link of the store before it, and the newest store at the location.
-fn issue(m: Machine, e: usize, rows: &mut [u16], work: &mut [u16], t: u16, x: u16) -> Step
-    ensures { λ r. ⌜ (outcome m e r (now (rows .exit)) (now (work .exit))
-        ≡ issueO (world (stateOf m e (now (rows .entry))) (now (work .entry))) t x) ⌝ }
+fn issue(m: Machine, row: usize, tables: &mut Tables, work: &mut [u16], t: u16, x: u16) -> Step
+    requires { ⌜ Fits m row (length (now work)) ⌝ }
+    ensures { λ r. ⌜ (outcome m row r (now (tables .exit)) (now (work .exit))
+        ≡ issueO (world (stateOf m row) (now (tables .entry)) (now (work .entry))) t x) ⌝ }
 {
-    let k = rules::place_rule(m, e, t, x);
-    if k != 0 {
-        return m.refuse(k);
+    if !rules::place_fits(m, row, t, x) {
+        return m.refuse(rules::place_refusal(m, row, t));
     }
-    let store = e as u16;
-    let old = threads::thread_of(rows, t);
-    let new = old.issue(store);
-    area::row_put(work, old.newest, 11, store);
-    clocks::write_row(rows, t, work, e, new.issued, x, m.stretch);
-    threads::put_issued(rows, t, new);
-    area::newest_put(work, x, t, store);
+    effects::issue(tables, work, row, t, x, m.stretch);
     m.pass(false)
 }
 
-// "the oldest waiting store of the thread takes effect": it heads its location's chain of committed stores. 10:
-// "commit, empty queue".
-fn commit(m: Machine, e: usize, rows: &mut [u16], work: &mut [u16], t: u16) -> Step
-    ensures { λ r. ⌜ (outcome m e r (now (rows .exit)) (now (work .exit))
-        ≡ commitO (world (stateOf m e (now (rows .entry))) (now (work .entry))) t) ⌝ }
+// 10: "commit, empty queue".
+fn commit(m: Machine, row: usize, tables: &mut Tables, work: &mut [u16], t: u16) -> Step
+    requires { ⌜ Fits m row (length (now work)) ⌝ }
+    ensures { λ r. ⌜ (outcome m row r (now (tables .exit)) (now (work .exit))
+        ≡ commitO (world (stateOf m row) (now (tables .entry)) (now (work .entry))) t) ⌝ }
 {
-    let k = rules::thread_rule(m, e, t);
-    if k != 0 {
-        return m.refuse(k);
+    if !rules::thread_fits(m, row, t) {
+        return m.refuse(rules::place_refusal(m, row, t));
     }
-    let old = threads::thread_of(rows, t);
-    if old.issued == old.committed {
+    let own = threads::thread_of(tables, t);
+    if own.issued == own.committed {
         return m.refuse(10);
     }
-    let p = old.oldest;
-    let x = area::row_get(work, p, 9);
-    let next = area::row_get(work, p, 11);
-    let link = area::slot_get(work, area::slots::last(x));
-    let new = old.commit(next);
-    area::row_put(work, p, 14, link);
-    area::slot_put(work, area::slots::last(x), p);
-    threads::put_committed(rows, t, new);
+    effects::commit(tables, work, row, t, m.stretch);
     m.pass(false)
 }
 
-// A load whose source must be store `only`, of the stretch: it brings the store's clock to its thread. 9: "source
-// against the load rule".
+// A load whose source must be store `only`, of the stretch. 9: "source against the load rule".
 fn load_only(
     m: Machine,
-    e: usize,
-    rows: &mut [u16],
-    work: &[u16],
+    row: usize,
+    tables: &mut Tables,
+    work: &mut [u16],
     t: u16,
     s: u16,
     only: u16,
 ) -> Step
-    ensures { λ r. ⌜ (outcome m e r (now (rows .exit)) (now (work .entry))
-        ≡ onlyO (world (stateOf m e (now (rows .entry))) (now (work .entry))) t s only) ⌝ }
+    requires { ⌜ Fits m row (length (now work)) × (row < 32768) × (t < 8) ⌝ }
+    ensures { λ r. ⌜ (outcome m row r (now (tables .exit)) (now (work .exit))
+        ≡ onlyO (world (stateOf m row) (now (tables .entry)) (now (work .entry))) t s only) ⌝ }
 {
     if s != only {
         return m.refuse(9);
     }
-    clocks::meet(rows, t, work, s);
+    effects::meet(tables, work, row, t, s);
     m.pass(false)
+}
+
+// A crossing load at location x may have source s, which is then noted: the source that is noted, or one that fits. The
+// first is one of the second too; it is asked first since that is cheap.
+fn admit(m: Machine, row: usize, tables: &mut Tables, work: &[u16], x: u16, s: u16) -> bool
+    requires { ⌜ x < 256 ⌝ }
+    ensures { λ r. ⌜ r ≡ admits (m .stretch) row (now (tables .entry)) (now (work .entry)) x s ⌝ }
+    ensures { λ _. ⌜ (now (tables .exit)
+        ≡ admitted (m .stretch) row (now (tables .entry)) (now (work .entry)) x s) ⌝ }
+{
+    if s == tables[tables::source(x)] {
+        return true;
+    }
+    if !rules::fits_across(m, row, tables, work, x, s) {
+        return false;
+    }
+    tables[tables::source(x)] = s;
+    true
 }
 
 // A crossing load, which brings no clock. It counts if its thread is in no skip.
-fn load_across(m: Machine, e: usize, rows: &[u16], work: &[u16], t: u16, x: u16, s: u16) -> Step
-    ensures { λ r. ⌜ (outcome m e r (now (rows .entry)) (now (work .entry))
-        ≡ acrossO (world (stateOf m e (now (rows .entry))) (now (work .entry))) t x s) ⌝ }
+fn load_across(
+    m: Machine,
+    row: usize,
+    tables: &mut Tables,
+    work: &mut [u16],
+    t: u16,
+    x: u16,
+    s: u16,
+) -> Step
+    requires { ⌜ Fits m row (length (now work)) × (row < 32768) × (t < 8) × (x < 256) ⌝ }
+    ensures { λ r. ⌜ (outcome m row r (now (tables .exit)) (now (work .exit))
+        ≡ acrossO (world (stateOf m row) (now (tables .entry)) (now (work .entry))) t x s) ⌝ }
 {
-    if !rules::fits_across(m, work, x, s) {
+    if !admit(m, row, tables, work, x, s) {
         return m.refuse(9);
     }
-    let own = threads::thread_of(rows, t);
+    area::no_store(work, row);
+    let own = threads::thread_of(tables, t);
     m.pass(!own.skip)
 }
 
-fn load(m: Machine, e: usize, rows: &mut [u16], work: &[u16], t: u16, x: u16, s: u16) -> Step
-    ensures { λ r. ⌜ (outcome m e r (now (rows .exit)) (now (work .entry))
-        ≡ loadO (world (stateOf m e (now (rows .entry))) (now (work .entry))) t x s) ⌝ }
+fn load(
+    m: Machine,
+    row: usize,
+    tables: &mut Tables,
+    work: &mut [u16],
+    t: u16,
+    x: u16,
+    s: u16,
+) -> Step
+    requires { ⌜ Fits m row (length (now work)) ⌝ }
+    ensures { λ r. ⌜ (outcome m row r (now (tables .exit)) (now (work .exit))
+        ≡ loadO (world (stateOf m row) (now (tables .entry)) (now (work .entry))) t x s) ⌝ }
 {
-    let k = rules::place_rule(m, e, t, x);
-    if k != 0 {
-        return m.refuse(k);
+    if !rules::place_fits(m, row, t, x) {
+        return m.refuse(rules::place_refusal(m, row, t));
     }
-    let p = rules::waiting(rows, work, t, x);
+    let p = rules::waiting(tables, t, x);
     if p != 0 {
-        return load_only(m, e, rows, work, t, s, p);
+        return load_only(m, row, tables, work, t, s, p);
     }
-    let q = rules::current(m, work, x);
-    if q != 0 {
-        return load_only(m, e, rows, work, t, s, q);
+    let q = tables[tables::last(x)];
+    if tables[tables::stretch(x)] == m.stretch {
+        return load_only(m, row, tables, work, t, s, q);
     }
-    load_across(m, e, rows, work, t, x, s)
+    load_across(m, row, tables, work, t, x, s)
 }
 
-fn flush(m: Machine, e: usize, t: u16, x: u16) -> Step
-    ensures { λ r. ⌜ ((rows l : List ℕ) → outcome m e r rows l ≡ flushO (world (stateOf m e rows) l) t x) ⌝ }
+fn flush(m: Machine, row: usize, work: &mut [u16], t: u16, x: u16) -> Step
+    requires { ⌜ Fits m row (length (now work)) ⌝ }
+    ensures { λ r. ⌜ ((tables : List ℕ) → outcome m row r tables (now (work .exit))
+        ≡ flushO (world (stateOf m row) tables (now (work .entry))) t x) ⌝ }
 {
-    let k = rules::place_rule(m, e, t, x);
-    if k != 0 {
-        return m.refuse(k);
+    if !rules::place_fits(m, row, t, x) {
+        return m.refuse(rules::place_refusal(m, row, t));
     }
+    area::no_store(work, row);
     m.pass(false)
 }
 
-// 11: "mfence, queue not empty". An sfence, kind 7, has no rule of its own.
-fn fence(m: Machine, e: usize, rows: &[u16], kind: u16, t: u16) -> Step
-    ensures { λ r. ⌜ ((l : List ℕ) → outcome m e r (now (rows .entry)) l
-        ≡ fenceO (world (stateOf m e (now (rows .entry))) l) kind t) ⌝ }
+// An sfence or mfence, kind 7 or 8.
+fn fence(m: Machine, row: usize, tables: &Tables, work: &mut [u16], kind: u16, t: u16) -> Step
+    requires { ⌜ Fits m row (length (now work)) ⌝ }
+    ensures { λ r. ⌜ (outcome m row r (now (tables .entry)) (now (work .exit))
+        ≡ fenceO (world (stateOf m row) (now (tables .entry)) (now (work .entry))) kind t) ⌝ }
 {
-    let k = rules::thread_rule(m, e, t);
+    if !rules::thread_fits(m, row, t) {
+        return m.refuse(rules::place_refusal(m, row, t));
+    }
+    let own = threads::thread_of(tables, t);
+    let k = rules::fence_rule(kind, own);
     if k != 0 {
         return m.refuse(k);
     }
-    if kind == 7 {
-        return m.pass(false);
-    }
-    let own = threads::thread_of(rows, t);
-    if own.issued == own.committed {
-        m.pass(false)
-    } else {
-        m.refuse(11)
-    }
+    area::no_store(work, row);
+    m.pass(false)
 }
 
-// The commits of each thread in stretch j, which a crash finishes, go to their table.
-fn note_commits(j: u16, rows: &[u16], work: &mut [u16])
-    ensures { λ _. ⌜ now (work .exit) ≡ finishedWork 8 j (now (rows .entry)) (now (work .entry)) ⌝ }
+// 13: "event 2,049, or eighth crash".
+fn crash(m: Machine, row: usize, tables: &mut Tables, work: &mut [u16]) -> Step
+    requires { ⌜ Fits m row (length (now work)) ⌝ }
+    ensures { λ r. ⌜ (outcome m row r (now (tables .exit)) (now (work .exit))
+        ≡ crashO (world (stateOf m row) (now (tables .entry)) (now (work .entry)))) ⌝ }
 {
-    let mut t: u16 = 0;
-    while t < 8 {
-        area::slot_put(
-            work,
-            area::slots::commits(j, t),
-            area::thread_get(rows, t, 11),
-        );
-        t += 1;
-    }
-}
-
-// "drops waiting stores, ends skips and starts counts afresh". 13: "eighth crash".
-fn crash(m: Machine, e: usize, rows: &mut [u16], work: &mut [u16]) -> Step
-    ensures { λ r. ⌜ (outcome m e r (now (rows .exit)) (now (work .exit))
-        ≡ crashO (world (stateOf m e (now (rows .entry))) (now (work .entry)))) ⌝ }
-{
-    if 2048 < e {
+    if 32768 <= row {
         return m.refuse(13);
     }
     if m.stretch == 8 {
         return m.refuse(13);
     }
-    note_commits(m.stretch, rows, work);
-    area::clear(rows);
-    let after = m.crash();
+    area::no_store(work, row);
+    effects::finish(tables, m.stretch);
+    let after = m.next_stretch();
     after.pass(false)
 }
 
 // A skip on or off, kind 10 or 11.
-fn skip(m: Machine, e: usize, rows: &mut [u16], kind: u16, t: u16) -> Step
-    ensures { λ r. ⌜ ((l : List ℕ) → outcome m e r (now (rows .exit)) l
-        ≡ skipO (world (stateOf m e (now (rows .entry))) l) kind t) ⌝ }
+fn skip(m: Machine, row: usize, tables: &mut Tables, work: &mut [u16], kind: u16, t: u16) -> Step
+    requires { ⌜ Fits m row (length (now work)) ⌝ }
+    ensures { λ r. ⌜ (outcome m row r (now (tables .exit)) (now (work .exit))
+        ≡ skipO (world (stateOf m row) (now (tables .entry)) (now (work .entry))) kind t) ⌝ }
 {
-    let k = rules::thread_rule(m, e, t);
+    if !rules::thread_fits(m, row, t) {
+        return m.refuse(rules::place_refusal(m, row, t));
+    }
+    let old = threads::thread_of(tables, t);
+    let k = rules::skip_rule(kind, old.skip);
     if k != 0 {
         return m.refuse(k);
     }
-    let old = threads::thread_of(rows, t);
-    let r = rules::skip_rule(kind, old.skip);
-    if r != 0 {
-        return m.refuse(r);
-    }
+    area::no_store(work, row);
     let new = old.with_skip(kind == 10);
-    threads::put_skip(rows, t, new);
+    threads::put_skip(tables, t, new);
     m.pass(false)
 }
 
 // A later event, by its kind and fields. 5: a begin.
-pub fn step(m: Machine, e: usize, rows: &mut [u16], work: &mut [u16], kind: u16, f: Fields) -> Step
-    ensures { λ r. ⌜ (outcome m e r (now (rows .exit)) (now (work .exit))
-        ≡ stepO (world (stateOf m e (now (rows .entry))) (now (work .entry))) kind f) ⌝ }
+pub fn step(
+    m: Machine,
+    row: usize,
+    tables: &mut Tables,
+    work: &mut [u16],
+    kind: u16,
+    f: Fields,
+) -> Step
+    requires { ⌜ Fits m row (length (now work)) ⌝ }
+    ensures { λ r. ⌜ (outcome m row r (now (tables .exit)) (now (work .exit))
+        ≡ stepO (world (stateOf m row) (now (tables .entry)) (now (work .entry))) kind f) ⌝ }
 {
     let t = f.thread;
     match kind {
-        2 => issue(m, e, rows, work, t, f.location),
-        3 => commit(m, e, rows, work, t),
-        4 => load(m, e, rows, work, t, f.location, f.source),
-        5..=6 => flush(m, e, t, f.location),
-        7..=8 => fence(m, e, rows, kind, t),
-        9 => crash(m, e, rows, work),
-        10..=11 => skip(m, e, rows, kind, t),
+        2 => issue(m, row, tables, work, t, f.location),
+        3 => commit(m, row, tables, work, t),
+        4 => load(m, row, tables, work, t, f.location, f.source),
+        5..=6 => flush(m, row, work, t, f.location),
+        7..=8 => fence(m, row, tables, work, kind, t),
+        9 => crash(m, row, tables, work),
+        10..=11 => skip(m, row, tables, work, kind, t),
         _ => m.refuse(5),
     }
 }

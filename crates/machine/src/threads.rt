@@ -1,10 +1,12 @@
 // A thread's state: its queue, its counts of the stretch, and whether it is in a skip, columns 8 to 12 of its row. The
 // methods hand the thread's new state back. The queue's stores are linked in the work area; here are its ends.
 ghost use mathlib.Core.Path.{_≡_};
-ghost use Prim.Native.Nat.{suc};
-ghost use Rattle.area.specs.Cells.{putRow};
-ghost use Rattle.machine.specs.Threads.{firstOf, bit, issuedT, committedT, skippedT, threadOf};
-ghost use Rattle.machine.specs.Threads.{KeepsOldest, putIssued, putCommitted, putSkip};
+ghost use Prim.Native.Nat.{_<_};
+ghost use Rattle.machine.specs.Threads.{firstOf, bit, issuedT, committedT, skippedT, crashedT, threadOf};
+ghost use Rattle.machine.specs.Threads.{KeepsOldest, putIssued, putCommitted, putSkip, putOldest};
+ghost use Rattle.machine.specs.Threads.{unseen, restarted};
+use crate::tables;
+use crate::tables::Tables;
 
 pub struct Thread {
     // The oldest waiting store, 0 if there is none; the newest store of the stretch, waiting or not.
@@ -54,53 +56,94 @@ impl Thread {
         self.skip = on;
         self
     }
+
+    // A crash "drops waiting stores, ends skips and starts counts afresh".
+    pub(crate) fn crash(mut self) -> Thread
+        ensures { λ r. ⌜ r ≡ crashedT self ⌝ }
+    {
+        self.oldest = 0;
+        self.newest = 0;
+        self.issued = 0;
+        self.committed = 0;
+        self.skip = false;
+        self
+    }
 }
 
 // Thread t's state.
-pub(crate) fn thread_of(rows: &[u16], t: u16) -> Thread
-    ensures { λ r. ⌜ r ≡ threadOf (now (rows .entry)) t ⌝ }
+pub(crate) fn thread_of(tables: &Tables, t: u16) -> Thread
+    requires { ⌜ t < 8 ⌝ }
+    ensures { λ r. ⌜ r ≡ threadOf (now (tables .entry)) t ⌝ }
 {
     Thread {
-        oldest: area::thread_get(rows, t, 8),
-        newest: area::thread_get(rows, t, 9),
-        issued: area::thread_get(rows, t, 10),
-        committed: area::thread_get(rows, t, 11),
-        skip: area::thread_get(rows, t, 12) != 0,
+        oldest: tables[tables::thread(t, 8)],
+        newest: tables[tables::thread(t, 9)],
+        issued: tables[tables::thread(t, 10)],
+        committed: tables[tables::thread(t, 11)],
+        skip: tables[tables::thread(t, 12)] != 0,
     }
 }
 
 // The oldest waiting store becomes this one. That of a queue that is not empty is this one already, and stays.
-fn put_oldest(rows: &mut [u16], t: u16, oldest: u16)
-    requires { ⌜ KeepsOldest (now rows) t oldest ⌝ }
-    ensures { λ _. ⌜ now (rows .exit) ≡ putRow (now (rows .entry)) (suc t) 8 oldest ⌝ }
+fn put_oldest(tables: &mut Tables, t: u16, oldest: u16)
+    requires { ⌜ (t < 8) × KeepsOldest (now tables) t oldest ⌝ }
+    ensures { λ _. ⌜ now (tables .exit) ≡ putOldest (now (tables .entry)) t oldest ⌝ }
 {
-    if area::thread_get(rows, t, 8) != 0 {
+    if tables[tables::thread(t, 8)] != 0 {
         return;
     }
-    area::thread_put(rows, t, 8, oldest);
+    tables[tables::thread(t, 8)] = oldest;
 }
 
-// It becomes this one: what an issue changes.
-pub(crate) fn put_issued(rows: &mut [u16], t: u16, s: Thread)
-    requires { ⌜ KeepsOldest (now rows) t (s .oldest) ⌝ }
-    ensures { λ _. ⌜ now (rows .exit) ≡ putIssued (now (rows .entry)) t s ⌝ }
+// Thread t's state becomes s: what an issue changes of it.
+pub(crate) fn put_issued(tables: &mut Tables, t: u16, s: Thread)
+    requires { ⌜ (t < 8) × KeepsOldest (now tables) t (s .oldest) ⌝ }
+    ensures { λ _. ⌜ now (tables .exit) ≡ putIssued (now (tables .entry)) t s ⌝ }
 {
-    put_oldest(rows, t, s.oldest);
-    area::thread_put(rows, t, 9, s.newest);
-    area::thread_put(rows, t, 10, s.issued);
+    put_oldest(tables, t, s.oldest);
+    tables[tables::thread(t, 9)] = s.newest;
+    tables[tables::thread(t, 10)] = s.issued;
 }
 
 // What a commit changes.
-pub(crate) fn put_committed(rows: &mut [u16], t: u16, s: Thread)
-    ensures { λ _. ⌜ now (rows .exit) ≡ putCommitted (now (rows .entry)) t s ⌝ }
+pub(crate) fn put_committed(tables: &mut Tables, t: u16, s: Thread)
+    requires { ⌜ t < 8 ⌝ }
+    ensures { λ _. ⌜ now (tables .exit) ≡ putCommitted (now (tables .entry)) t s ⌝ }
 {
-    area::thread_put(rows, t, 8, s.oldest);
-    area::thread_put(rows, t, 11, s.committed);
+    tables[tables::thread(t, 8)] = s.oldest;
+    tables[tables::thread(t, 11)] = s.committed;
 }
 
 // What a skip changes.
-pub(crate) fn put_skip(rows: &mut [u16], t: u16, s: Thread)
-    ensures { λ _. ⌜ now (rows .exit) ≡ putSkip (now (rows .entry)) t s ⌝ }
+pub(crate) fn put_skip(tables: &mut Tables, t: u16, s: Thread)
+    requires { ⌜ t < 8 ⌝ }
+    ensures { λ _. ⌜ now (tables .exit) ≡ putSkip (now (tables .entry)) t s ⌝ }
 {
-    area::thread_put(rows, t, 12, bit(s.skip));
+    tables[tables::thread(t, 12)] = bit(s.skip);
+}
+
+// Thread t has seen nothing.
+fn forget_seen(tables: &mut Tables, t: u16)
+    requires { ⌜ t < 8 ⌝ }
+    ensures { λ _. ⌜ now (tables .exit) ≡ unseen 8 (now (tables .entry)) t ⌝ }
+{
+    let from = tables::thread(t, 0);
+    let mut u: usize = 0;
+    while u < 8 {
+        tables[from + u] = 0;
+        u += 1;
+    }
+}
+
+// What a crash changes: thread t has seen nothing, and all of its state is s.
+pub(crate) fn restart(tables: &mut Tables, t: u16, s: Thread)
+    requires { ⌜ t < 8 ⌝ }
+    ensures { λ _. ⌜ now (tables .exit) ≡ restarted (now (tables .entry)) t s ⌝ }
+{
+    forget_seen(tables, t);
+    tables[tables::thread(t, 8)] = s.oldest;
+    tables[tables::thread(t, 9)] = s.newest;
+    tables[tables::thread(t, 10)] = s.issued;
+    tables[tables::thread(t, 11)] = s.committed;
+    put_skip(tables, t, s);
 }

@@ -4,26 +4,28 @@ use Prim.Native.Nat.{ℕ, zero, suc, _+_, _*_, _≤_, _<_}
 use native.Mathlib.Omega.{arith}
 use mathlib.Core.Path.{_≡_, refl, sym, _∙_, ap}
 use mathlib.Core.Bool.{Bool, true, false, _&&_}
-use mathlib.Core.Logic.{_⊎_, inl, inr, _≢_}
+use mathlib.Core.Logic.{_⊎_, inl, inr}
 use mathlib.Core.List.{List}
-use lib.Dec.{eqb}
-use borrow.Author.Tests.{eqb-true, eq-eqb, ltb-true, lt-ltb, leb-true, le-leb}
+use lib.Dec.{eqb, ltb}
+use borrow.Author.Tests.{eqb-true}
 use Rattle.record.specs.declared.events.Event.{Event}
 use Rattle.model.specs.Search.{bit, first, firstFrom}
 use Rattle.model.specs.Trace.{thread, stretch, place}
 use Rattle.model.specs.Rules.{Accepted}
 use Rattle.model.specs.Clocks.{vc}
-use Rattle.model.specs.Verdict.{forbidden?, observed?, pair?, missing?, bad?, missingOf, observedOf}
-use Rattle.model.proofs.Searching.{false-true, same?, both, parts, same-test, first-is}
+use Rattle.model.specs.Stores.{marked?}
+use Rattle.model.specs.Verdict.{forbidden?, observed?, pair?, missing?, bad?, closure, missingOf, observedOf}
+use Rattle.model.proofs.Searching.{false-true, test, parts, same-test, first-is, eqb-same}
+use Rattle.model.proofs.Acceptance.{event-bound}
+use Rattle.model.proofs.StorePlaces.{fails}
 use Rattle.model.proofs.Closure.{observed→, observed-is-kept}
-use Rattle.model.proofs.RulingSteps.{hit?, hit→, →hit, hit-is-missing, marked?}
+use Rattle.model.proofs.RulingSteps.{hit?, hit→, hit-is-missing}
 use Rattle.area.specs.Cells.{getRow}
 use Rattle.area.specs.Rows.{StoreRow, Rows}
-use Rattle.area.proofs.ReadBack.{row-zero}
-use Rattle.marks.specs.Marking.{ownIn}
+use Rattle.marks.specs.Marks.{Marks, flagIn}
 use Rattle.marks.specs.Testing.{inCut, isForbidden, isObserved, missingIn, observedIn, missingBy, observedBy}
-use Rattle.marks.proofs.Says.{Fit, fit-later, own-is, in-cut→, →in-cut}
-use Rattle.marks.proofs.Stepping.{Judging}
+use Rattle.marks.specs.Good.{Judging}
+use Rattle.marks.proofs.Says.{Fit, row, own-is, in-cut}
 use Rattle.marks.proofs.Breaking.{marked-fits}
 
 -- searches by tests that agree find the same
@@ -50,129 +52,82 @@ observed-bits true false = refl
 observed-bits false true = refl
 observed-bits false false = refl
 
--- over the first N events, whose loads the marks tell of; the rows may be those of more events
+eqb-turned : (a b : ℕ) → eqb a b ≡ eqb b a
+eqb-turned a b =
+    same-test _ _ (λ same. rw (eqb-true a b same) (eqb-same b)) (λ same. rw (eqb-true b a same) (eqb-same a))
+
 module _
-    (ev : ℕ → Event) (N M : ℕ) (accepted : Accepted ev N) (few : N ≤ 2049) (within : N ≤ M)
-    (w : List ℕ) (rows : Rows ev M w) (judging : Judging ev N w) where
-  -- a marked store, among the rows
-  marked-row : (p : ℕ) → marked? ev N p ≡ true → Fit ev M p
-  marked-row p marked = fit-later ev N M p within (marked-fits ev N accepted p marked)
+    (ev : ℕ → Event) (N : ℕ) (accepted : Accepted ev N) (l : List ℕ) (rows : Rows ev N l) (m : Marks)
+    (judging : Judging ev N m) where
+  flag-forbidden : (p : ℕ) → p ≤ 2048 → isForbidden (flagIn (m .flags) p) ≡ marked? ev N p
+  flag-forbidden p to-2048 =
+      ap isForbidden (judging .flags p to-2048) ∙ forbidden-bits (marked? ev N p) (observed? ev N p)
 
-  flag-forbidden : (p : ℕ) → 1 ≤ p → p ≤ 2048 → isForbidden (getRow w p 12) ≡ marked? ev N p
-  flag-forbidden p from-1 to-2048 =
-      ap isForbidden (judging .flags p from-1 to-2048) ∙ forbidden-bits (marked? ev N p) (observed? ev N p)
-
-  flag-observed : (q : ℕ) → 1 ≤ q → q ≤ 2048 → isObserved (getRow w q 12) ≡ observed? ev N q
-  flag-observed q from-1 to-2048 =
-      ap isObserved (judging .flags q from-1 to-2048) ∙ observed-bits (marked? ev N q) (observed? ev N q)
+  flag-observed : (q : ℕ) → q ≤ 2048 → isObserved (flagIn (m .flags) q) ≡ observed? ev N q
+  flag-observed q to-2048 =
+      ap isObserved (judging .flags q to-2048) ∙ observed-bits (marked? ev N q) (observed? ev N q)
 
   -- ---- missing
 
-  missing-is-hit : (p : ℕ) → p ≤ 2048 → missingIn w p ≡ hit? ev N p
-  missing-is-hit p to-2048 =
-      same-test _ _ (λ passes. to-hit (same? p 0) (parts (isForbidden (getRow w p 12)) _ passes)) from-hit
+  missing-is-hit : (p : ℕ) → p ≤ 2048 → missingIn l m p ≡ hit? ev N p
+  unfolding hit? marked?
+  missing-is-hit p to-2048 = rw (flag-forbidden p to-2048) (by-test (test (marked? ev N p)))
     where
-      to-hit :
-          (p ≡ 0) ⊎ (p ≢ 0) → (isForbidden (getRow w p 12) ≡ true) × (inCut w p ≡ true) → hit? ev N p ≡ true
-      to-hit (inl is-0) (forbidden, in-cut) =
-          let no-flag : getRow w p 12 ≡ 0 = ap (λ (e : ℕ). getRow w e 12) is-0 ∙ row-zero w 12 in
-          false-true (sym (ap isForbidden no-flag) ∙ forbidden)
-      to-hit (inr some) (forbidden, in-cut) =
-          let marked : marked? ev N p ≡ true = sym (flag-forbidden p (omega arith) to-2048) ∙ forbidden in
-          →hit ev N accepted p marked (in-cut→ ev M w rows p (marked-row p marked) judging in-cut)
+      by-test :
+          (marked? ev N p ≡ true) ⊎ (marked? ev N p ≡ false)
+          → (marked? ev N p && inCut l (m .counts) p) ≡ hit? ev N p
+      by-test (inl marked) =
+          let fit = marked-fits ev N accepted p marked in
+          let in-closure = in-cut ev N l rows p fit (marked? ev N) (observed? ev N) (closure ev N) m judging in
+          rw (marked, in-closure, parts (forbidden? ev N p) _ marked .0) refl
+      by-test (inr not-marked) =
+          let no-hit : hit? ev N p ≡ false =
+          fails _ (λ hit. false-true (sym not-marked ∙ hit→ ev N accepted p hit .0))
+          in
+          rw not-marked (sym no-hit)
 
-      from-hit : hit? ev N p ≡ true → missingIn w p ≡ true
-      from-hit hit =
-          let (marked, inside) = hit→ ev N accepted p hit in
-          let fit = marked-row p marked in
-          both _ _ (flag-forbidden p (fit .from-1) (fit .to-2048) ∙ marked)
-          (→in-cut ev M w rows p fit judging inside)
-
-  pub missing-is : missingBy w N ≡ missingOf ev N
+  pub missing-is : missingBy l m N ≡ missingOf ev N
   unfolding missingBy missingOf
   missing-is =
-      first-same N (missingIn w) (missing? ev N)
-      (λ p below. missing-is-hit p (omega arith) ∙ hit-is-missing ev N p accepted)
+      first-same N (missingIn l m) (missing? ev N)
+      (λ p below. missing-is-hit p (event-bound ev N accepted p below) ∙ hit-is-missing ev N p accepted)
 
   -- ---- observed
 
-  module _ (m : ℕ) (marked : marked? ev N m ≡ true) where
-    fit : Fit ev M m
-    fit = marked-row m marked
+  module _ (p : ℕ) (marked : marked? ev N p ≡ true) where
+    fit : Fit ev N p
+    fit = marked-fits ev N accepted p marked
 
-    row : StoreRow ev w m
-    row = rows .stores m (fit .early) (fit .store)
+    its-row : StoreRow ev l p
+    its-row = row ev N l rows p fit
 
-    -- the row of an observed store
-    record ObservedRow (q : ℕ) : Type 0 where
-      from-1 : 1 ≤ q
-      stretch-is : getRow w q 10 ≡ stretch ev q
-      clock-is : getRow w q (getRow w m 8) ≡ vc ev q (thread ev m)
-
-    observed-row : (q : ℕ) → observed? ev N q ≡ true → ObservedRow q
-    observed-row q passes =
-        let observed = observed→ ev N q passes in
-        let kept = observed-is-kept ev N accepted q observed in
-        let it = rows .stores q (omega (arith, kept .early)) (kept .store) in
-        record {
-          from-1 = positive q (observed .2 .some-store);
-          stretch-is = it .stretch-is;
-          clock-is = rw (row .thread-is) (it .clock-is (thread ev m) (fit .thread-below-8));
-        }
-      where
-        positive : (q : ℕ) → q ≢ 0 → 1 ≤ q
-        positive q some = omega arith
-
-    to-pair :
-        (q : ℕ) → q ≤ 2048 → (q ≡ 0) ⊎ (q ≢ 0) → isObserved (getRow w q 12) ≡ true
-        → getRow w q 10 ≡ getRow w m 10 → ownIn w m ≤ getRow w q (getRow w m 8) → pair? ev N m q ≡ true
+    observed-is-pair : (q : ℕ) → q ≤ 2048 → observedIn l (m .flags) p q ≡ pair? ev N p q
     unfolding pair? marked?
-    to-pair q to-2048 (inl is-0) flag in-stretch covers =
-        let no-flag : getRow w q 12 ≡ 0 = ap (λ (e : ℕ). getRow w e 12) is-0 ∙ row-zero w 12 in
-        false-true (sym (ap isObserved no-flag) ∙ flag)
-    to-pair q to-2048 (inr some) flag in-stretch covers =
-        let observed : observed? ev N q ≡ true = sym (flag-observed q (omega arith) to-2048) ∙ flag in
-        let it = observed-row q observed in
-        let forbidden = parts (forbidden? ev N m) _ marked .0 in
-        let same-stretch = eq-eqb (stretch ev m) (stretch ev q)
-        (sym (row .stretch-is) ∙ (sym in-stretch ∙ it .stretch-is))
-        in
-        both _ _ (both _ _ (both _ _ forbidden observed) same-stretch)
-        (lt-ltb (place ev m) (vc ev q (thread ev m)) (omega (arith, own-is ev M w rows m fit, it .clock-is)))
-
-    from-pair : (q : ℕ) → q ≤ 2048 → pair? ev N m q ≡ true → observedIn w m q ≡ true
-    unfolding pair?
-    from-pair q to-2048 passes =
-        let there = forbidden? ev N m && observed? ev N q in
-        let with-clock = parts (there && eqb (stretch ev m) (stretch ev q)) _ passes in
-        let with-stretch = parts there _ (with-clock .0) in
-        let observed = parts (forbidden? ev N m) _ (with-stretch .0) .1 in
-        let it = observed-row q observed in
-        let in-stretch : getRow w q 10 ≡ getRow w m 10 =
-        it .stretch-is ∙ (sym (eqb-true (stretch ev m) (stretch ev q) (with-stretch .1)) ∙ sym (row .stretch-is))
-        in
-        let covers : place ev m < vc ev q (thread ev m) = ltb-true _ _ (with-clock .1) in
-        both _ _ (both _ _ (flag-observed q (it .from-1) to-2048 ∙ observed) (eq-eqb _ _ in-stretch))
-        (le-leb (ownIn w m) (getRow w q (getRow w m 8)) (omega (arith, own-is ev M w rows m fit, it .clock-is)))
-
-    observed-is-pair : (q : ℕ) → q ≤ 2048 → observedIn w m q ≡ pair? ev N m q
-    observed-is-pair q to-2048 = same-test _ _ to from
+    observed-is-pair q to-2048 =
+        rw (flag-observed q to-2048, own-is ev N l rows p fit, parts (forbidden? ev N p) _ marked .0)
+        (by-test (test (observed? ev N q)))
       where
-        to : observedIn w m q ≡ true → pair? ev N m q ≡ true
-        to passes =
-            let flag-and-stretch = isObserved (getRow w q 12) && eqb (getRow w q 10) (getRow w m 10) in
-            let outer = parts flag-and-stretch _ passes in
-            let inner = parts (isObserved (getRow w q 12)) _ (outer .0) in
-            to-pair q to-2048 (same? q 0) (inner .0) (eqb-true _ _ (inner .1)) (leb-true _ _ (outer .1))
+        by-test :
+            (observed? ev N q ≡ true) ⊎ (observed? ev N q ≡ false)
+            → (observed? ev N q && eqb (getRow l q 10) (getRow l p 10) && ltb (place ev p) (getRow l q (getRow l p 8)))
+            ≡ (observed? ev N q && eqb (stretch ev p) (stretch ev q) && ltb (place ev p) (vc ev q (thread ev p)))
+        by-test (inr not-observed) = rw not-observed
+        by-test (inl observed) =
+            let kept = observed-is-kept ev N accepted q (observed→ ev N q observed) in
+            let q-row = rows .stores q (kept .early) (kept .store) in
+            rw (
+              its-row .thread-is,
+              its-row .stretch-is,
+              q-row .stretch-is,
+              q-row .clock-is (thread ev p) (fit .thread-below-8),
+              eqb-turned (stretch ev q) (stretch ev p),
+            )
 
-        from : pair? ev N m q ≡ true → observedIn w m q ≡ true
-        from = from-pair q to-2048
-
-  pub observed-is : bad? ev N ≡ true → observedBy w N (missingOf ev N) ≡ observedOf ev N
+  pub observed-is : bad? ev N ≡ true → observedBy l (m .flags) N (missingOf ev N) ≡ observedOf ev N
   unfolding observedBy observedOf missingOf bad?
   observed-is bad =
-      first-same N (observedIn w (missingOf ev N)) (pair? ev N (missingOf ev N))
-      (λ q below. observed-is-pair (missingOf ev N) marked q (omega arith))
+      first-same N (observedIn l (m .flags) (missingOf ev N)) (pair? ev N (missingOf ev N))
+      (λ q below. observed-is-pair (missingOf ev N) marked q (event-bound ev N accepted q below))
     where
       marked : marked? ev N (missingOf ev N) ≡ true
       marked =

@@ -1,6 +1,7 @@
--- Laws of the code's loops, and what the functions of specs/ mean for a trace.
+-- Laws of the code's loops (Turns), and what the functions of specs/ mean for a trace: the invariant of judging, its
+-- steps and its ends, which the judge cites, are in Held.
 pub mod Turns
-pub mod Frames
+pub mod Counts
 pub mod Says
 pub mod Walking
 pub mod Stepping
@@ -8,4 +9,4 @@ pub mod Breaking
 pub mod Finding
 pub mod Closing
 pub mod Noting
-pub mod Good
+pub mod Held

@@ -1,36 +1,41 @@
 -- What the marks say: the flags which stores are forbidden (F) and observed (O), the cut a choice (C), and the lowest
--- places those of F. Marking a store, and raising the cut, each change one of the three.
--- In order: flags and the lower of two places; a store whose row and slots are there; `Says`; a store in the cut, and
--- marking a store.
-use Prim.Native.Nat.{ℕ, suc, _+_, _*_, _≤_, _<_}
+-- places those of F. Marking a store adds it to F; observing one adds it to O and raises C to its clock.
+-- In order: flags; a store whose row and numbers are there; the same said otherwise; the lowest place of a thread; a
+-- store in the cut; marking a store; observing one.
+use Prim.Native.Nat.{ℕ, suc, _+_, _*_, _%_, _≤_, _<_, max}
 use native.Mathlib.Omega.{arith}
-use mathlib.Core.Path.{_≡_, refl, sym, _∙_, ap, ap₂}
-use mathlib.Core.Bool.{Bool, true, false, _||_}
+use mathlib.Core.Path.{_≡_, refl, sym, _∙_, ap, ap₂, subst, fun-ext}
+use mathlib.Core.Bool.{Bool, true, false, cond, _||_}
 use mathlib.Core.Logic.{_⊎_, inl, inr, _≢_}
 use mathlib.Core.List.{List}
-use lib.Dec.{eqb}
-use borrow.Author.Tests.{eqb-true, eq-eqb, ne-eqb, lt-ltb, le-ltb, leb-true, le-leb}
+use lib.ListN.{getD, set, length-set}
+use lib.Dec.{eqb, ltb}
+use lib.Seq.{getD-set-same, getD-set-other}
+use borrow.Author.Tests.{eqb-true, eq-eqb, ne-eqb, lt-ltb, le-ltb}
 use Rattle.record.specs.declared.events.Event.{Event}
 use Rattle.model.specs.Search.{bit}
 use Rattle.model.specs.Trace.{thread, Issue, stretch, place}
 use Rattle.model.specs.Rules.{Accepted}
-use Rattle.model.specs.Choice.{Choice, In}
+use Rattle.model.specs.Choice.{Choice}
+use Rattle.model.specs.Clocks.{vc}
 use Rattle.model.proofs.Searching.{same?, less?, or-cases, or-left, or-right, eqb-same}
+use Rattle.model.proofs.Counting.{stretch-else, earlier-stretch}
+use Rattle.model.proofs.Roles.{issue-no-crash}
 use Rattle.model.proofs.ClockSteps.{vc-own}
 use Rattle.model.proofs.Acceptance.{store-not-0, event-bound}
 use Rattle.model.proofs.Limits.{few-crashes}
 use Rattle.model.proofs.StorePlaces.{stretch-some}
 use Rattle.model.proofs.Ranges.{issue-has-thread, thread-bound}
 use Rattle.model.proofs.RulingSteps.{Over}
-use Rattle.area.specs.Cells.{getRow, putRow, cell, putCell}
-use Rattle.area.specs.Tables.{cutSlot, lowSlot}
+use Rattle.area.specs.Cells.{rowStart, getRow}
 use Rattle.area.specs.Rows.{StoreRow, Rows}
-use Rattle.area.proofs.ReadBack.{length-put, put-same, put-other}
-use Rattle.marks.specs.Marking.{forbid, observe, lower, putMark, ownIn, canMark, marked}
-use Rattle.marks.specs.Testing.{cutIn, inCut}
-use Rattle.marks.proofs.Turns.{can-mark}
+use Rattle.marks.specs.Marks.{Marks, marksOf, cutCell, lowCell, flagCell, countIn, flagIn}
+use Rattle.marks.specs.Marking.{forbid, observe, lower, ownIn, marked, raised, seenFrom}
+use Rattle.marks.specs.Testing.{inCut, markHits}
+use Rattle.marks.specs.Good.{PlaceOf, AtMost, Says}
+use Rattle.marks.proofs.Counts.{raised-size, raised-leaves, raised-there}
 
--- ---- flags, and the lower of two places
+-- ---- flags
 
 forbid-bits : (a b : Bool) → forbid (bit a + 2 * bit b) ≡ 1 + 2 * bit b
 forbid-bits true true = refl
@@ -38,301 +43,268 @@ forbid-bits true false = refl
 forbid-bits false true = refl
 forbid-bits false false = refl
 
-pub observe-bits : (a b : Bool) → observe (bit a + 2 * bit b) ≡ bit a + 2
+observe-bits : (a b : Bool) → observe (bit a + 2 * bit b) ≡ bit a + 2
 observe-bits true true = refl
 observe-bits true false = refl
 observe-bits false true = refl
 observe-bits false false = refl
 
--- r is the lower of new and of old, where old is 0 if there is none
-record Lower (old new r : ℕ) : Type 0 where
-  below-new : r ≤ new
-  below-old : old ≢ 0 → r ≤ old
-  is-one : (r ≡ new) ⊎ ((r ≡ old) × (old ≢ 0))
-
-lower-is : (old new : ℕ) → Lower old new (lower old new)
-lower-is old new = by-tests (same? old 0) (less? new old)
-  where
-    by-tests : (old ≡ 0) ⊎ (old ≢ 0) → (new < old) ⊎ (old ≤ new) → Lower old new (lower old new)
-    by-tests (inl none) order =
-        rw (eq-eqb old 0 none)
-        (record { below-new = omega arith; below-old = λ some. absurd (some none); is-one = inl refl })
-    by-tests (inr some) (inl less) =
-        rw (ne-eqb old 0 some, lt-ltb new old less)
-        (record { below-new = omega arith; below-old = λ also. omega arith; is-one = inl refl })
-    by-tests (inr some) (inr not-less) =
-        rw (ne-eqb old 0 some, le-ltb new old not-less)
-        (record { below-new = not-less; below-old = λ also. omega arith; is-one = inr (refl, some) })
-
-pub put-mark-in : (w : List ℕ) (i v : ℕ) → 256 ≤ i → i < 368 → putMark w i v ≡ putCell w i v
-unfolding putMark
-put-mark-in w i v from-256 below = rw (le-ltb i 256 from-256, le-ltb 367 i (omega arith))
-
 module _ (ev : ℕ → Event) where
-  -- ---- a store whose row and slots are there
+  -- ---- a store whose row and numbers are there
 
   pub record Fit (n p : ℕ) : Type 0 where
     pub store : Issue ev p
     pub early : p < n
     pub from-1 : 1 ≤ p
-    pub to-2048 : p ≤ 2048
+    pub to-2047 : p ≤ 2047
     pub stretch-from-1 : 1 ≤ stretch ev p
     pub stretch-to-7 : stretch ev p ≤ 7
     pub thread-below-8 : thread ev p < 8
 
-  -- a store of an accepted trace in a stretch that is over
+  -- a store of an accepted trace in a stretch that is over: a crash comes after it
   pub fits : (N n p : ℕ) → Accepted ev N → n ≤ N → Over ev n p → Fit n p
   fits N n p accepted within over = record {
     store = over .store;
     early = over .early;
     from-1 = positive p (store-not-0 ev N accepted (over .store));
-    to-2048 = event-bound ev N accepted p inside;
+    to-2047 = omega (arith, event-bound ev N accepted (suc p) (omega (arith, not-last)));
     stretch-from-1 = stretch-some ev p;
     stretch-to-7 = omega (arith, over .over, few-crashes ev N accepted n within);
-    thread-below-8 = thread-bound ev N accepted p inside (issue-has-thread ev (over .store));
+    thread-below-8 =
+        thread-bound ev N accepted p (omega (arith, over .early)) (issue-has-thread ev (over .store));
   }
     where
-      inside : p < N
-      inside = omega (arith, over .early)
+      not-last : suc p < n
+      not-last =
+          earlier-stretch ev (suc p) n (rw (stretch-else ev p (issue-no-crash ev (over .store))) (over .over))
 
       positive : (p : ℕ) → p ≢ 0 → 1 ≤ p
       positive p some = omega arith
 
-  pub fit-later : (n m p : ℕ) → n ≤ m → Fit n p → Fit m p
-  fit-later n m p within fit = record {
-    store = fit .store;
-    early = omega (arith, fit .early);
-    from-1 = fit .from-1;
-    to-2048 = fit .to-2048;
-    stretch-from-1 = fit .stretch-from-1;
-    stretch-to-7 = fit .stretch-to-7;
-    thread-below-8 = fit .thread-below-8;
-  }
+  -- ---- the same said otherwise
 
-  -- ---- what the marks say
-
-  -- m is one more than the place of a store of F in stretch j and thread t
-  pub record PlaceOf (F : ℕ → Bool) (j t m : ℕ) : Type 0 where
-    pub p : ℕ
-    pub in-f : F p ≡ true
-    pub in-j : stretch ev p ≡ j
-    pub by-t : thread ev p ≡ t
-    pub is-it : m ≡ suc (place ev p)
-
-  -- m is one more than a place that is not above store p's
-  pub record AtMost (m p : ℕ) : Type 0 where
-    pub some : 1 ≤ m
-    pub at-most : m ≤ suc (place ev p)
-
-  pub record Says (F O : ℕ → Bool) (C : Choice) (w : List ℕ) : Type 0 where
-    pub flags : (e : ℕ) → 1 ≤ e → e ≤ 2048 → getRow w e 12 ≡ bit (F e) + 2 * bit (O e)
-    pub cuts : (j t : ℕ) → 1 ≤ j → j ≤ 7 → t < 8 → cell w (cutSlot j t) ≡ C j t
-    pub lows :
-        (j t : ℕ) → 1 ≤ j → j ≤ 7 → t < 8 → cell w (lowSlot j t) ≢ 0 → PlaceOf F j t (cell w (lowSlot j t))
-    pub lowest :
-        (j t : ℕ) → 1 ≤ j → j ≤ 7 → t < 8 → (p : ℕ) → F p ≡ true → stretch ev p ≡ j → thread ev p ≡ t
-        → AtMost (cell w (lowSlot j t)) p
-
-  -- the same said otherwise
   pub says-same :
-      {F G O P : ℕ → Bool} {C D : Choice} {w : List ℕ}
-      → ((p : ℕ) → F p ≡ G p) → ((p : ℕ) → O p ≡ P p) → ((j t : ℕ) → t < 8 → C j t ≡ D j t)
-      → Says F O C w → Says G P D w
-  says-same same-f same-o same-c says = record {
-    flags = λ e from-1 to-2048.
-        says .flags e from-1 to-2048 ∙ ap₂ (λ (a b : Bool). bit a + 2 * bit b) (same-f e) (same-o e);
-    cuts = λ j t from-1 to-7 there. says .cuts j t from-1 to-7 there ∙ same-c j t there;
-    lows = λ j t from-1 to-7 there some.
-        let it = says .lows j t from-1 to-7 there some in
-        record {
-          p = it .p;
-          in-f = sym (same-f (it .p)) ∙ it .in-f;
-          in-j = it .in-j;
-          by-t = it .by-t;
-          is-it = it .is-it;
-        };
-    lowest = λ j t from-1 to-7 there p in-g. says .lowest j t from-1 to-7 there p (same-f p ∙ in-g);
-  }
+      {F G O P : ℕ → Bool} {C D : Choice} {m : Marks}
+      → ((p : ℕ) → F p ≡ G p) → ((q : ℕ) → O q ≡ P q) → ((j t : ℕ) → C j t ≡ D j t)
+      → Says ev F O C m → Says ev G P D m
+  says-same {F} {G} {O} {P} {C} {D} {m} same-f same-o same-c says =
+      subst (λ (X : ℕ → Bool). Says ev X P D m) (fun-ext same-f)
+      (subst (λ (X : ℕ → Bool). Says ev F X D m) (fun-ext same-o)
+      (subst (λ (X : Choice). Says ev F O X m) (fun-ext λ j. fun-ext λ t. same-c j t) says))
 
-  -- the same of an area with these flags and slots
-  pub says-there :
-      {F O : ℕ → Bool} {C : Choice} {w v : List ℕ}
-      → ((e : ℕ) → getRow v e 12 ≡ getRow w e 12) → ((i : ℕ) → 256 ≤ i → i < 368 → cell v i ≡ cell w i)
-      → Says F O C w → Says F O C v
-  says-there {F} {O} {C} {w} {v} same-flags same-slots says = record {
-    flags = λ e from-1 to-2048. same-flags e ∙ says .flags e from-1 to-2048;
-    cuts = λ j t from-1 to-7 there.
-        same-slots (cutSlot j t) (omega arith) (omega arith) ∙ says .cuts j t from-1 to-7 there;
-    lows = λ j t from-1 to-7 there some.
-        let same = same-low j t from-1 to-7 there in
-        rw same (says .lows j t from-1 to-7 there (λ none. some (same ∙ none)));
-    lowest = λ j t from-1 to-7 there p in-f in-j by-t.
-        rw (same-low j t from-1 to-7 there) (says .lowest j t from-1 to-7 there p in-f in-j by-t);
-  }
-    where
-      same-low : (j t : ℕ) → 1 ≤ j → j ≤ 7 → t < 8 → cell v (lowSlot j t) ≡ cell w (lowSlot j t)
-      same-low j t from-1 to-7 there = same-slots (lowSlot j t) (omega arith) (omega arith)
+  -- ---- the lowest place of stretch j and thread t
 
-  -- ---- a store in the cut, and marking a store
+  record Low (F : ℕ → Bool) (j t low : ℕ) : Type 0 where
+    of-store : low ≢ 0 → PlaceOf ev F j t low
+    not-above : (p : ℕ) → F p ≡ true → stretch ev p ≡ j → thread ev p ≡ t → AtMost ev low p
 
-  module _ (n : ℕ) (w : List ℕ) (rows : Rows ev n w) (q : ℕ) (fit : Fit n q) where
-    row : StoreRow ev w q
+  low-of :
+      {F O : ℕ → Bool} {C : Choice} {m : Marks} → Says ev F O C m
+      → (j t : ℕ) → 1 ≤ j → j ≤ 7 → t < 8 → Low F j t (countIn (m .counts) (lowCell j t))
+  low-of says j t from-1 to-7 there =
+      record { of-store = says .lows j t from-1 to-7 there; not-above = says .lowest j t from-1 to-7 there }
+
+  -- with store q more
+  module _ (F : ℕ → Bool) (q : ℕ) where
+    abbrev with-q : ℕ → Bool
+    with-q p = eqb q p || F p
+
+    module _ (j t old : ℕ) (low : Low F j t old) where
+      old-place : old ≢ 0 → PlaceOf ev with-q j t old
+      old-place some =
+          let it = low .of-store some in
+          record {
+            p = it .p;
+            in-f = or-right (eqb q (it .p)) _ (it .in-f);
+            in-j = it .in-j;
+            by-t = it .by-t;
+            is-it = it .is-it;
+          }
+
+      -- r is not above a place of q, nor of the others
+      all-above :
+          (r : ℕ) → (stretch ev q ≡ j → thread ev q ≡ t → AtMost ev r q) → (1 ≤ old → (1 ≤ r) × (r ≤ old))
+          → (p : ℕ) → with-q p ≡ true → stretch ev p ≡ j → thread ev p ≡ t → AtMost ev r p
+      all-above r of-q of-old p in-f in-j by-t = by-store (or-cases (eqb q p) (F p) in-f)
+        where
+          by-store : (eqb q p ≡ true) ⊎ (F p ≡ true) → AtMost ev r p
+          by-store (inl is-q) =
+              let same = eqb-true q p is-q in
+              rw same at (of-q (rw same in-j) (rw same by-t))
+          by-store (inr before) =
+              let it = low .not-above p before in-j by-t in
+              let bounds = of-old (it .some) in
+              record { some = bounds .0; at-most = omega (arith, it .at-most, bounds .1) }
+
+      low-kept : (stretch ev q ≡ j → thread ev q ≡ t → ⊥) → Low with-q j t old
+      low-kept elsewhere = record {
+        of-store = old-place;
+        not-above = all-above old (λ in-j by-t. absurd (elsewhere in-j by-t)) (λ some. (some, omega arith));
+      }
+
+      low-lowered : stretch ev q ≡ j → thread ev q ≡ t → Low with-q j t (lower old (suc (place ev q)))
+      low-lowered in-j by-t = by-tests (same? old 0) (less? new old)
+        where
+          new : ℕ
+          new = suc (place ev q)
+
+          is-new : (1 ≤ old → new ≤ old) → Low with-q j t new
+          is-new below = record {
+            of-store = λ some. record {
+              p = q;
+              in-f = or-left _ _ (eqb-same q);
+              in-j = in-j;
+              by-t = by-t;
+              is-it = refl;
+            };
+            not-above =
+                all-above new (λ _ _. record { some = omega arith; at-most = omega arith })
+                (λ some. (omega arith, below some));
+          }
+
+          by-tests : (old ≡ 0) ⊎ (old ≢ 0) → (new < old) ⊎ (old ≤ new) → Low with-q j t (lower old new)
+          by-tests (inl none) order = rw (eq-eqb old 0 none) (is-new (λ some. omega arith))
+          by-tests (inr some) (inl less) =
+              rw (ne-eqb old 0 some, lt-ltb new old less) (is-new (λ some. omega arith))
+          by-tests (inr some) (inr not-less) = rw (ne-eqb old 0 some, le-ltb new old not-less) (record {
+            of-store = old-place;
+            not-above =
+                all-above old (λ _ _. record { some = omega arith; at-most = not-less }) (λ some. (some, omega arith));
+          })
+
+  -- ---- stores by their rows
+
+  module _ (n : ℕ) (l : List ℕ) (rows : Rows ev n l) (q : ℕ) (fit : Fit n q) where
+    pub row : StoreRow ev l q
     row = rows .stores q (fit .early) (fit .store)
 
     -- one more than its place
-    pub own-is : ownIn w q ≡ suc (place ev q)
+    pub own-is : ownIn l q ≡ suc (place ev q)
     own-is =
         rw (row .thread-is)
         (row .clock-is (thread ev q) (fit .thread-below-8) ∙ vc-own ev q (thread ev q) (fit .store) refl)
 
-    -- it is in the cut exactly if it is in the choice that the cut says
-    module _ {F O : ℕ → Bool} {C : Choice} (says : Says F O C w) where
-      abbrev cut : ℕ
-      cut = cell w (cutIn w q)
+    clock-at : (t : ℕ) → t < 8 → getD l (rowStart q + t) 0 ≡ vc ev q t
+    unfolding getRow
+    clock-at t there =
+        let at : rowStart q + t ≡ rowStart q + t % 16 = omega arith in
+        ap (λ (i : ℕ). getD l i 0) at ∙ row .clock-is t there
 
-      cut-is : cut ≡ C (stretch ev q) (thread ev q)
-      cut-is =
-          rw (row .stretch-is, row .thread-is)
-          (says .cuts (stretch ev q) (thread ev q) (fit .stretch-from-1) (fit .stretch-to-7) (fit .thread-below-8))
+    module _ (F O : ℕ → Bool) (C : Choice) (m : Marks) (says : Says ev F O C m) where
+      -- it is in the cut exactly if it is in the choice that the cut says
+      pub in-cut : inCut l (m .counts) q ≡ ltb (place ev q) (C (stretch ev q) (thread ev q))
+      in-cut =
+          rw (own-is, row .stretch-is, row .thread-is)
+          (rw (says .cuts (stretch ev q) (thread ev q) (fit .stretch-from-1) (fit .stretch-to-7) (fit .thread-below-8))
+          refl)
 
-      pub in-cut→ : inCut w q ≡ true → In ev C q
-      in-cut→ passes = let below : ownIn w q ≤ cut = leb-true _ _ passes in omega (arith, own-is, cut-is)
+      -- its flag stored: f keeps or sets what the flags say of it, and those of others stay
+      flags-stored :
+          (G P : ℕ → Bool) (f : ℕ) → f ≡ bit (G q) + 2 * bit (P q)
+          → ((e : ℕ) → e ≢ q → F e ≡ G e) → ((e : ℕ) → e ≢ q → O e ≡ P e)
+          → (e : ℕ) → e ≤ 2048 → flagIn (set (m .flags) (flagCell q) f) e ≡ bit (G e) + 2 * bit (P e)
+      flags-stored G P f is-f same-f same-o e to-2048 = by-store (same? e q)
+        where
+          by-store :
+              (e ≡ q) ⊎ (e ≢ q) → flagIn (set (m .flags) (flagCell q) f) e ≡ bit (G e) + 2 * bit (P e)
+          by-store (inl is-q) =
+              rw is-q (getD-set-same (m .flags) (flagCell q) f 0 (omega (arith, says .flags-size)) ∙ is-f)
+          by-store (inr differs) =
+              getD-set-other (m .flags) (flagCell q) (flagCell e) f 0 (λ same. differs (omega arith))
+              ∙ (says .flags e to-2048
+              ∙ ap₂ (λ (a b : Bool). bit a + 2 * bit b) (same-f e differs) (same-o e differs))
 
-      pub →in-cut : In ev C q → inCut w q ≡ true
-      →in-cut inside = le-leb (ownIn w q) cut (omega (arith, own-is, cut-is))
+      not-q : (b : Bool) (e : ℕ) → e ≢ q → b ≡ (eqb q e || b)
+      not-q b e differs = rw (ne-eqb q e (λ same. differs (sym same)))
 
-    -- marking it
-    pub fit-can-mark : canMark w q ≡ true
-    fit-can-mark =
-        can-mark w q (stretch ev q) (thread ev q) (sym (row .stretch-is)) (sym (row .thread-is))
-        (fit .stretch-from-1) (fit .stretch-to-7) (omega (arith, fit .thread-below-8))
+      -- ---- marking it
 
-    abbrev slot : ℕ
-    slot = lowSlot (stretch ev q) (thread ev q)
+      abbrev at-low : ℕ
+      at-low = lowCell (stretch ev q) (thread ev q)
 
-    abbrev new-low : ℕ
-    new-low = lower (cell w slot) (suc (place ev q))
+      abbrev lowest-counts : List ℕ
+      lowest-counts = set (m .counts) at-low (lower (countIn (m .counts) at-low) (suc (place ev q)))
 
-    abbrev after : List ℕ
-    after = putRow (putCell w slot new-low) q 12 (forbid (getRow w q 12))
+      marked-is :
+          marked l m q ≡ marksOf lowest-counts (set (m .flags) (flagCell q) (forbid (flagIn (m .flags) q)))
+      unfolding marked
+      marked-is = rw (own-is, row .thread-is, row .stretch-is)
 
-    marked-is : marked w q ≡ after
-    unfolding marked
-    marked-is =
-        rw (
-          fit-can-mark,
-          own-is,
-          row .thread-is,
-          row .stretch-is,
-          put-mark-in w slot new-low (omega (arith, fit .stretch-from-1))
-              (omega (arith, fit .stretch-to-7, fit .thread-below-8)),
-        )
+      low-after :
+          (j t : ℕ) → 1 ≤ j → j ≤ 7 → t < 8 → (lowCell j t ≡ at-low) ⊎ (lowCell j t ≢ at-low)
+          → Low (with-q F q) j t (countIn lowest-counts (lowCell j t))
+      low-after j t from-1 to-7 there (inl same) =
+          let old : Low F j t (countIn (m .counts) at-low) = rw same at (low-of says j t from-1 to-7 there) in
+          rw (same, getD-set-same (m .counts) at-low _ 0 (omega (arith, says .counts-size)))
+          (low-lowered F q j t _ old (omega arith) (omega arith))
+      low-after j t from-1 to-7 there (inr differs) =
+          rw (getD-set-other (m .counts) at-low (lowCell j t) _ 0 differs)
+          (low-kept F q j t _ (low-of says j t from-1 to-7 there)
+          (λ in-j by-t. differs (sym (ap₂ lowCell in-j by-t))))
 
-    -- the slot, the flag, and every other cell, after it
-    slot-after : cell after slot ≡ new-low
-    slot-after =
-        put-other (putCell w slot new-low) q 12 _ (suc slot) 13 (λ same-row same-column. omega arith)
-        ∙ put-same w (suc slot) 13 new-low (rows .room) (omega arith)
-        (omega (arith, fit .stretch-to-7, fit .thread-below-8)) (omega arith)
-
-    other-slots : (i : ℕ) → i ≢ slot → cell after i ≡ cell w i
-    other-slots i differs =
-        put-other (putCell w slot new-low) q 12 _ (suc i) 13 (λ same-row same-column. omega arith)
-        ∙ put-other w (suc slot) 13 new-low (suc i) 13 (λ same-row same-column. differs (omega arith))
-
-    flag-after : getRow after q 12 ≡ forbid (getRow w q 12)
-    flag-after =
-        put-same (putCell w slot new-low) q 12 _ (omega (arith, length-put w (suc slot) 13 new-low, rows .room))
-        (fit .from-1) (fit .to-2048) (omega arith)
-
-    other-flags : (e : ℕ) → e ≢ q → getRow after e 12 ≡ getRow w e 12
-    other-flags e differs =
-        put-other (putCell w slot new-low) q 12 _ e 12 (λ same-row same-column. differs (sym same-row))
-        ∙ put-other w (suc slot) 13 new-low e 12 (λ same-row same-column. omega arith)
-
-    module _ (F O : ℕ → Bool) (C : Choice) (says : Says F O C w) where
-      abbrev with-q : ℕ → Bool
-      with-q p = eqb q p || F p
-
-      low : Lower (cell w slot) (suc (place ev q)) new-low
-      low = lower-is (cell w slot) (suc (place ev q))
-
-      flags-say : (e : ℕ) → 1 ≤ e → e ≤ 2048 → (e ≡ q) ⊎ (e ≢ q) → getRow after e 12 ≡ bit (with-q e) + 2 * bit (O e)
-      flags-say e from-1 to-2048 (inl is-q) =
-          rw (is-q, eqb-same q)
-          (flag-after ∙ (ap forbid (says .flags q (fit .from-1) (fit .to-2048)) ∙ forbid-bits (F q) (O q)))
-      flags-say e from-1 to-2048 (inr differs) =
-          rw (ne-eqb q e (λ same. differs (sym same))) (other-flags e differs ∙ says .flags e from-1 to-2048)
-
-      low-from :
-          (j t : ℕ) → 1 ≤ j → j ≤ 7 → t < 8 → lowSlot j t ≡ slot
-          → (new-low ≡ suc (place ev q)) ⊎ ((new-low ≡ cell w slot) × (cell w slot ≢ 0)) → PlaceOf with-q j t new-low
-      low-from j t from-1 to-7 there same (inl is-new) = record {
-        p = q;
-        in-f = or-left _ _ (eqb-same q);
-        in-j = omega (arith, fit .thread-below-8);
-        by-t = omega (arith, fit .thread-below-8);
-        is-it = is-new;
-      }
-      low-from j t from-1 to-7 there same (inr (is-old, some)) =
-          let old : cell w (lowSlot j t) ≡ cell w slot = ap (λ (i : ℕ). cell w i) same in
-          let it = says .lows j t from-1 to-7 there (λ none. some (sym old ∙ none)) in
-          record {
-            p = it .p;
-            in-f = or-right (eqb q (it .p)) _ (it .in-f);
-            in-j = it .in-j;
-            by-t = it .by-t;
-            is-it = is-old ∙ (sym old ∙ it .is-it);
-          }
-
-      lows-say :
-          (j t : ℕ) → 1 ≤ j → j ≤ 7 → t < 8 → (lowSlot j t ≡ slot) ⊎ (lowSlot j t ≢ slot)
-          → cell after (lowSlot j t) ≢ 0 → PlaceOf with-q j t (cell after (lowSlot j t))
-      lows-say j t from-1 to-7 there (inl same) some =
-          rw (same, slot-after) (low-from j t from-1 to-7 there same (low .is-one))
-      lows-say j t from-1 to-7 there (inr differs) some =
-          let kept = other-slots (lowSlot j t) differs in
-          let it = says .lows j t from-1 to-7 there (λ none. some (kept ∙ none)) in
-          record {
-            p = it .p;
-            in-f = or-right (eqb q (it .p)) _ (it .in-f);
-            in-j = it .in-j;
-            by-t = it .by-t;
-            is-it = kept ∙ it .is-it;
-          }
-
-      some-low : (new-low ≡ suc (place ev q)) ⊎ ((new-low ≡ cell w slot) × (cell w slot ≢ 0)) → 1 ≤ new-low
-      some-low (inl is-new) = omega arith
-      some-low (inr (is-old, some)) = omega arith
-
-      lowest-says :
-          (j t : ℕ) → 1 ≤ j → j ≤ 7 → t < 8 → (p : ℕ) → stretch ev p ≡ j → thread ev p ≡ t
-          → (lowSlot j t ≡ slot) ⊎ (lowSlot j t ≢ slot) → (eqb q p ≡ true) ⊎ (F p ≡ true)
-          → AtMost (cell after (lowSlot j t)) p
-      lowest-says j t from-1 to-7 there p in-j by-t (inl same) (inl is-q) =
-          let place-is : place ev q ≡ place ev p = ap (λ (i : ℕ). place ev i) (eqb-true q p is-q) in
-          rw (same, slot-after)
-          (record { some = some-low (low .is-one); at-most = omega (arith, low .below-new) })
-      lowest-says j t from-1 to-7 there p in-j by-t (inl same) (inr in-f) =
-          let it = says .lowest j t from-1 to-7 there p in-f in-j by-t in
-          let old : cell w (lowSlot j t) ≡ cell w slot = ap (λ (i : ℕ). cell w i) same in
-          let below = low .below-old (λ none. omega (arith, it .some)) in
-          rw (same, slot-after)
-          (record { some = some-low (low .is-one); at-most = omega (arith, it .at-most) })
-      lowest-says j t from-1 to-7 there p in-j by-t (inr differs) (inl is-q) =
-          let same : q ≡ p = eqb-true q p is-q in
-          let q-in-j : stretch ev q ≡ j = ap (λ (i : ℕ). stretch ev i) same ∙ in-j in
-          let q-by-t : thread ev q ≡ t = ap (λ (i : ℕ). thread ev i) same ∙ by-t in
-          absurd (differs (sym (ap₂ lowSlot q-in-j q-by-t)))
-      lowest-says j t from-1 to-7 there p in-j by-t (inr differs) (inr in-f) =
-          rw (other-slots (lowSlot j t) differs) (says .lowest j t from-1 to-7 there p in-f in-j by-t)
-
-      pub mark-says : Says with-q O C (marked w q)
+      pub mark-says : Says ev (λ p. eqb q p || F p) O C (marked l m q)
       mark-says = rw marked-is (record {
-        flags = λ e from-1 to-2048. flags-say e from-1 to-2048 (same? e q);
+        counts-size = length-set (m .counts) at-low _ ∙ says .counts-size;
+        flags-size = length-set (m .flags) (flagCell q) _ ∙ says .flags-size;
+        flags =
+            flags-stored (with-q F q) O _
+            (ap forbid (says .flags q (omega arith)) ∙ rw (eqb-same q) (forbid-bits (F q) (O q)))
+            (λ e. not-q (F e) e) (λ e differs. refl);
         cuts = λ j t from-1 to-7 there.
-            other-slots (cutSlot j t) (λ same. omega (arith, fit .stretch-from-1)) ∙ says .cuts j t from-1 to-7 there;
-        lows = λ j t from-1 to-7 there. lows-say j t from-1 to-7 there (same? (lowSlot j t) slot);
-        lowest = λ j t from-1 to-7 there p in-f in-j by-t.
-            lowest-says j t from-1 to-7 there p in-j by-t (same? (lowSlot j t) slot) (or-cases (eqb q p) (F p) in-f);
+            getD-set-other (m .counts) at-low (cutCell j t) _ 0 (λ same. omega arith)
+            ∙ says .cuts j t from-1 to-7 there;
+        lows = λ j t from-1 to-7 there. low-after j t from-1 to-7 there (same? (lowCell j t) at-low) .of-store;
+        lowest = λ j t from-1 to-7 there. low-after j t from-1 to-7 there (same? (lowCell j t) at-low) .not-above;
       })
+
+      -- ---- observing it
+
+      abbrev raised-choice : Choice
+      raised-choice j t = cond (eqb (stretch ev q) j) (max (C j t) (vc ev q t)) (C j t)
+
+      abbrev raised-counts : List ℕ
+      raised-counts = raised 8 l (m .counts) q (stretch ev q)
+
+      cut-after :
+          (j t : ℕ) → 1 ≤ j → j ≤ 7 → t < 8 → (stretch ev q ≡ j) ⊎ (stretch ev q ≢ j)
+          → countIn raised-counts (cutCell j t) ≡ raised-choice j t
+      cut-after j t from-1 to-7 there (inl in-j) =
+          let at : cutCell j t ≡ cutCell (stretch ev q) 0 + t = omega arith in
+          let old : countIn (m .counts) (cutCell (stretch ev q) 0 + t) ≡ C j t =
+          rw (← at) (says .cuts j t from-1 to-7 there)
+          in
+          rw (eq-eqb (stretch ev q) j in-j, at)
+          (raised-there l 8 (m .counts) q (stretch ev q) t (says .counts-size) (omega arith) there
+          ∙ ap₂ max old (clock-at t there))
+      cut-after j t from-1 to-7 there (inr elsewhere) =
+          rw (ne-eqb (stretch ev q) j elsewhere)
+          (raised-leaves l 8 (m .counts) q (stretch ev q) (cutCell j t) (λ u below same. elsewhere (omega arith))
+          ∙ says .cuts j t from-1 to-7 there)
+
+      low-stays : (j t : ℕ) → 1 ≤ j → j ≤ 7 → t < 8 → Low F j t (countIn raised-counts (lowCell j t))
+      low-stays j t from-1 to-7 there =
+          rw (raised-leaves l 8 (m .counts) q (stretch ev q) (lowCell j t) (λ u below same. omega arith))
+          (low-of says j t from-1 to-7 there)
+
+      pub see-says :
+          Says ev F (λ p. eqb q p || O p) (λ j t. cond (eqb (stretch ev q) j) (max (C j t) (vc ev q t)) (C j t))
+          (seenFrom l m q (getRow l q 10))
+      unfolding seenFrom
+      see-says = rw (row .stretch-is) (record {
+        counts-size = raised-size l 8 (m .counts) q (stretch ev q) ∙ says .counts-size;
+        flags-size = length-set (m .flags) (flagCell q) _ ∙ says .flags-size;
+        flags =
+            flags-stored F (with-q O q) _
+            (ap observe (says .flags q (omega arith)) ∙ rw (eqb-same q) (observe-bits (F q) (O q)))
+            (λ e differs. refl) (λ e. not-q (O e) e);
+        cuts = λ j t from-1 to-7 there. cut-after j t from-1 to-7 there (same? (stretch ev q) j);
+        lows = λ j t from-1 to-7 there. low-stays j t from-1 to-7 there .of-store;
+        lowest = λ j t from-1 to-7 there. low-stays j t from-1 to-7 there .not-above;
+      })
+
+    -- marking it tests the cut behind the lowering, which leaves the cut
+    pub mark-hits :
+        (F O : ℕ → Bool) (C : Choice) (m : Marks) → Says ev F O C m
+        → markHits l (m .counts) q ≡ ltb (place ev q) (C (stretch ev q) (thread ev q))
+    unfolding marked
+    mark-hits F O C m says = in-cut (λ p. eqb q p || F p) O C (marked l m q) (mark-says F O C m says)

@@ -1,31 +1,36 @@
--- Judging a counted load of location x from s. One that repeats the last counted load of its location,
--- with no commit there since and with its source, changes nothing, so it does not walk again. Where no load is noted
--- the slots hold 0: a load of a location without commits, from 0, has nothing to mark.
+-- Judging a counted load, event e, of location x from s, whose chain begins with h. One that repeats the last counted
+-- load of its location, with no commit there since and with its source, changes nothing, so it does not walk again.
+-- Where no load is noted there is 0: a load of a location without commits, from 0, has nothing to mark. Behind the load
+-- that breaks the trace none is judged.
 use Prim.Native.Nat.{ℕ}
 use mathlib.Core.Bool.{Bool, cond, _&&_, not}
 use mathlib.Core.List.{List}
-use lib.Dec.{eqb, ltb}
-use Rattle.area.specs.Cells.{cell, putCell}
-use Rattle.area.specs.Tables.{lastSlot, loadLastSlot, loadSourceSlot}
+use lib.Dec.{eqb}
+use lib.ListN.{set}
+use Rattle.marks.specs.Marks.{Marks, marksOf, lastCell, sourceCell, brokenCell, countIn, brokenIn}
 use Rattle.marks.specs.Marking.{loaded}
 use Rattle.marks.specs.Testing.{loadHits}
 
--- the last store committed at location x
-abbrev pub lastIn : List ℕ → ℕ → ℕ
-lastIn w x = cell w (lastSlot x)
-
 -- the load noted at location x has the last store h and the source s
 abbrev pub repeated : List ℕ → ℕ → ℕ → ℕ → Bool
-repeated w h x s = eqb (cell w (loadLastSlot x)) h && eqb (cell w (loadSourceSlot x)) s
+repeated counts h x s = eqb (countIn counts (lastCell x)) h && eqb (countIn counts (sourceCell x)) s
 
--- that load is noted, if there is such a location
-unfoldable pub noted : List ℕ → ℕ → ℕ → ℕ → List ℕ
-noted w h x s = cond (ltb x 256) (putCell (putCell w (loadLastSlot x) h) (loadSourceSlot x) s) w
+-- that load is noted, and kept as load e if it breaks the trace
+unfoldable pub noted : List ℕ → ℕ → ℕ → ℕ → ℕ → Bool → List ℕ
+noted counts h x s e breaks =
+    let with-load = set (set counts (lastCell x) h) (sourceCell x) s in
+    cond breaks (set with-load brokenCell e) with-load
 
--- the work area after the load
-unfoldable pub judged : List ℕ → ℕ → ℕ → List ℕ
-judged w x s = cond (repeated w (lastIn w x) x s) w (noted (loaded w (lastIn w x) s) (lastIn w x) x s)
+-- the marks after a load that is judged
+unfoldable pub judgedNew : List ℕ → Marks → ℕ → ℕ → ℕ → ℕ → Marks
+judgedNew l m h x s e =
+    let v = loaded l m h s in
+    marksOf (noted (v .counts) h x s e (loadHits l m h s)) (v .flags)
 
--- with it there is a pair, if there was none
-unfoldable pub breaks : List ℕ → ℕ → ℕ → Bool
-breaks w x s = not (repeated w (lastIn w x) x s) && loadHits w (lastIn w x) s
+-- a load is to be judged: it repeats none, and none has broken the trace
+abbrev pub judges : List ℕ → ℕ → ℕ → ℕ → Bool
+judges counts h x s = not (repeated counts h x s) && eqb (brokenIn counts) 0
+
+-- the marks after the load
+unfoldable pub judged : List ℕ → Marks → ℕ → ℕ → ℕ → ℕ → Marks
+judged l m h x s e = cond (judges (m .counts) h x s) (judgedNew l m h x s e) m

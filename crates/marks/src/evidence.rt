@@ -1,32 +1,34 @@
 // The evidence of a broken trace: the smallest store that is forbidden and in the cut, and the smallest observed store
-// that is it or happens after it.
+// that is it or happens after it. An event's flags are looked at before its row, so only rows of stores are read.
 ghost use mathlib.Core.Path.{_≡_};
+ghost use Rattle.marks.specs.Marks.{marksOf};
 ghost use Rattle.marks.specs.Testing.{missingIn, observedIn, missingBy, observedBy};
+use crate::cells;
+use crate::cells::Flags;
+use crate::cells::Marks;
 
-fn missing_in(work: &[u16], p: u16) -> bool
-    ensures { λ r. ⌜ r ≡ missingIn (now (work .entry)) p ⌝ }
+fn missing_in(marks: &Marks, flags: &Flags, rows: &[u16], p: u16) -> bool
+    ensures { λ r. ⌜ (r
+        ≡ missingIn (now (rows .entry)) (marksOf (now (marks .entry)) (now (flags .entry))) p) ⌝ }
 {
-    let f = area::row_get(work, p, 12);
-    let t = area::row_get(work, p, 8);
-    let own = area::row_get(work, p, t);
-    let j = area::row_get(work, p, 10);
-    let cut = area::slot_get(work, area::slots::cut(j, t));
-    if f == 1 {
-        own <= cut
-    } else if f == 3 {
-        own <= cut
-    } else {
-        false
+    let f = flags[cells::flag(p)];
+    if f % 2 == 0 {
+        return false;
     }
+    let t = area::row_get(rows, p, 8);
+    let own = area::row_get(rows, p, t);
+    let j = area::row_get(rows, p, 10);
+    own <= marks[cells::cut(j, t)]
 }
 
 // Over the events below n; n if there is none.
-pub fn missing(work: &[u16], n: u16) -> u16
-    ensures { λ r. ⌜ r ≡ missingBy (now (work .entry)) n ⌝ }
+pub fn missing(marks: &Marks, flags: &Flags, rows: &[u16], n: u16) -> u16
+    ensures { λ r. ⌜ (r
+        ≡ missingBy (now (rows .entry)) (marksOf (now (marks .entry)) (now (flags .entry))) n) ⌝ }
 {
     let mut p: u16 = 0;
     while p < n {
-        if missing_in(work, p) {
+        if missing_in(marks, flags, rows, p) {
             return p;
         }
         p += 1;
@@ -34,18 +36,17 @@ pub fn missing(work: &[u16], n: u16) -> u16
     p
 }
 
-fn observed_in(work: &[u16], m: u16, q: u16) -> bool
-    ensures { λ r. ⌜ r ≡ observedIn (now (work .entry)) m q ⌝ }
+fn observed_in(flags: &Flags, rows: &[u16], m: u16, q: u16) -> bool
+    ensures { λ r. ⌜ r ≡ observedIn (now (rows .entry)) (now (flags .entry)) m q ⌝ }
 {
-    let f = area::row_get(work, q, 12);
-    let jq = area::row_get(work, q, 10);
-    let jm = area::row_get(work, m, 10);
-    let t = area::row_get(work, m, 8);
-    let own = area::row_get(work, m, t);
-    let known = area::row_get(work, q, t);
+    let f = flags[cells::flag(q)];
     if f < 2 {
-        false
-    } else if jq == jm {
+        return false;
+    }
+    let t = area::row_get(rows, m, 8);
+    let own = area::row_get(rows, m, t);
+    let known = area::row_get(rows, q, t);
+    if area::row_get(rows, q, 10) == area::row_get(rows, m, 10) {
         own <= known
     } else {
         false
@@ -53,12 +54,12 @@ fn observed_in(work: &[u16], m: u16, q: u16) -> bool
 }
 
 // For the missing store m, over the events below n; n if there is none.
-pub fn observed(work: &[u16], n: u16, m: u16) -> u16
-    ensures { λ r. ⌜ r ≡ observedBy (now (work .entry)) n m ⌝ }
+pub fn observed(flags: &Flags, rows: &[u16], n: u16, m: u16) -> u16
+    ensures { λ r. ⌜ r ≡ observedBy (now (rows .entry)) (now (flags .entry)) n m ⌝ }
 {
     let mut q: u16 = 0;
     while q < n {
-        if observed_in(work, m, q) {
+        if observed_in(flags, rows, m, q) {
             return q;
         }
         q += 1;

@@ -1,25 +1,28 @@
 // The test for broken in one stretch: some lowest forbidden place is below the cut.
 ghost use mathlib.Core.Path.{_≡_};
-ghost use Rattle.marks.specs.Testing.{hitAt, hits};
+ghost use Rattle.marks.specs.Testing.{hit, hits};
+use crate::cells;
+use crate::cells::Marks;
+use crate::flags;
 
-// At stretch j and thread t: the tables hold one more than the lowest place, and the cut.
-fn hit_at(work: &[u16], j: u16, t: u16) -> bool
-    ensures { λ r. ⌜ r ≡ hitAt (now (work .entry)) j t ⌝ }
+// `low` is one more than the lowest place, or 0.
+fn hit(low: u16, cut: u16) -> bool
+    ensures { λ r. ⌜ r ≡ hit low cut ⌝ }
 {
-    let low = area::slot_get(work, area::slots::low(j, t));
-    let cut = area::slot_get(work, area::slots::cut(j, t));
     if low == 0 { false } else { low <= cut }
 }
 
-pub fn hits(work: &[u16], j: u16) -> bool
-    ensures { λ r. ⌜ r ≡ hits (now (work .entry)) j ⌝ }
+// Of whichever thread: all eight are looked at, so that the compiler compares them at once.
+pub fn hits(marks: &Marks, j: u16) -> bool
+    ensures { λ r. ⌜ r ≡ hits (now (marks .entry)) j ⌝ }
 {
-    let mut t: u16 = 8;
-    while 0 < t {
-        t -= 1;
-        if hit_at(work, j, t) {
-            return true;
-        }
+    let low = cells::low(j, 0);
+    let cut = cells::cut(j, 0);
+    let mut t: usize = 0;
+    let mut any = false;
+    while t < 8 {
+        any = flags::either(any, hit(marks[low + t], marks[cut + t]));
+        t += 1;
     }
-    false
+    any
 }

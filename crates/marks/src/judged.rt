@@ -1,15 +1,23 @@
 // What the judge calls for each counted load. One that repeats the last counted load of its location, with no commit
-// there since and with its source, changes nothing, so it does not walk its location's chain again.
+// there since and with its source, changes nothing, so it does not walk its location's chain again. The first that
+// breaks the trace is kept; none after it is judged, so the marks stay as it left them.
 ghost use mathlib.Core.Path.{_≡_};
-ghost use Rattle.marks.specs.Judged.{repeated, noted, judged, breaks};
+ghost use Prim.Native.Nat.{_≤_};
+ghost use lib.ListN.{length};
+ghost use Rattle.marks.specs.Marks.{marksOf};
+ghost use Rattle.marks.specs.Judged.{repeated, noted, judged};
+use crate::cells;
+use crate::cells::BROKEN;
+use crate::cells::Flags;
+use crate::cells::Marks;
 use crate::load;
 
 // The load noted at location x has the last store h and the source s.
-fn repeats(work: &[u16], h: u16, x: u16, s: u16) -> bool
-    ensures { λ r. ⌜ r ≡ repeated (now (work .entry)) h x s ⌝ }
+fn repeats(marks: &Marks, h: u16, x: u16, s: u16) -> bool
+    ensures { λ r. ⌜ r ≡ repeated (now (marks .entry)) h x s ⌝ }
 {
-    let noted_last = area::slot_get(work, area::slots::load_last(x));
-    let noted_source = area::slot_get(work, area::slots::load_source(x));
+    let noted_last = marks[cells::last(x)];
+    let noted_source = marks[cells::source(x)];
     if noted_last == h {
         noted_source == s
     } else {
@@ -17,27 +25,37 @@ fn repeats(work: &[u16], h: u16, x: u16, s: u16) -> bool
     }
 }
 
-// That load is the last counted one there.
-fn note(work: &mut [u16], h: u16, x: u16, s: u16)
-    ensures { λ _. ⌜ now (work .exit) ≡ noted (now (work .entry)) h x s ⌝ }
+// That load is the last counted one there; and if it breaks the trace, as load e, it is kept.
+fn note(marks: &mut Marks, h: u16, x: u16, s: u16, e: u16, breaks: bool)
+    ensures { λ _. ⌜ now (marks .exit) ≡ noted (now (marks .entry)) h x s e breaks ⌝ }
 {
-    if 256 <= x {
-        return;
+    marks[cells::last(x)] = h;
+    marks[cells::source(x)] = s;
+    if breaks {
+        marks[BROKEN] = e;
     }
-    area::slot_put(work, area::slots::load_last(x), h);
-    area::slot_put(work, area::slots::load_source(x), s);
 }
 
-// A counted load of location x from s: whether with it there is a pair, if there was none.
-pub fn judge_load(work: &mut [u16], x: u16, s: u16) -> bool
-    ensures { λ r. ⌜ r ≡ breaks (now (work .entry)) x s ⌝ }
-    ensures { λ _. ⌜ now (work .exit) ≡ judged (now (work .entry)) x s ⌝ }
+// A counted load, event e, of location x from s, whose chain begins with store h.
+pub fn judge_load(
+    marks: &mut Marks,
+    flags: &mut Flags,
+    rows: &[u16],
+    h: u16,
+    x: u16,
+    s: u16,
+    e: u16,
+)
+    requires { ⌜ 32768 ≤ length (now rows) ⌝ }
+    ensures { λ _. ⌜ (marksOf (now (marks .exit)) (now (flags .exit))
+        ≡ judged (now (rows .entry)) (marksOf (now (marks .entry)) (now (flags .entry))) h x s e) ⌝ }
 {
-    let h = area::slot_get(work, area::slots::last(x));
-    if repeats(work, h, x, s) {
-        return false;
+    if repeats(marks, h, x, s) {
+        return;
     }
-    let bad = load::load(work, h, s);
-    note(work, h, x, s);
-    bad
+    if marks[BROKEN] != 0 {
+        return;
+    }
+    let breaks = load::load(marks, flags, rows, h, s);
+    note(marks, h, x, s, e, breaks);
 }

@@ -1,54 +1,57 @@
 // A counted load: the walk along its location's chain, and the observation of its source.
 ghost use mathlib.Core.Path.{_≡_};
-ghost use Rattle.marks.specs.Marking.{raisedAt, seenFrom, loaded};
+ghost use Prim.Native.Nat.{_≤_};
+ghost use lib.ListN.{length};
+ghost use Rattle.marks.specs.Marks.{marksOf};
+ghost use Rattle.marks.specs.Marking.{raised, seenFrom, loaded};
 ghost use Rattle.marks.specs.Testing.{loadHits};
+use crate::cells;
+use crate::cells::Flags;
+use crate::cells::Marks;
 use crate::flags;
 use crate::hits;
 use crate::walk;
 
-// The cut of stretch j and thread u becomes at least store s's clock for u.
-fn raise_one(work: &mut [u16], s: u16, j: u16, u: u16)
-    ensures { λ _. ⌜ now (work .exit) ≡ raisedAt (now (work .entry)) s j u ⌝ }
+// The cut of stretch j becomes at least store s's clock.
+fn raise(marks: &mut Marks, rows: &[u16], s: u16, j: u16)
+    requires { ⌜ 32768 ≤ length (now rows) ⌝ }
+    ensures { λ _. ⌜ now (marks .exit) ≡ raised 8 (now (rows .entry)) (now (marks .entry)) s j ⌝ }
 {
-    let i = area::slots::cut(j, u);
-    let old = area::slot_get(work, i);
-    let new = area::row_get(work, s, u);
-    flags::put_mark(work, i, area::numbers::larger(old, new));
-}
-
-// Store s becomes observed: its flag, and the cut of its stretch, if that can be finished: a finished stretch is one of
-// 1 to 7.
-fn see(work: &mut [u16], s: u16)
-    ensures { λ _. ⌜ now (work .exit) ≡ seenFrom (now (work .entry)) s ⌝ }
-{
-    let j = area::row_get(work, s, 10);
-    let f = area::row_get(work, s, 12);
-    area::row_put(work, s, 12, flags::observe(f));
-    if j == 0 {
-        return;
-    }
-    if 7 < j {
-        return;
-    }
-    let mut u: u16 = 0;
+    let from = area::row_of(s);
+    let to = cells::cut(j, 0);
+    let mut u: usize = 0;
     while u < 8 {
-        raise_one(work, s, j, u);
+        marks[to + u] = area::numbers::larger(marks[to + u], rows[from + u]);
         u += 1;
     }
 }
 
+// Store s, of stretch j, becomes observed: its flag, and the cut of its stretch.
+fn see(marks: &mut Marks, flags: &mut Flags, rows: &[u16], s: u16, j: u16)
+    requires { ⌜ 32768 ≤ length (now rows) ⌝ }
+    ensures { λ _. ⌜ (marksOf (now (marks .exit)) (now (flags .exit))
+        ≡ seenFrom (now (rows .entry)) (marksOf (now (marks .entry)) (now (flags .entry))) s j) ⌝ }
+{
+    let i = cells::flag(s);
+    flags[i] = flags::observe(flags[i]);
+    raise(marks, rows, s, j);
+}
+
 // A counted load from s of the location whose chain begins with store h. It answers whether with it there is a pair, if
 // there was none.
-pub fn load(work: &mut [u16], h: u16, s: u16) -> bool
-    ensures { λ r. ⌜ r ≡ loadHits (now (work .entry)) h s ⌝ }
-    ensures { λ _. ⌜ now (work .exit) ≡ loaded (now (work .entry)) h s ⌝ }
+pub fn load(marks: &mut Marks, flags: &mut Flags, rows: &[u16], h: u16, s: u16) -> bool
+    requires { ⌜ 32768 ≤ length (now rows) ⌝ }
+    ensures { λ r. ⌜ (r
+        ≡ loadHits (now (rows .entry)) (marksOf (now (marks .entry)) (now (flags .entry))) h s) ⌝ }
+    ensures { λ _. ⌜ (marksOf (now (marks .exit)) (now (flags .exit))
+        ≡ loaded (now (rows .entry)) (marksOf (now (marks .entry)) (now (flags .entry))) h s) ⌝ }
 {
-    let walk_hits = walk::walk(work, h, s);
+    let walk_hits = walk::walk(marks, flags, rows, h, s);
     if s == 0 {
         return walk_hits;
     }
-    see(work, s);
-    let j = area::row_get(work, s, 10);
-    let source_hits = hits::hits(work, j);
+    let j = area::row_get(rows, s, 10);
+    see(marks, flags, rows, s, j);
+    let source_hits = hits::hits(marks, j);
     flags::either(walk_hits, source_hits)
 }

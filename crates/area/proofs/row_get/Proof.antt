@@ -1,26 +1,24 @@
--- There is no row 0; before row e there are e - 1. Assumes nothing.
-use mathlib.Core.Path.{_≡_, sym}
-use Prim.Native.Nat.{suc, _-_}
-use native.Mathlib.Omega.{arith}
-use Rattle.area.proofs.ReadBack.{row-zero}
+-- The number at the row's start and the column's remainder. Assumes nothing.
+use Rattle.area.specs.Cells.{getRow}
 use borrow.Author.Needs.{needs}
 use Rattle.area.proofs.row_get.Statement.{statement}
 use Rattle.area.proofs.row_get.Tie as tie
 
+row-of-requires : tie.Need-row-of-requires
+row-of-requires c κs = search needs
+
+cast-get : tie.Need-cast-get
+cast-get c = search needs
+
+add-get : tie.Need-add-get
+add-get c = search needs
+
+get-requires : tie.Need-get-requires
+get-requires c κs = search needs
+
 returns : tie.Need-returns
-returns c = rw (c .if1 .taken) (sym (row-zero _ _))
-
-sub-nth-get : tie.Need-sub-nth-get
-sub-nth-get c = search needs
-
-nth-get-requires : tie.Need-nth-get-requires
-nth-get-requires c κs = search needs
-
-returns-2 : tie.Need-returns-2
-returns-2 c =
-    let e = c .before .before .before .args .e in
-    let row : suc (e - 1) ≡ e = omega arith in
-    rw row at (c .nth-get .ensures)
+unfolding getRow
+returns c = rw (c .get .ensures, c .before .row-of .ensures .0)
 
 pub row-get-spec : {M : Type 1} → statement M
-row-get-spec = tie.close (tie.spec returns sub-nth-get nth-get-requires returns-2)
+row-get-spec = tie.close (tie.spec row-of-requires cast-get add-get get-requires returns)

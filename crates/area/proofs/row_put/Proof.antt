@@ -1,30 +1,29 @@
--- There is no row 0; before row e there are e - 1. Assumes nothing.
-use mathlib.Core.Path.{_≡_, sym}
-use Prim.Native.Nat.{suc, _-_}
-use native.Mathlib.Omega.{arith}
-use Rattle.area.proofs.ReadBack.{put-row-zero}
+-- A store at the row's start and the column's remainder. Assumes nothing.
+use Rattle.area.specs.Cells.{putRow}
 use borrow.Author.Needs.{needs}
 use Rattle.area.proofs.row_put.Statement.{statement}
 use Rattle.area.proofs.row_put.Tie as tie
 
-returns : tie.Need-returns
-returns c = rw (c .if1 .taken) (sym (put-row-zero _ _ _))
+row-of-requires : tie.Need-row-of-requires
+row-of-requires c κs = search needs
 
-sub-nth-put : tie.Need-sub-nth-put
-sub-nth-put c = search needs
+cast-put : tie.Need-cast-put
+cast-put c = search needs
 
-nth-put-requires : tie.Need-nth-put-requires
-nth-put-requires c κs = search needs
+add-put : tie.Need-add-put
+add-put c = search needs
+
+put-requires : tie.Need-put-requires
+put-requires c κs = search needs
 
 same-length : tie.Need-same-length
 same-length c = search needs
 
-returns-2 : tie.Need-returns-2
-returns-2 c =
-    let at-nth-put = c .before .before in
-    let e = at-nth-put .before .before .before .before .args .e in
-    let row : suc (e - 1) ≡ e = omega arith in
-    rw row at (at-nth-put .nth-put .ensures)
+returns : tie.Need-returns
+unfolding putRow
+returns c =
+    let at-put = c .before .before in
+    rw (at-put .put .ensures, at-put .before .row-of .ensures .0)
 
 pub row-put-spec : {M : Type 1} → statement M
-row-put-spec = tie.close (tie.spec returns sub-nth-put nth-put-requires same-length returns-2)
+row-put-spec = tie.close (tie.spec row-of-requires cast-put add-put put-requires same-length returns)

@@ -1,4 +1,4 @@
--- `evidence_at` meets its contract: the two searches of crate marks, over the events up to the load.
+-- `evidence_at` meets its contract: the two searches, one after the other.
 use mathlib.Core.Path.{refl}
 use borrow.Author.Needs.{needs}
 use Rattle.judge.specs.Judging.{evidenceAt}
@@ -18,8 +18,7 @@ returns : tie.Need-returns
 unfolding evidenceAt
 returns c =
     let at-missing = c .before in
-    let at-next = at-missing .before in
-    rw (c .observed .ensures, at-missing .missing .ensures, at-next .next-number .ensures) refl
+    rw (c .observed .ensures, at-missing .missing .ensures, at-missing .before .next-number .ensures) refl
 
 pub evidence-at-spec : {M : Type 1} → statement M
 evidence-at-spec = tie.close (tie.spec next-number-requires missing-requires observed-requires returns)

@@ -1,18 +1,27 @@
--- `run` meets its contract: each turn is that of some record (proofs/Records.antt), and less is left after it; where
--- the loop ends, the run does (proofs/Endings.antt). The part of the work area that is lent on is all of it.
-use mathlib.Core.Path.{_≡_, refl, sym, ap, _∙_}
+-- `run` meets its contract: each turn takes the run on by a record, and less is left after it; where a turn ends the
+-- run, what is answered is what the definitions say (proofs/Endings.antt). The part of the work area that is lent on is
+-- all of it.
+use mathlib.Core.Path.{_≡_, refl, sym, ap, _∙_, subst}
 use mathlib.Core.List.{List, _++_, append-nil}
-use mathlib.Core.Logic.{inl, inr, ⊎-elim}
-use Prim.Native.Nat.{ℕ, suc}
+use Prim.Native.Nat.{ℕ, suc, _-_}
 use native.Mathlib.Omega.{arith}
 use borrow.Author.Needs.{needs}
-use borrow.Author.Tests.{eq-eqb, ltb-true, ltb-false}
-use lib.ListN.{length, take, drop, length-replicate}
+use lib.ListN.{length, take, drop}
 use lib.Seq.{take-all, drop-length, length-take-le}
-use Rattle.judge.specs.Judging.{rowsIn, loadIn}
-use Rattle.judge.specs.Runs.{Turned}
-use Rattle.judge.proofs.Records.{left, begin-starts, reached-here, less-left}
-use Rattle.judge.proofs.Endings.{run-ends, begin-ends}
+use Rattle.area.specs.Cells.{eventAt}
+use Rattle.model.specs.declared.Verdict.{Verdict}
+use Rattle.model.specs.Reading.{readingOf}
+use Rattle.model.specs.Judge.{readingCut}
+use Rattle.marks.specs.Marks.{Marks, marksOf}
+use Rattle.judge.specs.declared.run.Begun.{Begun}
+use Rattle.judge.specs.declared.run.Turn.{Turn}
+use Rattle.judge.specs.declared.run.Turned.{Turned}
+use Rattle.judge.specs.declared.run.Turned.the-variants.{On, Ended}
+use Rattle.judge.specs.declared.verdict.End.{End}
+use Rattle.judge.specs.Runs.{numberIn, Reached, Stopped, After, Ran}
+use Rattle.judge.specs.Verdicts.{verdictAfter, cutFrom}
+use Rattle.judge.proofs.Records.{reached-here, less-left}
+use Rattle.judge.proofs.Endings.{refused-judged, refused-ran, stopped-judged, stopped-ran}
 use Rattle.judge.proofs.run.run.Statement.{statement}
 use Rattle.judge.proofs.run.run.Tie as tie
 
@@ -23,13 +32,51 @@ all-of l n size = take-all n l (omega (arith, size))
 nothing-behind : (l k : List ℕ) (n : ℕ) → length l ≡ n → k ++ drop n l ≡ k
 nothing-behind l k n size = rw (sym size, drop-length l) (append-nil k)
 
+all-length : (l : List ℕ) → length l ≡ 32768 → length (take 32768 l) ≡ 32768
+all-length l size = ap length (all-of l 32768 size) ∙ size
+
+-- what a record led to, by its turn
+module _
+    (bytes : List ℕ) (threads locations n : ℕ) (r : Turned) (tables : List ℕ) (m : Marks) (work : List ℕ)
+    (after : After bytes threads locations n r tables m work) where
+  went-on : (t : Turn) → r ≡ On t → Reached bytes threads locations (suc n) t tables m work
+  went-on t is = subst (λ (x : Turned). After bytes threads locations n x tables m work) is after
+
+  ended-by : (k : ℕ) → r ≡ Ended k → Stopped bytes threads locations n k tables m work
+  ended-by k is = subst (λ (x : Turned). After bytes threads locations n x tables m work) is after
+
+-- what is answered where the run is over before record n, by number k
+answered :
+    (bytes : List ℕ) (threads locations n k : ℕ) (tables : List ℕ) (m : Marks) (work part cut₀ cut cut' : List ℕ)
+    (end : End) (v : Verdict)
+    → Stopped bytes threads locations n k tables m work
+    → length cut₀ ≡ 56
+    → cut ≡ cut₀
+    → part ≡ work
+    → end ≡ record { number = k; event = n }
+    → v ≡ verdictAfter end tables m part
+    → cut' ≡ cutFrom end (m .counts) cut
+    → Ran bytes v work × (cut' ≡ readingCut bytes cut₀ (readingOf bytes))
+answered bytes threads locations n k tables m work part cut₀ cut cut' end v stopped size lent all end-is v-is cut-is =
+    rw (v-is, cut-is, end-is, all, lent) (
+      stopped-ran bytes threads locations n k tables m work stopped cut₀ size,
+      stopped-judged bytes threads locations n k tables m work stopped cut₀ size .1,
+    )
+
+-- between two records: the cut buffer is as lent, and the run has come to the record at the turn's position
+record Going
+    (bytes : List ℕ) (b : Begun) (work₀ cut₀ work cut tables : List ℕ) (m : Marks) (t : Turn) : Type 0 where
+  same-size : length work ≡ length work₀
+  size : length work ≡ 32768
+  as-lent : cut ≡ cut₀
+  reached : Reached bytes (b .threads) (b .locations) (eventAt (t .row)) t tables m work
+
 abbrev Inv-loop : tie.InvT-loop
-Inv-loop trace work₀ size state₀ b t₀ work state t =
-    (length work ≡ length work₀) × (length work ≡ 32768) × (length state ≡ 129)
-    × ((n : ℕ) × Turned trace (b .threads) (b .locations) n t (loadIn state) (rowsIn state) work)
+Inv-loop trace work₀ cut₀ size b tables₀ marks₀ flags₀ t₀ work cut tables marks flags t =
+    Going trace b work₀ cut₀ work cut tables (marksOf marks flags) t
 
 abbrev μ-loop : tie.MeasureT-loop
-μ-loop trace work₀ size state₀ b t₀ work state t = left trace t
+μ-loop trace work₀ cut₀ size b tables₀ marks₀ flags₀ t₀ work cut tables marks flags t = length trace - t .at
 
 begin-requires : tie.Need-begin-requires Inv-loop μ-loop
 begin-requires c κs = search needs
@@ -37,8 +84,10 @@ begin-requires c κs = search needs
 returns : tie.Need-returns Inv-loop μ-loop
 returns c =
     let at-begin = c .before .before in
-    let entry = at-begin .before .before .before in
-    (begin-ends (entry .args .trace .now) (at-begin .begin .result) _ (at-begin .begin .ensures) (λ none. omega arith))
+    let entry = at-begin .before .before .before .before in
+    let bytes : List ℕ = entry .args .trace .now in
+    let away = at-begin .begin .ensures .turned-away (λ none. omega arith) in
+    (refused-ran bytes _ 0 away _, refused-judged bytes _ 0 away _ .1)
 
 start-requires : tie.Need-start-requires Inv-loop μ-loop
 start-requires c κs = search needs
@@ -46,106 +95,178 @@ start-requires c κs = search needs
 loop-holds : tie.Need-loop-holds Inv-loop μ-loop
 loop-holds c =
     let at-begin = c .before .before .before in
-    let entry = at-begin .before .before .before in
-    let size = ap length (entry .pre) ∙ length-replicate {A = ℕ} 32768 0 in
-    let first =
-    begin-starts (entry .args .trace .now) (at-begin .begin .result) (at-begin .begin .ensures) (omega arith)
-    in
-    (refl, size, refl, (1, rw (c .start .ensures, entry .pre) first))
-
-slice-aggregate-judge-record : tie.Need-slice-aggregate-judge-record Inv-loop μ-loop
-slice-aggregate-judge-record c = sym (c .before .before .before .before .before .loop .inv .2)
+    let entry = at-begin .before .before .before .before in
+    let size = entry .pre .0 in
+    record {
+      same-size = refl;
+      size = size;
+      as-lent = refl;
+      reached = rw (c .start .ensures) (at-begin .begin .ensures .passes (omega arith) _ (omega (arith, size)));
+    }
 
 slice-relend-prefix-judge-record : tie.Need-slice-relend-prefix-judge-record Inv-loop μ-loop
 slice-relend-prefix-judge-record c =
-    omega (arith, c .before .before .before .before .before .loop .inv .1)
+    omega (arith, c .before .before .before .loop .inv .size)
 
-slice-aggregate-judge-record-2 : tie.Need-slice-aggregate-judge-record-2 Inv-loop μ-loop
-slice-aggregate-judge-record-2 c =
-    let here = c .before .before .before .before .before .before .loop in
-    sym (length-take-le 32768 (here .work) (omega (arith, here .inv .1)))
+slice-aggregate-judge-record : tie.Need-slice-aggregate-judge-record Inv-loop μ-loop
+slice-aggregate-judge-record c =
+    let here = c .before .before .before .before .loop in
+    sym (length-take-le 32768 (here .work) (omega (arith, here .inv .size)))
 
 judge-record-requires : tie.Need-judge-record-requires Inv-loop μ-loop
 judge-record-requires c κs =
-    let at-inside = c .before .before in
-    let at-loop = at-inside .before .before .before .before in
-    let here = at-loop .loop in
-    let at-begin = at-loop .before .before .before .before in
-    let b = at-begin .begin .result in
-    let entry = at-begin .before .before .before in
-    let load : ℕ = loadIn (here .state) in
-    let rows : List ℕ = rowsIn (here .state) in
-    let reached = here .inv .3 .1 .passes (omega arith) in (
-      rw (all-of (here .work) 32768 (here .inv .1))
-          (reached-here (entry .args .trace .now) (b .threads) (b .locations) (here .inv .3 .0) (here .t) load rows
-          (here .work) reached),
-      (ltb-true _ _ (at-inside .if3 .taken), here .inv .2),
-    )
+    let here = c .before .before .before .before .loop in
+    rw (all-of (here .work) 32768 (here .inv .size)) (here .inv .reached)
 
-loop-less : tie.Need-loop-less Inv-loop μ-loop
-loop-less c =
-    let at-record = c .before .before .before in
-    let at-inside = at-record .before .before .before in
-    let at-loop = at-inside .before .before .before .before in
-    let here = at-loop .loop in
-    let at-begin = at-loop .before .before .before .before in
-    let b = at-begin .begin .result in
-    let bytes : List ℕ = at-begin .before .before .before .args .trace .now in
-    let load : ℕ = loadIn (here .state) in
-    let rows : List ℕ = rowsIn (here .state) in
-    let reached = here .inv .3 .1 .passes (omega arith) in
-    rw (eq-eqb (here .t .refusal) 0 (omega arith))
-    (less-left bytes (b .threads) (b .locations) (here .t .event) (here .t) load rows (here .work)
-    (reached-here bytes (b .threads) (b .locations) (here .inv .3 .0) (here .t) load rows (here .work) reached)
-    (at-record .judge-record .result) _ _ _
-    (ltb-true _ _ (at-inside .if3 .taken)) (at-record .judge-record .ensures))
+enum-known-r : tie.Need-enum-known-r Inv-loop μ-loop
+enum-known-r c = search needs
 
-loop-again : tie.Need-loop-again Inv-loop μ-loop
-loop-again c =
-    let at-record = c .before .before .before in
-    let here = at-record .before .before .before .before .before .before .before .loop in
-    let called = at-record .judge-record in
-    let after : List ℕ = called .last .1 .1 .1 .1 .1 .0 in
-    let all = nothing-behind (here .work) after 32768 (here .inv .1) in
-    let size : length after ≡ length (here .work) =
-    called .kept .1 .1 .1 .1 .1 .0 ∙ ap length (all-of (here .work) 32768 (here .inv .1))
-    in
-    rw all (
-      size ∙ here .inv .0,
-      size ∙ here .inv .1,
-      called .kept .1 .1 .1 .1 .0 ∙ here .inv .2,
-      (suc (here .t .event), called .ensures),
-    )
+enum-told : tie.Need-enum-told Inv-loop μ-loop
+enum-told c = search needs
 
-cast-t15 : tie.Need-cast-t15 Inv-loop μ-loop
-cast-t15 c = omega (arith, c .before .before .before .loop .inv .3 .1 .few)
+number-in-requires : tie.Need-number-in-requires Inv-loop μ-loop
+number-in-requires c κs = search needs
 
-slice-aggregate-get : tie.Need-slice-aggregate-get Inv-loop μ-loop
-slice-aggregate-get c = sym (c .before .before .before .before .loop .inv .2)
+event-at-requires : tie.Need-event-at-requires Inv-loop μ-loop
+event-at-requires c κs =
+    let at-record = c .before .before .before .before .before in
+    let state = at-record .before .before .before .before .before .loop .inv .reached .state in
+    omega (arith, state .numbers .row-is, state .limits .few-events)
 
-get-requires : tie.Need-get-requires Inv-loop μ-loop
-get-requires c κs = search needs
+slice-reshare-prefix-verdict : tie.Need-slice-reshare-prefix-verdict Inv-loop μ-loop
+slice-reshare-prefix-verdict c =
+    let at-record = c .before .before .before .before .before .before .before .before .before in
+    let here = at-record .before .before .before .before .before .loop in
+    let after : List ℕ = at-record .judge-record .last .1 .1 .1 .1 .1 .1 .1 .0 in
+    let size = at-record .judge-record .kept .1 .1 .1 .1 .1 .1 .1 .0 in
+    rw (nothing-behind (here .work) after 32768 (here .inv .size))
+    (omega (arith, size, all-length (here .work) (here .inv .size)))
+
+slice-aggregate-verdict : tie.Need-slice-aggregate-verdict Inv-loop μ-loop
+slice-aggregate-verdict c =
+    let at-record = c .before .before .before .before .before .before .before .before .before .before in
+    let here = at-record .before .before .before .before .before .loop in
+    let after : List ℕ = at-record .judge-record .last .1 .1 .1 .1 .1 .1 .1 .0 in
+    let size = at-record .judge-record .kept .1 .1 .1 .1 .1 .1 .1 .0 in
+    rw (nothing-behind (here .work) after 32768 (here .inv .size))
+    (sym (length-take-le 32768 after (omega (arith, size, all-length (here .work) (here .inv .size)))))
+
+verdict-requires : tie.Need-verdict-requires Inv-loop μ-loop
+verdict-requires c κs =
+    let at-record = c .before .before .before .before .before .before .before .before .before .before .before in
+    let at-loop = at-record .before .before .before .before .before in
+    let entry = at-loop .before .before .before .before .before .before .before .before in
+    ap length (at-loop .loop .inv .as-lent) ∙ entry .pre .1
 
 same-length : tie.Need-same-length Inv-loop μ-loop
-same-length c = c .before .before .before .before .before .loop .inv .0
+same-length c =
+    let at-verdict = c .before .before in
+    let at-told = at-verdict .before .before .before .before .before .before .before .before in
+    let at-record = at-told .before .before .before .before in
+    let here = at-record .before .before .before .before .before .loop in
+    let after : List ℕ = at-record .judge-record .last .1 .1 .1 .1 .1 .1 .1 .0 in
+    let size = at-record .judge-record .kept .1 .1 .1 .1 .1 .1 .1 .0 in
+    ap length (nothing-behind (here .work) after 32768 (here .inv .size))
+    ∙ (size ∙ (all-length (here .work) (here .inv .size) ∙ (sym (here .inv .size) ∙ here .inv .same-size)))
+
+same-length-2 : tie.Need-same-length-2 Inv-loop μ-loop
+same-length-2 c =
+    let at-verdict = c .before .before in
+    let at-told = at-verdict .before .before .before .before .before .before .before .before in
+    let at-record = at-told .before .before .before .before in
+    let here = at-record .before .before .before .before .before .loop in
+    at-verdict .verdict .kept .1 .1 .1 .1 .1 .0 ∙ ap length (here .inv .as-lent)
 
 returns-2 : tie.Need-returns-2 Inv-loop μ-loop
 returns-2 c =
-    let at-if2 = c .before .before .before in
-    let at-loop = at-if2 .before .before in
+    let at-verdict = c .before .before in
+    let at-event = at-verdict .before .before .before .before .before .before in
+    let at-number = at-event .before in
+    let at-told = at-number .before in
+    let at-record = at-told .before .before .before .before in
+    let at-loop = at-record .before .before .before .before .before in
     let here = at-loop .loop in
     let at-begin = at-loop .before .before .before .before in
     let b = at-begin .begin .result in
-    let entry = at-begin .before .before .before in
-    rw (c .get .ensures)
-    (run-ends (entry .args .trace .now) (b .threads) (b .locations) (here .inv .3 .0) (here .t) (loadIn (here .state))
-    (rowsIn (here .state)) (here .work) (here .inv .3 .1)
-    (⊎-elim (λ past. inr (ltb-false _ _ (past .2 .left))) (λ away. inl (λ none. omega (arith, away .left)))
-    (at-if2 .if2 .came)))
+    let entry = at-begin .before .before .before .before in
+    let bytes : List ℕ = entry .args .trace .now in
+    let told = at-told .enum-told .given in
+    let after : List ℕ = at-record .judge-record .last .1 .1 .1 .1 .1 .1 .1 .0 in
+    let size = at-record .judge-record .kept .1 .1 .1 .1 .1 .1 .1 .0 ∙ all-length (here .work) (here .inv .size) in
+    let all = nothing-behind (here .work) after 32768 (here .inv .size) in
+    let stopped =
+    ended-by bytes (b .threads) (b .locations) (eventAt (here .t .row)) _ _ _ _ (at-record .judge-record .ensures)
+    (told .0 .0) (told .1)
+    in
+    let number = at-number .number-in .ensures ∙ ap numberIn (told .1) in
+    rw all
+    (answered bytes (b .threads) (b .locations) _ _ _ _ after _ _ _ _ _ _ stopped (entry .pre .1) (here .inv .as-lent)
+    (ap (take 32768) all ∙ all-of after 32768 size) (rw (number, at-event .event-at .ensures) refl)
+    (at-verdict .verdict .ensures .0) (at-verdict .verdict .ensures .1))
+
+loop-less : tie.Need-loop-less Inv-loop μ-loop
+loop-less c =
+    let at-turn = c .before in
+    let at-record = at-turn .before .before .before .before in
+    let at-loop = at-record .before .before .before .before .before in
+    let here = at-loop .loop in
+    let at-begin = at-loop .before .before .before .before in
+    let b = at-begin .begin .result in
+    let bytes : List ℕ = at-begin .before .before .before .before .args .trace .now in
+    let told = at-turn .r .given in
+    less-left bytes (b .threads) (b .locations) (eventAt (here .t .row)) (here .t) (here .tables)
+    (marksOf (here .marks) (here .flags)) (here .work) (here .inv .reached) (told .0 .0) _ _ _
+    (went-on bytes (b .threads) (b .locations) (eventAt (here .t .row)) _ _ _ _ (at-record .judge-record .ensures)
+    (told .0 .0) (told .1))
+
+loop-again : tie.Need-loop-again Inv-loop μ-loop
+loop-again c =
+    let at-turn = c .before in
+    let at-record = at-turn .before .before .before .before in
+    let at-loop = at-record .before .before .before .before .before in
+    let here = at-loop .loop in
+    let at-begin = at-loop .before .before .before .before in
+    let b = at-begin .begin .result in
+    let bytes : List ℕ = at-begin .before .before .before .before .args .trace .now in
+    let told = at-turn .r .given in
+    let after : List ℕ = at-record .judge-record .last .1 .1 .1 .1 .1 .1 .1 .0 in
+    let size : length after ≡ 32768 =
+    at-record .judge-record .kept .1 .1 .1 .1 .1 .1 .1 .0 ∙ all-length (here .work) (here .inv .size)
+    in
+    let next =
+    went-on bytes (b .threads) (b .locations) (eventAt (here .t .row)) _ _ _ _ (at-record .judge-record .ensures)
+    (told .0 .0) (told .1)
+    in
+    rw (nothing-behind (here .work) after 32768 (here .inv .size))
+    (record {
+      same-size = size ∙ (sym (here .inv .size) ∙ here .inv .same-size);
+      size = size;
+      as-lent = here .inv .as-lent;
+      reached = reached-here bytes (b .threads) (b .locations) _ (told .0 .0) _ _ after next;
+    })
 
 pub run-spec : {M : Type 1} → statement M
 run-spec =
     tie.close
-    (tie.spec Inv-loop μ-loop begin-requires returns start-requires loop-holds
-    slice-aggregate-judge-record slice-relend-prefix-judge-record slice-aggregate-judge-record-2
-    judge-record-requires loop-less loop-again cast-t15 slice-aggregate-get get-requires same-length returns-2)
+    (tie.spec
+    Inv-loop
+    μ-loop
+    begin-requires
+    returns
+    start-requires
+    loop-holds
+    slice-relend-prefix-judge-record
+    slice-aggregate-judge-record
+    judge-record-requires
+    enum-known-r
+    enum-told
+    number-in-requires
+    event-at-requires
+    slice-reshare-prefix-verdict
+    slice-aggregate-verdict
+    verdict-requires
+    same-length
+    same-length-2
+    returns-2
+    loop-less
+    loop-again)

@@ -1,75 +1,57 @@
--- `standing` meets its contract: its tests are those of `standingAfter`, one after the other. A test of the code with
--- a `!` is read the other way round.
-use mathlib.Core.Path.{refl, sym}
-use native.Mathlib.Omega.{arith}
+-- `standing` meets its contract: the definition's cases, one for each of the verdict's.
+use mathlib.Core.Path.{sym, ap, _∙_}
+use Rattle.model.specs.declared.Verdict.{Verdict}
 use borrow.Author.Needs.{needs}
-use borrow.Author.Tests.{eq-eqb, ne-eqb, not-true, not-false}
 use Rattle.judge.specs.Standings.{standingAfter}
 use Rattle.judge.proofs.standing.standing.Statement.{statement}
 use Rattle.judge.proofs.standing.standing.Tie as tie
 
-returns : tie.Need-returns
-unfolding standingAfter
-returns c =
-    let entry = c .before .before .before in
-    rw (ne-eqb (entry .args .t .refusal) 0 (λ none. omega arith)) refl
+enum-known-v : tie.Need-enum-known-v
+enum-known-v c = search needs
 
-is-store-requires : tie.Need-is-store-requires
-is-store-requires c κs = search needs
+enum-known-v-2 : tie.Need-enum-known-v-2
+enum-known-v-2 c = search needs
+
+stand-requires : tie.Need-stand-requires
+stand-requires c κs = search needs
+
+enum-known-v-3 : tie.Need-enum-known-v-3
+enum-known-v-3 c = search needs
+
+stand-requires-2 : tie.Need-stand-requires-2
+stand-requires-2 c κs = search needs
+
+returns : tie.Need-returns
+returns c =
+    let at-variant = c .before in
+    let args = at-variant .before .before .before .args in
+    sym (ap (λ (u : Verdict). standingAfter u (args .work .now) (args .first) (args .second)) (at-variant .v .given .1))
 
 returns-2 : tie.Need-returns-2
-unfolding standingAfter
 returns-2 c =
-    let p-store = c .before .is-store in
-    let entry = c .before .before .before .before .before in
-    rw (
-      eq-eqb (entry .args .t .refusal) 0 (omega arith),
-      sym (p-store .ensures),
-      not-true (p-store .result) (c .if2 .taken),
-    )
-    refl
-
-is-store-requires-2 : tie.Need-is-store-requires-2
-is-store-requires-2 c κs = search needs
+    let at-variant = c .before .before in
+    let args = at-variant .before .before .before .args in
+    c .stand .ensures
+    ∙ sym
+    (ap (λ (u : Verdict). standingAfter u (args .work .now) (args .first) (args .second)) (at-variant .v2 .given .1))
 
 returns-3 : tie.Need-returns-3
-unfolding standingAfter
 returns-3 c =
-    let at-second = c .before in
-    let at-first = at-second .before in
-    let q-store = at-second .is-store2 in
-    let p-store = at-first .before .is-store in
-    let entry = at-first .before .before .before .before .before in
-    rw (
-      eq-eqb (entry .args .t .refusal) 0 (omega arith),
-      sym (p-store .ensures),
-      not-false (p-store .result) (at-first .if2 .left),
-      sym (q-store .ensures),
-      not-true (q-store .result) (c .if3 .taken),
-    )
-    refl
-
-order-of-requires : tie.Need-order-of-requires
-order-of-requires c κs = search needs
-
-returns-4 : tie.Need-returns-4
-unfolding standingAfter
-returns-4 c =
-    let at-second = c .before in
-    let at-first = at-second .before .before in
-    let q-store = at-second .before .is-store2 in
-    let p-store = at-first .before .is-store in
-    let entry = at-first .before .before .before .before .before in
-    rw (
-      eq-eqb (entry .args .t .refusal) 0 (omega arith),
-      sym (p-store .ensures),
-      not-false (p-store .result) (at-first .if2 .left),
-      sym (q-store .ensures),
-      not-false (q-store .result) (at-second .if3 .left),
-    )
-    (c .order-of .ensures)
+    let at-variant = c .before .before in
+    let args = at-variant .before .before .before .args in
+    c .stand2 .ensures
+    ∙ sym
+    (ap (λ (u : Verdict). standingAfter u (args .work .now) (args .first) (args .second)) (at-variant .v3 .given .1))
 
 pub standing-spec : {M : Type 1} → statement M
 standing-spec =
     tie.close
-    (tie.spec returns is-store-requires returns-2 is-store-requires-2 returns-3 order-of-requires returns-4)
+    (tie.spec
+    enum-known-v
+    enum-known-v-2
+    stand-requires
+    enum-known-v-3
+    stand-requires-2
+    returns
+    returns-2
+    returns-3)

@@ -1,155 +1,148 @@
--- Where t is a column and both rows are there the row is filled, as a part of the work area, else nothing is. Assumes
--- nothing.
-use mathlib.Core.Path.{refl, _∙_}
-use Prim.Native.Nat.{_-_, _*_, _≤_}
+-- Invariant: the first u columns are the thread's; measure: the columns left. Assumes nothing.
+use mathlib.Core.Path.{_≡_, refl, _∙_}
+use Prim.Native.Nat.{_-_}
 use native.Mathlib.Numerals.{add-one}
+use native.Mathlib.Nat.{add-zero}
 use native.Mathlib.Omega.{arith}
-use borrow.Author.Tests.{not-true, not-false, lt-leb, le-leb}
-use borrow.Rule.Slice.PartMut.{mid-len}
-use Rattle.area.proofs.ReadBack.{has-row→}
-use Rattle.machine.specs.Effects.{written}
-use Rattle.machine.proofs.RowParts.{filled-part}
 use borrow.Author.Needs.{needs}
+use lib.ListN.{length, length-set}
+use Rattle.machine.specs.Effects.{clocked, written}
+use Rattle.machine.proofs.Loops.{Turned}
 use Rattle.machine.proofs.clocks.write_row.Statement.{statement}
 use Rattle.machine.proofs.clocks.write_row.Tie as tie
 
-returns : tie.Need-returns
-unfolding written
-returns c = rw (lt-leb (c .before .before .before .args .t) 15 (c .if1 .taken)) refl
+abbrev Inv-loop : tie.InvT-loop
+Inv-loop tables t work₀ row own x j from u₀ work u =
+    Turned u 8 work (clocked u tables t row work₀) × (length work ≡ length work₀)
 
-add-has-row : tie.Need-add-has-row
-add-has-row c = search needs
+abbrev μ-loop : tie.MeasureT-loop
+μ-loop tables t work₀ row own x j from u₀ work u = 8 - u
 
-has-row-requires : tie.Need-has-row-requires
-has-row-requires c κs = search needs
+thread-requires : tie.Need-thread-requires Inv-loop μ-loop
+thread-requires c κs = search needs
 
-returns-2 : tie.Need-returns-2
-unfolding written
-returns-2 c =
-    let entry = c .before .before .before .before .before in
-    let off = not-true (c .before .has-row .result) (c .if2 .taken) in
-    rw (
-      le-leb (entry .args .t) 15 (omega (arith, c .before .before .if1 .left)),
-      rw (c .before .has-row .ensures, add-one) at off,
-    ) refl
+loop-holds : tie.Need-loop-holds Inv-loop μ-loop
+unfolding clocked
+loop-holds c = (record { below = omega arith; is-so = refl }, refl)
 
-has-row-requires-2 : tie.Need-has-row-requires-2
-has-row-requires-2 c κs = search needs
+add-work : tie.Need-add-work Inv-loop μ-loop
+add-work c = search needs
 
-same-length : tie.Need-same-length
+mul-work : tie.Need-mul-work Inv-loop μ-loop
+mul-work c = search needs
+
+element-copy-out-work : tie.Need-element-copy-out-work Inv-loop μ-loop
+element-copy-out-work c = search needs
+
+add-work-2 : tie.Need-add-work-2 Inv-loop μ-loop
+add-work-2 c = search needs
+
+mul-work-2 : tie.Need-mul-work-2 Inv-loop μ-loop
+mul-work-2 c = search needs
+
+slice-write-work : tie.Need-slice-write-work Inv-loop μ-loop
+slice-write-work c = search needs
+
+add-u : tie.Need-add-u Inv-loop μ-loop
+add-u c = search needs
+
+loop-less : tie.Need-loop-less Inv-loop μ-loop
+loop-less c = search needs
+
+loop-again : tie.Need-loop-again Inv-loop μ-loop
+unfolding clocked
+loop-again c =
+    let here = c .before .before .loop in
+    let from = c .before .before .before .thread .ensures ∙ add-zero _ in (
+      record { below = omega arith; is-so = rw (from, here .inv .0 .is-so, add-one) refl },
+      length-set (here .work) _ _ ∙ here .inv .1,
+    )
+
+add-work-3 : tie.Need-add-work-3 Inv-loop μ-loop
+add-work-3 c = search needs
+
+mul-work-3 : tie.Need-mul-work-3 Inv-loop μ-loop
+mul-work-3 c = search needs
+
+slice-write-work-2 : tie.Need-slice-write-work-2 Inv-loop μ-loop
+slice-write-work-2 c = search needs
+
+add-work-4 : tie.Need-add-work-4 Inv-loop μ-loop
+add-work-4 c = search needs
+
+mul-work-4 : tie.Need-mul-work-4 Inv-loop μ-loop
+mul-work-4 c = search needs
+
+slice-write-work-3 : tie.Need-slice-write-work-3 Inv-loop μ-loop
+slice-write-work-3 c = simp length-set (omega arith)
+
+add-work-5 : tie.Need-add-work-5 Inv-loop μ-loop
+add-work-5 c = search needs
+
+mul-work-5 : tie.Need-mul-work-5 Inv-loop μ-loop
+mul-work-5 c = search needs
+
+slice-write-work-4 : tie.Need-slice-write-work-4 Inv-loop μ-loop
+slice-write-work-4 c = simp length-set (omega arith)
+
+add-work-6 : tie.Need-add-work-6 Inv-loop μ-loop
+add-work-6 c = search needs
+
+mul-work-6 : tie.Need-mul-work-6 Inv-loop μ-loop
+mul-work-6 c = search needs
+
+slice-write-work-5 : tie.Need-slice-write-work-5 Inv-loop μ-loop
+slice-write-work-5 c = simp length-set (omega arith)
+
+add-work-7 : tie.Need-add-work-7 Inv-loop μ-loop
+add-work-7 c = search needs
+
+mul-work-7 : tie.Need-mul-work-7 Inv-loop μ-loop
+mul-work-7 c = search needs
+
+slice-write-work-6 : tie.Need-slice-write-work-6 Inv-loop μ-loop
+slice-write-work-6 c = simp length-set (omega arith)
+
+same-length : tie.Need-same-length Inv-loop μ-loop
 same-length c = search needs
 
-returns-3 : tie.Need-returns-3
+returns : tie.Need-returns Inv-loop μ-loop
 unfolding written
-returns-3 c =
-    let at-if2 = c .before .before .before in
-    let at-has-row = at-if2 .before in
-    let at-if1 = at-has-row .before in
-    let entry = at-if1 .before .before .before in
-    let own = not-false (at-has-row .has-row .result) (at-if2 .if2 .left) in
-    let off = not-true (c .before .has-row2 .result) (c .if3 .taken) in
-    rw (
-      le-leb (entry .args .t) 15 (omega (arith, at-if1 .if1 .left)),
-      rw (at-has-row .has-row .ensures, add-one) at own,
-      rw (c .before .has-row2 .ensures) at off,
-    )
-    refl
-
-sub-from : tie.Need-sub-from
-sub-from c =
-    let row = not-false (c .before .has-row2 .result) (c .if3 .left) in
-    let there = has-row→ _ _ (rw (c .before .has-row2 .ensures) at row) in
-    omega (arith, there .0, there .1)
-
-mul-from : tie.Need-mul-from
-mul-from c =
-    let row = not-false (c .before .has-row2 .result) (c .if3 .left) in
-    let there = has-row→ _ _ (rw (c .before .has-row2 .ensures) at row) in
-    omega (arith, there .0, there .1)
-
-mul-to : tie.Need-mul-to
-mul-to c =
-    let row = not-false (c .before .has-row2 .result) (c .if3 .left) in
-    let there = has-row→ _ _ (rw (c .before .has-row2 .ensures) at row) in
-    omega (arith, there .0, there .1)
-
-mul-fill-row : tie.Need-mul-fill-row
-mul-fill-row c =
-    let row = not-false (c .before .has-row2 .result) (c .if3 .left) in
-    let there = has-row→ _ _ (rw (c .before .has-row2 .ensures) at row) in
-    omega (arith, there .0, there .1)
-
-sub-fill-row : tie.Need-sub-fill-row
-sub-fill-row c = search needs
-
-part-fill-row-start : tie.Need-part-fill-row-start
-part-fill-row-start c = search needs
-
-part-fill-row-end : tie.Need-part-fill-row-end
-part-fill-row-end c =
-    let row = not-false (c .before .has-row2 .result) (c .if3 .left) in
-    let there = has-row→ _ _ (rw (c .before .has-row2 .ensures) at row) in
-    there .2
-
-fill-row-requires : tie.Need-fill-row-requires
-fill-row-requires c κs =
-    let at-if3 = c .before in
-    let at-has-row2 = at-if3 .before in
-    let at-if2 = at-has-row2 .before .before in
-    let at-has-row = at-if2 .before in
-    let own = not-false (at-has-row .has-row .result) (at-if2 .if2 .left) in
-    let row = not-false (at-has-row2 .has-row2 .result) (at-if3 .if3 .left) in
-    let own-there = has-row→ _ _ (rw (at-has-row .has-row .ensures) at own) in
-    let there = has-row→ _ _ (rw (at-has-row2 .has-row2 .ensures) at row) in
-    let e = at-has-row .before .before .before .before .args .e in (
-      omega (arith, at-has-row .before .if1 .left),
-      own-there .2,
-      mid-len (16 * (e - 1)) (16 * e) _ (there .2) ∙ omega (arith, there .0),
-    )
-
-same-length-2 : tie.Need-same-length-2
-same-length-2 c = search needs
-
-returns-4 : tie.Need-returns-4
-unfolding written
-returns-4 c =
-    let at-fill-row = c .before .before in
-    let at-if3 = at-fill-row .before .before in
-    let at-has-row2 = at-if3 .before in
-    let at-if2 = at-has-row2 .before .before in
-    let at-has-row = at-if2 .before in
-    let at-if1 = at-has-row .before in
-    let entry = at-if1 .before .before .before in
-    let own = not-false (at-has-row .has-row .result) (at-if2 .if2 .left) in
-    let row = not-false (at-has-row2 .has-row2 .result) (at-if3 .if3 .left) in
-    let there = has-row→ _ _ (rw (at-has-row2 .has-row2 .ensures) at row) in
-    let small : entry .args .t ≤ 15 = omega (arith, at-if1 .if1 .left) in
-    rw (
-      at-fill-row .fill-row .ensures,
-      le-leb (entry .args .t) 15 small,
-      rw (at-has-row .has-row .ensures, add-one) at own,
-      rw (at-has-row2 .has-row2 .ensures) at row,
-    )
-    (filled-part _ _ _ _ _ _ _ small (there .0) (there .1) (there .2))
+returns c =
+    let end : c .before .loop .u ≡ 8 = omega (arith, c .before .loop .inv .0 .below, c .loop-test .left) in
+    rw (c .before .loop .inv .0 .is-so, end) refl
 
 pub write-row-spec : {M : Type 1} → statement M
 write-row-spec =
     tie.close
     (tie.spec
-    returns
-    add-has-row
-    has-row-requires
-    returns-2
-    has-row-requires-2
+    Inv-loop
+    μ-loop
+    thread-requires
+    loop-holds
+    add-work
+    mul-work
+    element-copy-out-work
+    add-work-2
+    mul-work-2
+    slice-write-work
+    add-u
+    loop-less
+    loop-again
+    add-work-3
+    mul-work-3
+    slice-write-work-2
+    add-work-4
+    mul-work-4
+    slice-write-work-3
+    add-work-5
+    mul-work-5
+    slice-write-work-4
+    add-work-6
+    mul-work-6
+    slice-write-work-5
+    add-work-7
+    mul-work-7
+    slice-write-work-6
     same-length
-    returns-3
-    sub-from
-    mul-from
-    mul-to
-    mul-fill-row
-    sub-fill-row
-    part-fill-row-start
-    part-fill-row-end
-    fill-row-requires
-    same-length-2
-    returns-4)
+    returns)

@@ -18,9 +18,9 @@ returns c = simp (← c .before .before .row-get .ensures, eq-eqb _ _ (c .if1 .t
 returns-2 : tie.Need-returns-2
 unfolding pastIn
 returns-2 c =
-    let at-row-get2 = c .before .before .before in
-    let at-row-get = at-row-get2 .before in
-    simp (← at-row-get .row-get .ensures, ne-eqb _ _ (c .before .before .if1 .left), le-leb _ _ (c .if2 .taken))
+    let at-if1 = c .before .before in
+    let at-row-get = at-if1 .before .before in
+    simp (← at-row-get .row-get .ensures, ne-eqb _ _ (at-if1 .if1 .left), le-leb _ _ (c .if2 .taken))
 
 row-get-requires-3 : tie.Need-row-get-requires-3
 row-get-requires-3 c κs = search needs
@@ -28,13 +28,13 @@ row-get-requires-3 c κs = search needs
 returns-3 : tie.Need-returns-3
 unfolding pastIn
 returns-3 c =
-    let at-struct-known = c .before .before .before in
-    let at-if1 = at-struct-known .before in
+    let at-if2 = c .before .before in
+    let at-if1 = at-if2 .before .before in
     let at-row-get = at-if1 .before .before in
     simp (
       ← at-row-get .row-get .ensures,
       ne-eqb _ _ (at-if1 .if1 .left),
-      lt-leb _ _ (c .before .before .if2 .left),
+      lt-leb _ _ (at-if2 .if2 .left),
       ← c .before .row-get3 .ensures,
       ne-eqb _ _ (c .if3 .taken),
     )
@@ -45,8 +45,11 @@ row-get-requires-4 c κs = search needs
 commits-requires : tie.Need-commits-requires
 commits-requires c κs = search needs
 
-slot-get-requires : tie.Need-slot-get-requires
-slot-get-requires c κs = search needs
+mul-result : tie.Need-mul-result
+mul-result c = search needs
+
+element-copy-out-result : tie.Need-element-copy-out-result
+element-copy-out-result c = search needs
 
 returns-4 : tie.Need-returns-4
 unfolding pastIn
@@ -65,8 +68,7 @@ returns-4 c =
       eq-eqb _ _ (at-if3 .if3 .left),
       ← at-row-get2 .row-get2 .ensures,
       ← c .before .before .row-get4 .ensures,
-      ← c .before .commits .ensures,
-      ← c .slot-get .ensures,
+      ← c .before .commits .ensures .0,
     )
 
 pub past-spec : {M : Type 1} → statement M
@@ -81,5 +83,6 @@ past-spec =
     returns-3
     row-get-requires-4
     commits-requires
-    slot-get-requires
+    mul-result
+    element-copy-out-result
     returns-4)

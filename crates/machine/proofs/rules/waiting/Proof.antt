@@ -12,33 +12,49 @@ returns : tie.Need-returns
 unfolding waitingIn
 returns c = simp (← c .before .before .thread-of .ensures, eq-eqb _ _ (c .if1 .taken))
 
-newest-get-requires : tie.Need-newest-get-requires
-newest-get-requires c κs = search needs
+newest-requires : tie.Need-newest-requires
+newest-requires c κs = search needs
+
+mul-p : tie.Need-mul-p
+mul-p c = search needs
+
+element-copy-out-p : tie.Need-element-copy-out-p
+element-copy-out-p c = search needs
 
 returns-2 : tie.Need-returns-2
 unfolding waitingIn
 returns-2 c =
-    let at-newest-get = c .before .before in
-    let at-if1 = at-newest-get .before in
+    let at-newest = c .before .before .before in
+    let at-if1 = at-newest .before in
+    let at-thread-of = at-if1 .before .before in
     simp (
-      ← at-if1 .before .before .thread-of .ensures,
+      ← at-thread-of .thread-of .ensures,
       ne-eqb _ _ (at-if1 .if1 .left),
-      ← at-newest-get .newest-get .ensures,
+      ← at-newest .newest .ensures,
       le-leb _ _ (c .if2 .taken),
     )
 
 returns-3 : tie.Need-returns-3
 unfolding waitingIn
 returns-3 c =
-    let at-newest-get = c .before .before in
-    let at-if1 = at-newest-get .before in
+    let at-newest = c .before .before .before in
+    let at-if1 = at-newest .before in
+    let at-thread-of = at-if1 .before .before in
     simp (
-      ← at-if1 .before .before .thread-of .ensures,
+      ← at-thread-of .thread-of .ensures,
       ne-eqb _ _ (at-if1 .if1 .left),
-      ← at-newest-get .newest-get .ensures,
+      ← at-newest .newest .ensures,
       lt-leb _ _ (c .if2 .left),
     )
 
 pub waiting-spec : {M : Type 1} → statement M
 waiting-spec =
-    tie.close (tie.spec thread-of-requires returns newest-get-requires returns-2 returns-3)
+    tie.close
+    (tie.spec
+    thread-of-requires
+    returns
+    newest-requires
+    mul-p
+    element-copy-out-p
+    returns-2
+    returns-3)

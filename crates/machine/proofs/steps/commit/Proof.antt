@@ -1,143 +1,88 @@
--- The rules, then the calls, one after the other: `commit-body` puts together what they ensure. Assumes nothing.
-use mathlib.Core.Path.{_≡_, refl, _∙_}
+-- The rules, one after the other. Assumes nothing.
+use mathlib.Core.Path.{refl, _∙_}
 use native.Mathlib.Omega.{arith}
-use borrow.Author.Tests.{eq-eqb, ne-eqb}
-use Rattle.machine.proofs.RuleLaws.{thread-stops, thread-passes, stopped}
-use Rattle.machine.proofs.Bodies.{commit-body}
+use borrow.Author.Tests.{not-false, eq-eqb, ne-eqb}
+use Rattle.machine.specs.Effects.{commitW}
+use Rattle.machine.proofs.RuleLaws.{row-inside, behind, stopped, turned-away, passes}
 use borrow.Author.Needs.{needs}
 use Rattle.machine.proofs.steps.commit.Statement.{statement}
 use Rattle.machine.proofs.steps.commit.Tie as tie
 
-thread-rule-requires : tie.Need-thread-rule-requires
-thread-rule-requires c κs = search needs
+thread-fits-requires : tie.Need-thread-fits-requires
+thread-fits-requires c κs = search needs
+
+place-refusal-requires : tie.Need-place-refusal-requires
+place-refusal-requires c κs = search needs
 
 refuse-requires : tie.Need-refuse-requires
 refuse-requires c κs = search needs
 
 returns : tie.Need-returns
 returns c =
-    let at-thread-rule = c .before .before in
-    let entry = at-thread-rule .before .before .before in
-    let args = entry .args in
-    rw (c .refuse .ensures)
-    (stopped _ _ _ _ _ _ _ _ _ _
-    (thread-stops (args .m .threads) (args .e) (args .t) _ _ (at-thread-rule .thread-rule .ensures) (λ is. omega arith))
-    (λ is. omega arith))
+    turned-away _ _ _ _ _ _ _ _ _ _ _ _
+    (c .before .before .before .thread-fits .ensures .0) (c .before .before .if1 .taken)
+    (c .before .place-refusal .ensures) (c .refuse .ensures)
 
 thread-of-requires : tie.Need-thread-of-requires
-thread-of-requires c κs = search needs
+thread-of-requires c κs =
+    let bounds = c .before .before .thread-fits .ensures .1 (not-false _ (c .before .if1 .left)) in
+    omega arith
 
 refuse-requires-2 : tie.Need-refuse-requires-2
 refuse-requires-2 c κs = search needs
 
-same-length : tie.Need-same-length
-same-length c = search needs
-
 returns-2 : tie.Need-returns-2
 returns-2 c =
-    let at-if2 = c .before in
-    let at-thread-of = at-if2 .before .before in
-    let at-thread-rule = at-thread-of .before .before .before in
-    let entry = at-thread-rule .before .before .before in
-    let args = entry .args in
-    let first : at-thread-rule .thread-rule .result ≡ 0 = omega arith in
-    let empty = rw (at-thread-of .thread-of .ensures) at (eq-eqb _ _ (at-if2 .if2 .taken)) in
-    rw (c .refuse2 .ensures)
-    (stopped _ _ _ _ _ _ _ _ _ _
-    (thread-passes (args .m .threads) (args .e) (args .t) _ _ (at-thread-rule .thread-rule .ensures) first
-    ∙ rw empty refl)
-    (λ is. omega arith))
-
-row-get-requires : tie.Need-row-get-requires
-row-get-requires c κs = search needs
-
-row-get-requires-2 : tie.Need-row-get-requires-2
-row-get-requires-2 c κs = search needs
-
-last-requires : tie.Need-last-requires
-last-requires c κs = search needs
-
-slot-get-requires : tie.Need-slot-get-requires
-slot-get-requires c κs = search needs
+    let at-thread-of = c .before .before .before in
+    let at-if1 = at-thread-of .before .before in
+    let at-thread-fits = at-if1 .before in
+    let empty = rw (at-thread-of .thread-of .ensures) at (eq-eqb _ _ (c .before .if2 .taken)) in
+    stopped _ _ _ _ _ _ _ _ _
+    (behind _ _ _ _ (at-thread-fits .thread-fits .ensures .0) (at-if1 .if1 .left) ∙ rw empty refl)
+    (λ is. omega arith)
+    (c .refuse2 .ensures)
 
 commit-requires : tie.Need-commit-requires
-commit-requires c κs = search needs
-
-row-put-requires : tie.Need-row-put-requires
-row-put-requires c κs = search needs
-
-last-requires-2 : tie.Need-last-requires-2
-last-requires-2 c κs = search needs
-
-slot-put-requires : tie.Need-slot-put-requires
-slot-put-requires c κs = search needs
-
-put-committed-requires : tie.Need-put-committed-requires
-put-committed-requires c κs = search needs
+commit-requires c κs =
+    let at-struct-known = c .before .before .before in
+    let at-if1 = at-struct-known .before .before .before in
+    let at-thread-fits = at-if1 .before in
+    let entry = at-thread-fits .before .before in
+    let bounds = at-thread-fits .thread-fits .ensures .1 (not-false _ (at-if1 .if1 .left)) in
+    (omega arith, row-inside _ _ _ (entry .pre) (bounds .0))
 
 pass-requires : tie.Need-pass-requires
 pass-requires c κs = search needs
 
-same-length-2 : tie.Need-same-length-2
-same-length-2 c = search needs
-
-same-length-3 : tie.Need-same-length-3
-same-length-3 c = search needs
+same-length : tie.Need-same-length
+same-length c = search needs
 
 returns-3 : tie.Need-returns-3
+unfolding commitW
 returns-3 c =
-    let at-put-committed = c .before .before .before in
-    let at-slot-put = at-put-committed .before .before .before .before in
-    let at-last2 = at-slot-put .before in
-    let at-row-put = at-last2 .before .before .before .before in
-    let at-commit = at-row-put .before .before in
-    let at-slot-get = at-commit .before in
-    let at-last = at-slot-get .before in
-    let at-row-get2 = at-last .before .before in
-    let at-row-get = at-row-get2 .before .before in
-    let at-if2 = at-row-get .before .before in
+    let at-commit = c .before .before .before in
+    let at-if2 = at-commit .before .before .before in
     let at-thread-of = at-if2 .before .before in
     let at-if1 = at-thread-of .before .before in
-    let at-thread-rule = at-if1 .before in
-    let entry = at-thread-rule .before .before .before in
-    let args = entry .args in
-    let first : at-thread-rule .thread-rule .result ≡ 0 = omega (arith, at-if1 .if1 .left) in
+    let at-thread-fits = at-if1 .before in
     let waits = rw (at-thread-of .thread-of .ensures) at (ne-eqb _ _ (at-if2 .if2 .left)) in
-    rw (thread-passes (args .m .threads) (args .e) (args .t) _ _ (at-thread-rule .thread-rule .ensures) first, waits)
-    (commit-body _ _ _ _ _ _ _ _ _ _ _ _ _ _ _ _
-    (at-thread-of .thread-of .ensures)
-    (at-row-get .row-get .ensures)
-    (at-row-get2 .row-get2 .ensures)
-    (at-last .last .ensures)
-    (at-slot-get .slot-get .ensures)
-    (at-commit .commit .ensures)
-    (at-row-put .row-put .ensures)
-    (at-last2 .last2 .ensures)
-    (at-slot-put .slot-put .ensures)
-    (at-put-committed .put-committed .ensures)
-    (c .pass .ensures))
+    passes _ _ _ _ _ _ _ _ _
+    (behind _ _ _ _ (at-thread-fits .thread-fits .ensures .0) (at-if1 .if1 .left) ∙ rw waits refl)
+    (rw (at-commit .commit .ensures .0, at-commit .commit .ensures .1) refl)
+    (c .pass .ensures)
 
 pub commit-spec : {M : Type 1} → statement M
 commit-spec =
     tie.close
     (tie.spec
-    thread-rule-requires
+    thread-fits-requires
+    place-refusal-requires
     refuse-requires
     returns
     thread-of-requires
     refuse-requires-2
-    same-length
     returns-2
-    row-get-requires
-    row-get-requires-2
-    last-requires
-    slot-get-requires
     commit-requires
-    row-put-requires
-    last-requires-2
-    slot-put-requires
-    put-committed-requires
     pass-requires
-    same-length-2
-    same-length-3
+    same-length
     returns-3)

@@ -1,35 +1,40 @@
--- The rules of the place, then the load rule's three cases: the laws of Loading. Assumes nothing.
-use mathlib.Core.Path.{_≡_, _∙_}
+-- The tests of the place, then the load rule's three cases. Assumes nothing.
+use mathlib.Core.Path.{_∙_}
 use native.Mathlib.Omega.{arith}
-use Rattle.machine.specs.Twin.{stateOf, world}
-use Rattle.machine.proofs.RuleLaws.{at-stops, stopped}
-use Rattle.machine.proofs.Loading.{load-waits, load-current, load-crosses}
+use borrow.Author.Tests.{not-false, eq-eqb, ne-eqb}
+use Rattle.machine.proofs.RuleLaws.{turned-away, load-waits, load-here, load-crosses}
 use borrow.Author.Needs.{needs}
 use Rattle.machine.proofs.steps.load.Statement.{statement}
 use Rattle.machine.proofs.steps.load.Tie as tie
 
-place-rule-requires : tie.Need-place-rule-requires
-place-rule-requires c κs = search needs
+place-fits-requires : tie.Need-place-fits-requires
+place-fits-requires c κs = search needs
+
+place-refusal-requires : tie.Need-place-refusal-requires
+place-refusal-requires c κs = search needs
 
 refuse-requires : tie.Need-refuse-requires
 refuse-requires c κs = search needs
 
 returns : tie.Need-returns
 returns c =
-    let at-place-rule = c .before .before in
-    let entry = at-place-rule .before .before .before in
-    let args = entry .args in
-    rw (c .refuse .ensures)
-    (stopped _ _ _ _ _ _ _ _ _ _
-    (at-stops (args .m .threads) (args .e) (args .t) (args .m .locations) (args .x) _ _
-    (at-place-rule .place-rule .ensures) (λ is. omega arith))
-    (λ is. omega arith))
+    turned-away _ _ _ _ _ _ _ _ _ _ _ _
+    (c .before .before .before .place-fits .ensures .0) (c .before .before .if1 .taken)
+    (c .before .place-refusal .ensures) (c .refuse .ensures)
 
 waiting-requires : tie.Need-waiting-requires
-waiting-requires c κs = search needs
+waiting-requires c κs =
+    let bounds = c .before .before .place-fits .ensures .1 (not-false _ (c .before .if1 .left)) in
+    (omega arith, omega arith)
 
 load-only-requires : tie.Need-load-only-requires
-load-only-requires c κs = search needs
+load-only-requires c κs =
+    let at-waiting = c .before .before .before in
+    let at-if1 = at-waiting .before .before in
+    let at-place-fits = at-if1 .before in
+    let entry = at-place-fits .before .before in
+    let bounds = at-place-fits .place-fits .ensures .1 (not-false _ (at-if1 .if1 .left)) in
+    (entry .pre, bounds .0, omega arith)
 
 same-length : tie.Need-same-length
 same-length c = search needs
@@ -37,22 +42,52 @@ same-length c = search needs
 returns-2 : tie.Need-returns-2
 returns-2 c =
     let at-load-only = c .before .before in
-    let at-waiting = at-load-only .before .before .before in
+    let at-if2 = at-load-only .before .before .before in
+    let at-waiting = at-if2 .before in
     let at-if1 = at-waiting .before .before in
-    let at-place-rule = at-if1 .before in
-    let entry = at-place-rule .before .before .before in
-    let args = entry .args in
-    let w = world (stateOf (args .m) (args .e) (args .rows .now)) (args .work .now) in
-    let first : at-place-rule .place-rule .result ≡ 0 = omega (arith, at-if1 .if1 .left) in
+    let at-place-fits = at-if1 .before in
     at-load-only .load-only .ensures
-    ∙ load-waits w (args .t) (args .x) (args .s) _ (at-place-rule .place-rule .ensures) first _
-    (at-waiting .waiting .ensures) (λ is. omega arith)
+    ∙ load-waits _ _ _ _ _ (at-place-fits .place-fits .ensures .0) (at-if1 .if1 .left) _
+    (at-waiting .waiting .ensures) (at-if2 .if2 .taken)
 
-current-requires : tie.Need-current-requires
-current-requires c κs = search needs
+last-requires : tie.Need-last-requires
+last-requires c κs = search needs
+
+mul-q : tie.Need-mul-q
+mul-q c = search needs
+
+element-copy-out-q : tie.Need-element-copy-out-q
+element-copy-out-q c =
+    let at-waiting-arg = c .before .before .before in
+    let at-if1 = at-waiting-arg .before in
+    let at-place-fits = at-if1 .before in
+    let bounds = at-place-fits .place-fits .ensures .1 (not-false _ (at-if1 .if1 .left)) in
+    omega arith
+
+stretch-requires : tie.Need-stretch-requires
+stretch-requires c κs = search needs
+
+mul-if3 : tie.Need-mul-if3
+mul-if3 c = search needs
+
+element-copy-out-if3 : tie.Need-element-copy-out-if3
+element-copy-out-if3 c =
+    let at-if2 = c .before .before .before in
+    let at-if1 = at-if2 .before .before .before in
+    let at-place-fits = at-if1 .before in
+    let bounds = at-place-fits .place-fits .ensures .1 (not-false _ (at-if1 .if1 .left)) in
+    omega arith
 
 load-only-requires-2 : tie.Need-load-only-requires-2
-load-only-requires-2 c κs = search needs
+load-only-requires-2 c κs =
+    let at-struct-known = c .before .before .before in
+    let at-q = at-struct-known .before .before .before in
+    let at-waiting = at-q .before .before .before in
+    let at-if1 = at-waiting .before .before in
+    let at-place-fits = at-if1 .before in
+    let entry = at-place-fits .before .before in
+    let bounds = at-place-fits .place-fits .ensures .1 (not-false _ (at-if1 .if1 .left)) in
+    (entry .pre, bounds .0, omega arith)
 
 same-length-2 : tie.Need-same-length-2
 same-length-2 c = search needs
@@ -60,50 +95,64 @@ same-length-2 c = search needs
 returns-3 : tie.Need-returns-3
 returns-3 c =
     let at-load-only2 = c .before .before in
-    let at-current = at-load-only2 .before .before .before in
-    let at-waiting = at-current .before .before in
+    let at-if3 = at-load-only2 .before .before .before in
+    let at-stretch = at-if3 .before .before .before in
+    let at-last = at-stretch .before .before in
+    let at-if2 = at-last .before in
+    let at-waiting = at-if2 .before in
     let at-if1 = at-waiting .before .before in
-    let at-place-rule = at-if1 .before in
-    let entry = at-place-rule .before .before .before in
-    let args = entry .args in
-    let w = world (stateOf (args .m) (args .e) (args .rows .now)) (args .work .now) in
-    let first : at-place-rule .place-rule .result ≡ 0 = omega (arith, at-if1 .if1 .left) in
-    at-load-only2 .load-only2 .ensures
-    ∙ load-current w (args .t) (args .x) (args .s) _ (at-place-rule .place-rule .ensures) first _
-    (at-waiting .waiting .ensures) (omega arith) _ (at-current .current .ensures) (λ is. omega arith)
+    let at-place-fits = at-if1 .before in
+    let here = rw (at-stretch .stretch .ensures) at (eq-eqb _ _ (at-if3 .if3 .taken)) in
+    (rw (at-last .last .ensures) at (at-load-only2 .load-only2 .ensures))
+    ∙ load-here _ _ _ _ _ (at-place-fits .place-fits .ensures .0) (at-if1 .if1 .left) _
+    (at-waiting .waiting .ensures) (omega (arith, at-if2 .if2 .left)) here
 
 load-across-requires : tie.Need-load-across-requires
-load-across-requires c κs = search needs
+load-across-requires c κs =
+    let at-struct-known = c .before .before .before in
+    let at-q = at-struct-known .before .before .before in
+    let at-waiting = at-q .before .before .before in
+    let at-if1 = at-waiting .before .before in
+    let at-place-fits = at-if1 .before in
+    let entry = at-place-fits .before .before in
+    let bounds = at-place-fits .place-fits .ensures .1 (not-false _ (at-if1 .if1 .left)) in
+    (entry .pre, bounds .0, omega arith, omega arith)
 
 same-length-3 : tie.Need-same-length-3
 same-length-3 c = search needs
 
 returns-4 : tie.Need-returns-4
 returns-4 c =
-    let at-current = c .before .before .before in
-    let at-waiting = at-current .before .before in
+    let at-load-across = c .before .before in
+    let at-if3 = at-load-across .before .before .before in
+    let at-stretch = at-if3 .before .before .before in
+    let at-if2 = at-stretch .before .before .before in
+    let at-waiting = at-if2 .before in
     let at-if1 = at-waiting .before .before in
-    let at-place-rule = at-if1 .before in
-    let entry = at-place-rule .before .before .before in
-    let args = entry .args in
-    let w = world (stateOf (args .m) (args .e) (args .rows .now)) (args .work .now) in
-    let first : at-place-rule .place-rule .result ≡ 0 = omega (arith, at-if1 .if1 .left) in
-    c .load-across .ensures
-    ∙ load-crosses w (args .t) (args .x) (args .s) _ (at-place-rule .place-rule .ensures) first _
-    (at-waiting .waiting .ensures) (omega arith) _ (at-current .current .ensures) (omega arith)
+    let at-place-fits = at-if1 .before in
+    let not-here = rw (at-stretch .stretch .ensures) at (ne-eqb _ _ (at-if3 .if3 .left)) in
+    at-load-across .load-across .ensures
+    ∙ load-crosses _ _ _ _ _ (at-place-fits .place-fits .ensures .0) (at-if1 .if1 .left) _
+    (at-waiting .waiting .ensures) (omega (arith, at-if2 .if2 .left)) not-here
 
 pub load-spec : {M : Type 1} → statement M
 load-spec =
     tie.close
     (tie.spec
-    place-rule-requires
+    place-fits-requires
+    place-refusal-requires
     refuse-requires
     returns
     waiting-requires
     load-only-requires
     same-length
     returns-2
-    current-requires
+    last-requires
+    mul-q
+    element-copy-out-q
+    stretch-requires
+    mul-if3
+    element-copy-out-if3
     load-only-requires-2
     same-length-2
     returns-3

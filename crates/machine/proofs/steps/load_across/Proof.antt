@@ -1,27 +1,34 @@
--- The rule; behind it nothing changes. Assumes nothing.
-use mathlib.Core.Path.{refl}
+-- The rule; behind it the source is noted, and brings no clock. Assumes nothing.
+use mathlib.Core.Path.{refl, _∙_}
 use native.Mathlib.Omega.{arith}
 use borrow.Author.Tests.{not-true, not-false}
-use Rattle.machine.specs.Twin.{withRows}
-use Rattle.machine.specs.Effects.{passW}
-use Rattle.machine.proofs.RuleLaws.{stopped, passes}
+use Rattle.machine.specs.Effects.{crossW}
+use Rattle.machine.proofs.RuleLaws.{row-inside, stopped, passes, source-noted, source-not-noted, skip-stays}
 use borrow.Author.Needs.{needs}
 use Rattle.machine.proofs.steps.load_across.Statement.{statement}
 use Rattle.machine.proofs.steps.load_across.Tie as tie
 
-fits-across-requires : tie.Need-fits-across-requires
-fits-across-requires c κs = search needs
+admit-requires : tie.Need-admit-requires
+admit-requires c κs = search needs
 
 refuse-requires : tie.Need-refuse-requires
 refuse-requires c κs = search needs
 
+same-length : tie.Need-same-length
+same-length c = search needs
+
 returns : tie.Need-returns
 returns c =
-    let at-if1 = c .before in
-    let at-fits-across = at-if1 .before in
-    let called = at-fits-across .fits-across in
-    let off = rw (called .ensures) at (not-true (called .result) (at-if1 .if1 .taken)) in
-    rw (c .refuse .ensures) (stopped _ _ _ _ _ _ _ _ _ _ (rw off refl) (λ is. omega arith))
+    let called = c .before .before .admit in
+    let off = rw (called .ensures .0) at (not-true (called .result) (c .before .if1 .taken)) in
+    rw (called .ensures .1 ∙ source-not-noted _ _ _ _ _ _ off)
+    (stopped _ _ _ _ _ _ _ _ _ (rw off refl) (λ is. omega arith) (c .refuse .ensures))
+
+no-store-requires : tie.Need-no-store-requires
+no-store-requires c κs =
+    let at-admit-arg2 = c .before .before .before in
+    let entry = at-admit-arg2 .before .before .before in
+    row-inside _ _ _ (entry .pre .0) (entry .pre .1)
 
 thread-of-requires : tie.Need-thread-of-requires
 thread-of-requires c κs = search needs
@@ -29,23 +36,36 @@ thread-of-requires c κs = search needs
 pass-requires : tie.Need-pass-requires
 pass-requires c κs = search needs
 
+same-length-2 : tie.Need-same-length-2
+same-length-2 c = search needs
+
 returns-2 : tie.Need-returns-2
-unfolding passW withRows
+unfolding crossW
 returns-2 c =
     let at-thread-of = c .before .before in
-    let at-if1 = at-thread-of .before in
-    let at-fits-across = at-if1 .before in
-    let called = at-fits-across .fits-across in
-    let on = rw (called .ensures) at (not-false (called .result) (at-if1 .if1 .left)) in
-    rw (c .pass .ensures, at-thread-of .thread-of .ensures) (passes _ _ _ _ (rw on refl))
+    let at-work = at-thread-of .before .before .before in
+    let at-no-store = at-work .before in
+    let at-if1 = at-no-store .before .before in
+    let at-admit = at-if1 .before in
+    let at-slice-known = at-admit .before .before .before in
+    let entry = at-slice-known .before in
+    let on = rw (at-admit .admit .ensures .0) at (not-false (at-admit .admit .result) (at-if1 .if1 .left)) in
+    let noted = at-admit .admit .ensures .1 ∙ source-noted _ _ _ _ _ _ on in
+    let args = entry .args in
+    let same-skip = skip-stays (args .tables .now) (args .t) (args .x) (args .s) (entry .pre .2) in
+    passes (args .m) _ _ _ _ _ _ _ _ (rw on refl) (rw (noted, at-no-store .no-store .ensures) refl)
+    (rw (c .pass .ensures, at-thread-of .thread-of .ensures, noted, same-skip) refl)
 
 pub load-across-spec : {M : Type 1} → statement M
 load-across-spec =
     tie.close
     (tie.spec
-    fits-across-requires
+    admit-requires
     refuse-requires
+    same-length
     returns
+    no-store-requires
     thread-of-requires
     pass-requires
+    same-length-2
     returns-2)

@@ -1,31 +1,32 @@
 -- The rules, one after the other. Assumes nothing.
-use mathlib.Core.Path.{_≡_, sym, _∙_}
+use mathlib.Core.Path.{refl, sym, _∙_}
 use native.Mathlib.Omega.{arith}
-use Rattle.machine.specs.Twin.{withRows}
+use borrow.Author.Tests.{not-false}
 use Rattle.machine.specs.Effects.{skipW}
-use Rattle.machine.proofs.RuleLaws.{thread-stops, thread-passes, stopped, passes}
+use Rattle.machine.proofs.RuleLaws.{row-inside, behind, stopped, turned-away, passes}
 use borrow.Author.Needs.{needs}
 use Rattle.machine.proofs.steps.skip.Statement.{statement}
 use Rattle.machine.proofs.steps.skip.Tie as tie
 
-thread-rule-requires : tie.Need-thread-rule-requires
-thread-rule-requires c κs = search needs
+thread-fits-requires : tie.Need-thread-fits-requires
+thread-fits-requires c κs = search needs
+
+place-refusal-requires : tie.Need-place-refusal-requires
+place-refusal-requires c κs = search needs
 
 refuse-requires : tie.Need-refuse-requires
 refuse-requires c κs = search needs
 
 returns : tie.Need-returns
-returns c l =
-    let at-thread-rule = c .before .before in
-    let entry = at-thread-rule .before .before in
-    let args = entry .args in
-    rw (c .refuse .ensures)
-    (stopped _ _ _ _ _ _ _ _ _ _
-    (thread-stops (args .m .threads) (args .e) (args .t) _ _ (at-thread-rule .thread-rule .ensures) (λ is. omega arith))
-    (λ is. omega arith))
+returns c =
+    turned-away _ _ _ _ _ _ _ _ _ _ _ _
+    (c .before .before .before .thread-fits .ensures .0) (c .before .before .if1 .taken)
+    (c .before .place-refusal .ensures) (c .refuse .ensures)
 
 thread-of-requires : tie.Need-thread-of-requires
-thread-of-requires c κs = search needs
+thread-of-requires c κs =
+    let bounds = c .before .before .thread-fits .ensures .1 (not-false _ (c .before .if1 .left)) in
+    omega arith
 
 skip-rule-requires : tie.Need-skip-rule-requires
 skip-rule-requires c κs = search needs
@@ -33,75 +34,82 @@ skip-rule-requires c κs = search needs
 refuse-requires-2 : tie.Need-refuse-requires-2
 refuse-requires-2 c κs = search needs
 
-same-length : tie.Need-same-length
-same-length c = search needs
-
 returns-2 : tie.Need-returns-2
-returns-2 c l =
-    let at-skip-rule = c .before .before in
-    let at-thread-of = at-skip-rule .before in
+returns-2 c =
+    let at-thread-of = c .before .before .before in
     let at-if1 = at-thread-of .before .before in
-    let at-thread-rule = at-if1 .before in
-    let entry = at-thread-rule .before .before in
-    let args = entry .args in
-    let first : at-thread-rule .thread-rule .result ≡ 0 = omega (arith, at-if1 .if1 .left) in
-    let own = rw (at-thread-of .thread-of .ensures) at (at-skip-rule .skip-rule .ensures) in
-    rw (c .refuse2 .ensures)
-    (stopped _ _ _ _ _ _ _ _ _ _
-    (thread-passes (args .m .threads) (args .e) (args .t) _ _ (at-thread-rule .thread-rule .ensures) first ∙ sym own)
-    (λ is. omega arith))
+    let at-thread-fits = at-if1 .before in
+    let own = rw (at-thread-of .thread-of .ensures) at (c .before .before .skip-rule .ensures) in
+    stopped _ _ _ _ _ _ _ _ _
+    (behind _ _ _ _ (at-thread-fits .thread-fits .ensures .0) (at-if1 .if1 .left) ∙ sym own)
+    (c .before .if2 .taken)
+    (c .refuse2 .ensures)
+
+no-store-requires : tie.Need-no-store-requires
+no-store-requires c κs =
+    let at-thread-of = c .before .before .before in
+    let at-if1 = at-thread-of .before .before in
+    let at-thread-fits = at-if1 .before in
+    let entry = at-thread-fits .before .before in
+    row-inside _ _ _ (entry .pre) (at-thread-fits .thread-fits .ensures .1 (not-false _ (at-if1 .if1 .left)) .0)
 
 with-skip-requires : tie.Need-with-skip-requires
 with-skip-requires c κs = search needs
 
 put-skip-requires : tie.Need-put-skip-requires
-put-skip-requires c κs = search needs
+put-skip-requires c κs =
+    let at-work = c .before .before .before in
+    let at-if2 = at-work .before .before .before in
+    let at-thread-of-arg = at-if2 .before .before .before in
+    let at-if1 = at-thread-of-arg .before in
+    let at-thread-fits = at-if1 .before in
+    let bounds = at-thread-fits .thread-fits .ensures .1 (not-false _ (at-if1 .if1 .left)) in
+    omega arith
 
 pass-requires : tie.Need-pass-requires
 pass-requires c κs = search needs
 
-same-length-2 : tie.Need-same-length-2
-same-length-2 c = search needs
+same-length : tie.Need-same-length
+same-length c = search needs
 
 returns-3 : tie.Need-returns-3
-unfolding skipW withRows
-returns-3 c l =
-    let at-put-skip = c .before .before .before in
-    let at-with-skip = at-put-skip .before .before in
-    let at-if2 = at-with-skip .before in
+unfolding skipW
+returns-3 c =
+    let at-with-skip = c .before .before .before in
+    let at-no-store = at-with-skip .before .before .before in
+    let at-if2 = at-no-store .before .before in
     let at-skip-rule = at-if2 .before in
     let at-thread-of = at-skip-rule .before in
     let at-if1 = at-thread-of .before .before in
-    let at-thread-rule = at-if1 .before in
-    let entry = at-thread-rule .before .before in
-    let args = entry .args in
-    let first : at-thread-rule .thread-rule .result ≡ 0 = omega (arith, at-if1 .if1 .left) in
-    let second : at-skip-rule .skip-rule .result ≡ 0 = omega (arith, at-if2 .if2 .left) in
+    let at-thread-fits = at-if1 .before in
     let own = rw (at-thread-of .thread-of .ensures) at (at-skip-rule .skip-rule .ensures) in
-    rw (
-      c .pass .ensures,
-      at-put-skip .put-skip .ensures,
+    passes _ _ _ _ _ _ _ _ _
+    (behind _ _ _ _ (at-thread-fits .thread-fits .ensures .0) (at-if1 .if1 .left) ∙ sym own
+    ∙ omega (arith, at-if2 .if2 .left))
+    (rw (
+      c .before .put-skip .ensures,
       at-with-skip .with-skip .ensures,
       at-thread-of .thread-of .ensures,
+      at-no-store .no-store .ensures,
     )
-    (passes _ _ _ _
-    (thread-passes (args .m .threads) (args .e) (args .t) _ _ (at-thread-rule .thread-rule .ensures) first
-    ∙ sym own ∙ second))
+    refl)
+    (c .pass .ensures)
 
 pub skip-spec : {M : Type 1} → statement M
 skip-spec =
     tie.close
     (tie.spec
-    thread-rule-requires
+    thread-fits-requires
+    place-refusal-requires
     refuse-requires
     returns
     thread-of-requires
     skip-rule-requires
     refuse-requires-2
-    same-length
     returns-2
+    no-store-requires
     with-skip-requires
     put-skip-requires
     pass-requires
-    same-length-2
+    same-length
     returns-3)

@@ -37,34 +37,25 @@ refuse-requires c κs = search needs
 same-length : tie.Need-same-length
 same-length c = search needs
 
-same-length-2 : tie.Need-same-length-2
-same-length-2 c = search needs
-
 returns : tie.Need-returns
 unfolding stepO byKind
 returns c =
-    let at-issue = c .before .before .before .before in
+    let at-issue = c .before .before in
     let at-match = at-issue .before .before .before in
     rw (at-match .match .keys1) (at-issue .issue .ensures)
 
-same-length-3 : tie.Need-same-length-3
-same-length-3 c = search needs
-
-same-length-4 : tie.Need-same-length-4
-same-length-4 c = search needs
+same-length-2 : tie.Need-same-length-2
+same-length-2 c = search needs
 
 returns-2 : tie.Need-returns-2
 unfolding stepO byKind
 returns-2 c =
-    let at-commit = c .before .before .before .before in
+    let at-commit = c .before .before in
     let at-match = at-commit .before .before .before in
     rw (at-match .match .keys2) (at-commit .commit .ensures)
 
-same-length-5 : tie.Need-same-length-5
-same-length-5 c = search needs
-
-same-length-6 : tie.Need-same-length-6
-same-length-6 c = search needs
+same-length-3 : tie.Need-same-length-3
+same-length-3 c = search needs
 
 returns-3 : tie.Need-returns-3
 unfolding stepO byKind
@@ -73,46 +64,54 @@ returns-3 c =
     let at-match = at-load .before .before .before in
     rw (at-match .match .keys3) (at-load .load .ensures)
 
-same-length-7 : tie.Need-same-length-7
-same-length-7 c = search needs
-
-same-length-8 : tie.Need-same-length-8
-same-length-8 c = search needs
+same-length-4 : tie.Need-same-length-4
+same-length-4 c = search needs
 
 returns-4 : tie.Need-returns-4
 unfolding stepO byKind
 returns-4 c =
-    let at-crash = c .before .before .before .before in
+    let at-crash = c .before .before in
     let at-match = at-crash .before .before .before in
     rw (at-match .match .keys4) (at-crash .crash .ensures)
+
+same-length-5 : tie.Need-same-length-5
+same-length-5 c = search needs
 
 returns-5 : tie.Need-returns-5
 unfolding stepO
 returns-5 c =
-    let at-low = c .before .before in
-    let others = at-low .before .match .rest in
-    let low = behind-load _ (at-low .if1 .left) (others .0 .0 .0 .1) (others .0 .0 .1) (others .0 .1) in
-    c .flush .ensures _ _ ∙ flush-arm _ _ _ _ _ _ _ _ _ low (le-of-suc-le-suc (c .before .if2 .taken))
+    let at-flush = c .before .before in
+    let at-if2 = at-flush .before .before in
+    let at-if1 = at-if2 .before in
+    let at-match = at-if1 .before in
+    let others = at-match .match .rest in
+    let low = behind-load _ (at-if1 .if1 .left) (others .0 .0 .0 .1) (others .0 .0 .1) (others .0 .1) in
+    at-flush .flush .ensures _ ∙ flush-arm _ _ _ _ _ _ _ _ _ low (le-of-suc-le-suc (at-if2 .if2 .taken))
 
-same-length-9 : tie.Need-same-length-9
-same-length-9 c = search needs
+same-length-6 : tie.Need-same-length-6
+same-length-6 c = search needs
 
 returns-6 : tie.Need-returns-6
 unfolding stepO
-returns-6 c = c .fence .ensures _ ∙ fence-arm _ _ _ _ _ _ _ _ _ (omega arith) (omega arith)
+returns-6 c =
+    let at-fence = c .before .before in
+    let at-if3 = at-fence .before .before .before in
+    let at-if2 = at-if3 .before in
+    at-fence .fence .ensures
+    ∙ fence-arm _ _ _ _ _ _ _ _ _ (omega (arith, at-if2 .if2 .left)) (omega (arith, at-if3 .if3 .taken))
 
-same-length-10 : tie.Need-same-length-10
-same-length-10 c = search needs
+same-length-7 : tie.Need-same-length-7
+same-length-7 c = search needs
 
 returns-7 : tie.Need-returns-7
 unfolding stepO
 returns-7 c =
     let at-skip = c .before .before in
-    let at-if4 = at-skip .before .before in
+    let at-if4 = at-skip .before .before .before in
     let at-if3 = at-if4 .before in
     let at-match = at-if3 .before .before .before in
     let low = behind-crash _ (at-if3 .if3 .left) (at-match .match .rest .1) in
-    at-skip .skip .ensures _ ∙ skip-arm _ _ _ _ _ _ _ _ _ low (le-of-suc-le-suc (at-if4 .if4 .taken))
+    at-skip .skip .ensures ∙ skip-arm _ _ _ _ _ _ _ _ _ low (le-of-suc-le-suc (at-if4 .if4 .taken))
 
 returns-8 : tie.Need-returns-8
 unfolding stepO
@@ -135,20 +134,17 @@ step-spec =
     skip-requires
     refuse-requires
     same-length
-    same-length-2
     returns
-    same-length-3
-    same-length-4
+    same-length-2
     returns-2
-    same-length-5
-    same-length-6
+    same-length-3
     returns-3
-    same-length-7
-    same-length-8
+    same-length-4
     returns-4
+    same-length-5
     returns-5
-    same-length-9
+    same-length-6
     returns-6
-    same-length-10
+    same-length-7
     returns-7
     returns-8)

@@ -1,32 +1,46 @@
--- Where the queue is not empty, the store is the one that stands there: `put-back`. Assumes nothing.
-use mathlib.Core.Path.{sym, _∙_}
-use Rattle.area.proofs.ReadBack.{put-back}
+-- Where the queue is not empty, the store is the one that stands there: `set-getD`. Assumes nothing.
+use mathlib.Core.Path.{refl, sym}
+use lib.Seq.{set-getD}
 use borrow.Author.Needs.{needs}
 use Rattle.machine.proofs.threads.put_oldest.Statement.{statement}
 use Rattle.machine.proofs.threads.put_oldest.Tie as tie
 
-thread-get-requires : tie.Need-thread-get-requires
-thread-get-requires c κs = search needs
+thread-requires : tie.Need-thread-requires
+thread-requires c κs = search needs
 
-same-length : tie.Need-same-length
-same-length c = search needs
+mul-if1 : tie.Need-mul-if1
+mul-if1 c = search needs
+
+element-copy-out-if1 : tie.Need-element-copy-out-if1
+element-copy-out-if1 c = search needs
 
 returns : tie.Need-returns
 returns c =
-    let at-get = c .before in
-    let entry = at-get .before .before .before in
-    let keeps = entry .pre (λ none. c .if1 .taken (at-get .thread-get .ensures ∙ none)) in
-    rw keeps (sym (put-back _ _ _))
+    let at-read = c .before .before .thread in
+    let keeps = c .before .before .before .pre .1 (λ none. c .if1 .taken (rw (at-read .ensures) none)) in
+    rw keeps (sym (set-getD _ _ _))
 
-thread-put-requires : tie.Need-thread-put-requires
-thread-put-requires c κs = search needs
+thread-requires-2 : tie.Need-thread-requires-2
+thread-requires-2 c κs = search needs
 
-same-length-2 : tie.Need-same-length-2
-same-length-2 c = search needs
+mul-tables : tie.Need-mul-tables
+mul-tables c = search needs
+
+element-write-tables : tie.Need-element-write-tables
+element-write-tables c = search needs
 
 returns-2 : tie.Need-returns-2
-returns-2 c = search needs
+returns-2 c = rw (c .thread2 .ensures) refl
 
 pub put-oldest-spec : {M : Type 1} → statement M
 put-oldest-spec =
-    tie.close (tie.spec thread-get-requires same-length returns thread-put-requires same-length-2 returns-2)
+    tie.close
+    (tie.spec
+    thread-requires
+    mul-if1
+    element-copy-out-if1
+    returns
+    thread-requires-2
+    mul-tables
+    element-write-tables
+    returns-2)

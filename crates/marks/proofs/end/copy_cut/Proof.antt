@@ -1,8 +1,9 @@
--- Invariant: the first i counts are copied. Measure: the counts that are left. Assumes nothing.
+-- Invariant: the first i counts are copied, and the buffer has its length. Measure: the counts that are left.
+-- Assumes nothing.
 use native.Mathlib.Omega.{arith}
 use Prim.Native.Nat.{_-_, _≤_}
-use mathlib.Core.Path.{_≡_, refl, _∙_}
-use lib.ListN.{length}
+use mathlib.Core.Path.{_≡_, refl}
+use lib.ListN.{length, length-set}
 use Rattle.marks.specs.Ending.{copied}
 use Rattle.marks.proofs.Turns.{copied-more}
 use borrow.Author.Needs.{needs}
@@ -10,46 +11,49 @@ use Rattle.marks.proofs.end.copy_cut.Statement.{statement}
 use Rattle.marks.proofs.end.copy_cut.Tie as tie
 
 abbrev Inv-loop : tie.InvT-loop
-Inv-loop work out₀ i₀ out i = (out ≡ copied i work out₀) × (i ≤ 56) × (length out ≡ length out₀)
+Inv-loop marks out₀ i₀ out i = (i ≤ 56) × (length out ≡ 56) × (out ≡ copied i marks out₀)
 
 abbrev μ-loop : tie.MeasureT-loop
-μ-loop work out₀ i₀ out i = 56 - i
+μ-loop marks out₀ i₀ out i = 56 - i
 
 loop-holds : tie.Need-loop-holds Inv-loop μ-loop
 unfolding copied
-loop-holds c = (refl, omega arith, refl)
+loop-holds c = (omega arith, c .pre, refl)
 
-add-slot-get : tie.Need-add-slot-get Inv-loop μ-loop
-add-slot-get c = search needs
+add-out : tie.Need-add-out Inv-loop μ-loop
+add-out c = search needs
 
-slot-get-requires : tie.Need-slot-get-requires Inv-loop μ-loop
-slot-get-requires c κs = search needs
+mul-out : tie.Need-mul-out Inv-loop μ-loop
+mul-out c = search needs
 
-put-requires : tie.Need-put-requires Inv-loop μ-loop
-put-requires c κs = search needs
+element-copy-out-out : tie.Need-element-copy-out-out Inv-loop μ-loop
+element-copy-out-out c = search needs
+
+mul-out-2 : tie.Need-mul-out-2 Inv-loop μ-loop
+mul-out-2 c = search needs
+
+slice-write-out : tie.Need-slice-write-out Inv-loop μ-loop
+slice-write-out c = search needs
 
 add-i : tie.Need-add-i Inv-loop μ-loop
 add-i c = search needs
 
 loop-less : tie.Need-loop-less Inv-loop μ-loop
-loop-less c = omega arith
+loop-less c = search needs
 
 loop-again : tie.Need-loop-again Inv-loop μ-loop
 loop-again c =
-    let at-put = c .before .before in
-    let at-slot-get = at-put .before .before in
-    let at-loop = at-slot-get .before .before in
-    let turn = at-loop .loop in (
-      at-put .put .ensures ∙ rw (at-slot-get .slot-get .ensures, turn .inv .0) (copied-more (turn .i) _ _),
-      omega arith,
-      at-put .put .kept .0 ∙ turn .inv .2,
-    )
+    let here = c .before .before .loop in
+    (omega arith, simp length-set (here .inv .1), rw (here .inv .2) (copied-more _ _ _))
 
 same-length : tie.Need-same-length Inv-loop μ-loop
-same-length c = c .before .loop .inv .2
+same-length c = search needs
 
 returns : tie.Need-returns Inv-loop μ-loop
-returns c = let all : c .before .loop .i ≡ 56 = omega arith in rw all at (c .before .loop .inv .0)
+returns c =
+    let here = c .before .loop in
+    let end : here .i ≡ 56 = omega arith in
+    rw end at (here .inv .2)
 
 pub copy-cut-spec : {M : Type 1} → statement M
 copy-cut-spec =
@@ -58,9 +62,11 @@ copy-cut-spec =
     Inv-loop
     μ-loop
     loop-holds
-    add-slot-get
-    slot-get-requires
-    put-requires
+    add-out
+    mul-out
+    element-copy-out-out
+    mul-out-2
+    slice-write-out
     add-i
     loop-less
     loop-again

@@ -4,6 +4,7 @@ use Prim.Native.Nat.{_-_, _≤_}
 use native.Mathlib.Nat.{sub-zero}
 use mathlib.Core.Path.{_≡_, _∙_}
 use Rattle.model.specs.Search.{firstFrom, first}
+use Rattle.marks.specs.Marks.{marksOf}
 use Rattle.marks.specs.Testing.{missingIn, missingBy}
 use Rattle.marks.proofs.Turns.{first-here, first-on, first-done}
 use borrow.Author.Needs.{needs}
@@ -11,10 +12,12 @@ use Rattle.marks.proofs.evidence.missing.Statement.{statement}
 use Rattle.marks.proofs.evidence.missing.Tie as tie
 
 abbrev Inv-loop : tie.InvT-loop
-Inv-loop work n p₀ p = (firstFrom p (n - p) (missingIn work) ≡ first n (missingIn work)) × (p ≤ n)
+Inv-loop marks flags rows n p₀ p =
+    (firstFrom p (n - p) (missingIn rows (marksOf marks flags)) ≡ first n (missingIn rows (marksOf marks flags)))
+    × (p ≤ n)
 
 abbrev μ-loop : tie.MeasureT-loop
-μ-loop work n p₀ p = n - p
+μ-loop marks flags rows n p₀ p = n - p
 
 loop-holds : tie.Need-loop-holds Inv-loop μ-loop
 unfolding first
@@ -33,7 +36,7 @@ add-p : tie.Need-add-p Inv-loop μ-loop
 add-p c = search needs
 
 loop-less : tie.Need-loop-less Inv-loop μ-loop
-loop-less c = omega arith
+loop-less c = search needs
 
 loop-again : tie.Need-loop-again Inv-loop μ-loop
 loop-again c =

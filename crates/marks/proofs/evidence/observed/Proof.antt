@@ -11,10 +11,11 @@ use Rattle.marks.proofs.evidence.observed.Statement.{statement}
 use Rattle.marks.proofs.evidence.observed.Tie as tie
 
 abbrev Inv-loop : tie.InvT-loop
-Inv-loop work n m q₀ q = (firstFrom q (n - q) (observedIn work m) ≡ first n (observedIn work m)) × (q ≤ n)
+Inv-loop flags rows n m q₀ q =
+    (firstFrom q (n - q) (observedIn rows flags m) ≡ first n (observedIn rows flags m)) × (q ≤ n)
 
 abbrev μ-loop : tie.MeasureT-loop
-μ-loop work n m q₀ q = n - q
+μ-loop flags rows n m q₀ q = n - q
 
 loop-holds : tie.Need-loop-holds Inv-loop μ-loop
 unfolding first
@@ -33,7 +34,7 @@ add-q : tie.Need-add-q Inv-loop μ-loop
 add-q c = search needs
 
 loop-less : tie.Need-loop-less Inv-loop μ-loop
-loop-less c = omega arith
+loop-less c = search needs
 
 loop-again : tie.Need-loop-again Inv-loop μ-loop
 loop-again c =

@@ -1,48 +1,48 @@
--- The definition's tests, on the two slots. Assumes nothing.
+-- The definition's two tests, with what the calls read. Assumes nothing.
 use borrow.Author.Tests.{eq-eqb, ne-eqb}
 use borrow.Author.Needs.{needs}
 use Rattle.marks.proofs.judged.repeats.Statement.{statement}
 use Rattle.marks.proofs.judged.repeats.Tie as tie
 
-load-last-requires : tie.Need-load-last-requires
-load-last-requires c κs = search needs
+last-requires : tie.Need-last-requires
+last-requires c κs = search needs
 
-slot-get-requires : tie.Need-slot-get-requires
-slot-get-requires c κs = search needs
+mul-noted-last : tie.Need-mul-noted-last
+mul-noted-last c = search needs
 
-load-source-requires : tie.Need-load-source-requires
-load-source-requires c κs = search needs
+element-copy-out-noted-last : tie.Need-element-copy-out-noted-last
+element-copy-out-noted-last c = search needs
 
-slot-get-requires-2 : tie.Need-slot-get-requires-2
-slot-get-requires-2 c κs = search needs
+source-requires : tie.Need-source-requires
+source-requires c κs = search needs
+
+mul-noted-source : tie.Need-mul-noted-source
+mul-noted-source c = search needs
+
+element-copy-out-noted-source : tie.Need-element-copy-out-noted-source
+element-copy-out-noted-source c = search needs
 
 returns : tie.Need-returns
 returns c =
-    let at-slot-get2 = c .before in
-    let at-load-source = at-slot-get2 .before in
-    let at-slot-get = at-load-source .before in
-    let at-load-last = at-slot-get .before in
-    simp (
-      ← (at-load-last .load-last .ensures),
-      ← (at-slot-get .slot-get .ensures),
-      ← (at-load-source .load-source .ensures),
-      ← (at-slot-get2 .slot-get2 .ensures),
-      eq-eqb _ _ (c .if1 .taken),
-    )
+    let at-source = c .before .before in
+    let at-last = at-source .before .before in
+    rw (← (at-source .source .ensures .0), ← (at-last .last .ensures .0), eq-eqb _ _ (c .if1 .taken))
 
 returns-2 : tie.Need-returns-2
 returns-2 c =
-    let at-slot-get = c .before .before .before in
-    let at-load-last = at-slot-get .before in
-    simp (← (at-load-last .load-last .ensures), ← (at-slot-get .slot-get .ensures), ne-eqb _ _ (c .if1 .left))
+    let at-source = c .before .before in
+    let at-last = at-source .before .before in
+    simp (← (at-last .last .ensures .0), ne-eqb _ _ (c .if1 .left))
 
 pub repeats-spec : {M : Type 1} → statement M
 repeats-spec =
     tie.close
     (tie.spec
-    load-last-requires
-    slot-get-requires
-    load-source-requires
-    slot-get-requires-2
+    last-requires
+    mul-noted-last
+    element-copy-out-noted-last
+    source-requires
+    mul-noted-source
+    element-copy-out-noted-source
     returns
     returns-2)

@@ -1,48 +1,36 @@
 -- Invariant: the walk from here over the turns that are left is the whole walk, and what was found or is found from
 -- here on is what the whole walk finds. Measure: the turns that are left. Assumes nothing.
 use native.Mathlib.Omega.{arith}
-use mathlib.Core.Bool.{_||_}
-use mathlib.Core.Path.{_≡_, refl, _∙_}
-use lib.ListN.{length}
+use mathlib.Core.Path.{refl}
+use Rattle.marks.specs.Marks.{marksOf}
 use Rattle.marks.specs.Marking.{walked}
 use Rattle.marks.specs.Testing.{walkHits}
-use Rattle.marks.proofs.Turns.{walk-end, walk-stop, walk-more, walk-none}
-use Rattle.marks.proofs.Turns.{hits-end, hits-stop, hits-more, hits-none, hits-done}
+use Rattle.marks.proofs.Turns.{Left, walk-end, walk-stop, walk-more, walk-none}
 use borrow.Author.Needs.{needs}
 use Rattle.marks.proofs.walk.walk.Statement.{statement}
 use Rattle.marks.proofs.walk.walk.Tie as tie
 
 abbrev Inv-loop : tie.InvT-loop
-Inv-loop work₀ first stop p₀ n₀ hit₀ work p n hit =
-    (walked n work p stop ≡ walked n₀ work₀ p₀ stop) × (length work ≡ length work₀)
-    × ((hit || walkHits n work p stop) ≡ walkHits n₀ work₀ p₀ stop)
+Inv-loop marks₀ flags₀ rows first stop p₀ n₀ hit₀ marks flags p n hit =
+    Left rows stop (walked n₀ rows (marksOf marks₀ flags₀) p₀ stop) (walkHits n₀ rows marks₀ p₀ stop)
+    n (marksOf marks flags) p hit
 
 abbrev μ-loop : tie.MeasureT-loop
-μ-loop work₀ first stop p₀ n₀ hit₀ work p n hit = n
+μ-loop marks₀ flags₀ rows first stop p₀ n₀ hit₀ marks flags p n hit = n
 
 loop-holds : tie.Need-loop-holds Inv-loop μ-loop
-loop-holds c = (refl, refl, refl)
-
-same-length : tie.Need-same-length Inv-loop μ-loop
-same-length c = c .before .before .loop .inv .1
+loop-holds c = (refl, refl)
 
 returns : tie.Need-returns Inv-loop μ-loop
 returns c =
-    let (walk-is, _, hits-is) = c .before .before .loop .inv in (
-      hits-done _ _ _ (hits-end _ _ _ _ (c .if1 .taken)) hits-is,
-      walk-end _ _ _ _ (c .if1 .taken) ∙ walk-is,
-    )
-
-same-length-2 : tie.Need-same-length-2 Inv-loop μ-loop
-same-length-2 c = c .before .before .before .loop .inv .1
+    let at-loop = c .before .before in
+    walk-end _ _ _ _ _ _ _ _ (at-loop .loop .inv) (c .if1 .taken)
 
 returns-2 : tie.Need-returns-2 Inv-loop μ-loop
 returns-2 c =
-    let store = c .before .if1 .left in
-    let (walk-is, _, hits-is) = c .before .before .before .loop .inv in (
-      hits-done _ _ _ (hits-stop _ _ _ _ store (c .if2 .taken)) hits-is,
-      walk-stop _ _ _ _ store (c .if2 .taken) ∙ walk-is,
-    )
+    let at-if1 = c .before in
+    let at-loop = at-if1 .before .before in
+    walk-stop _ _ _ _ _ _ _ _ (at-loop .loop .inv) (at-if1 .if1 .left) (c .if2 .taken)
 
 row-get-requires : tie.Need-row-get-requires Inv-loop μ-loop
 row-get-requires c κs = search needs
@@ -61,32 +49,18 @@ loop-less c = search needs
 
 loop-again : tie.Need-loop-again Inv-loop μ-loop
 loop-again c =
-    let at-mark = c .before .before .before in
-    let at-row-get = at-mark .before .before in
-    let at-if2 = at-row-get .before .before in
+    let at-mark = c .before in
+    let at-row-get = at-mark .before .before .before in
+    let at-if2 = at-row-get .before in
     let at-if1 = at-if2 .before in
     let at-loop = at-if1 .before .before in
-    let turn = at-loop .loop in
-    let (here-is, mark-is) = at-mark .mark .ensures in (
-      simp (mark-is, at-row-get .row-get .ensures)
-          (walk-more (turn .n) (turn .work) (turn .p) _ (omega arith) (at-if1 .if1 .left) (at-if2 .if2 .left)
-          ∙ turn .inv .0),
-      at-mark .mark .kept .0 ∙ turn .inv .1,
-      simp (mark-is, at-row-get .row-get .ensures, c .either .ensures, here-is)
-          (hits-more (turn .n) (turn .work) (turn .p) _ (turn .hit) (omega arith) (at-if1 .if1 .left)
-          (at-if2 .if2 .left)
-          ∙ turn .inv .2),
-    )
-
-same-length-3 : tie.Need-same-length-3 Inv-loop μ-loop
-same-length-3 c = c .before .loop .inv .1
+    let (here-is, mark-is) = at-mark .mark .ensures in
+    walk-more _ _ _ _ _ _ _ (at-loop .loop .hit) _ _ _ _
+    (at-loop .loop .inv) (omega arith) (at-if1 .if1 .left) (at-if2 .if2 .left)
+    mark-is (at-row-get .row-get .ensures) here-is (c .either .ensures)
 
 returns-3 : tie.Need-returns-3 Inv-loop μ-loop
-returns-3 c =
-    let (walk-is, _, hits-is) = c .before .loop .inv in (
-      hits-done _ _ _ (hits-none _ _ _ _ (omega arith)) hits-is,
-      walk-none _ _ _ _ (omega arith) ∙ walk-is,
-    )
+returns-3 c = walk-none _ _ _ _ _ _ _ _ (c .before .loop .inv) (omega arith)
 
 pub walk-spec : {M : Type 1} → statement M
 walk-spec =
@@ -95,9 +69,7 @@ walk-spec =
     Inv-loop
     μ-loop
     loop-holds
-    same-length
     returns
-    same-length-2
     returns-2
     row-get-requires
     mark-requires
@@ -105,5 +77,4 @@ walk-spec =
     sub-n
     loop-less
     loop-again
-    same-length-3
     returns-3)

@@ -1,0 +1,110 @@
+-- The calls and stores, one after the other. Assumes nothing.
+use mathlib.Core.Path.{refl}
+use Rattle.machine.specs.Effects.{committedTables, committedWork}
+use borrow.Author.Needs.{needs}
+use Rattle.machine.proofs.effects.commit.Statement.{statement}
+use Rattle.machine.proofs.effects.commit.Tie as tie
+
+thread-of-requires : tie.Need-thread-of-requires
+thread-of-requires c κs = search needs
+
+row-get-requires : tie.Need-row-get-requires
+row-get-requires c κs = search needs
+
+row-get-requires-2 : tie.Need-row-get-requires-2
+row-get-requires-2 c κs = search needs
+
+commit-requires : tie.Need-commit-requires
+commit-requires c κs = search needs
+
+no-store-requires : tie.Need-no-store-requires
+no-store-requires c κs = search needs
+
+last-requires : tie.Need-last-requires
+last-requires c κs = search needs
+
+mul-row-put : tie.Need-mul-row-put
+mul-row-put c = search needs
+
+element-copy-out-row-put : tie.Need-element-copy-out-row-put
+element-copy-out-row-put c = search needs
+
+row-put-requires : tie.Need-row-put-requires
+row-put-requires c κs = search needs
+
+last-requires-2 : tie.Need-last-requires-2
+last-requires-2 c κs = search needs
+
+mul-tables : tie.Need-mul-tables
+mul-tables c = search needs
+
+element-write-tables : tie.Need-element-write-tables
+element-write-tables c = search needs
+
+stretch-requires : tie.Need-stretch-requires
+stretch-requires c κs = search needs
+
+mul-tables-2 : tie.Need-mul-tables-2
+mul-tables-2 c = search needs
+
+element-write-tables-2 : tie.Need-element-write-tables-2
+element-write-tables-2 c = search needs
+
+put-committed-requires : tie.Need-put-committed-requires
+put-committed-requires c κs = search needs
+
+same-length : tie.Need-same-length
+same-length c = search needs
+
+returns : tie.Need-returns
+unfolding committedTables committedWork
+returns c =
+    let at-last2 = c .before .before .before in
+    let at-row-put = at-last2 .before .before .before in
+    let at-last = at-row-put .before .before in
+    let at-work = at-last .before .before .before in
+    let at-no-store = at-work .before in
+    let at-commit = at-no-store .before .before in
+    let at-row-get2 = at-commit .before in
+    let at-row-get = at-row-get2 .before .before in
+    let at-thread-of = at-row-get .before .before in (
+      rw (
+        c .put-committed .ensures,
+        c .before .before .stretch .ensures,
+        at-last2 .last2 .ensures,
+        at-commit .commit .ensures,
+        at-row-get2 .row-get2 .ensures,
+        at-row-get .row-get .ensures,
+        at-thread-of .thread-of .ensures,
+      ) refl,
+      rw (
+        at-row-put .row-put .ensures,
+        at-last .last .ensures,
+        at-no-store .no-store .ensures,
+        at-row-get .row-get .ensures,
+        at-thread-of .thread-of .ensures,
+      ) refl,
+    )
+
+pub commit-spec : {M : Type 1} → statement M
+commit-spec =
+    tie.close
+    (tie.spec
+    thread-of-requires
+    row-get-requires
+    row-get-requires-2
+    commit-requires
+    no-store-requires
+    last-requires
+    mul-row-put
+    element-copy-out-row-put
+    row-put-requires
+    last-requires-2
+    mul-tables
+    element-write-tables
+    stretch-requires
+    mul-tables-2
+    element-write-tables-2
+    put-committed-requires
+    same-length
+    returns)

@@ -1,0 +1,78 @@
+// What an event that passes does to the tables and to the work area. Each function says both afterwards. `row` is where
+// the event's own row begins.
+ghost use mathlib.Core.Path.{_≡_};
+ghost use Prim.Native.Nat.{_+_, _≤_, _<_};
+ghost use lib.ListN.{length};
+ghost use Rattle.area.specs.Cells.{noStore};
+ghost use Rattle.machine.specs.Effects.{issuedTables, issuedWork, committedTables, committedWork, joined};
+ghost use Rattle.machine.specs.Effects.{finishedThread, finished};
+use crate::clocks;
+use crate::tables;
+use crate::tables::Tables;
+use crate::threads;
+
+// "the store joins its thread's queue": its row, the link of the store before it, and the newest store at the location.
+// A thread's first store of a stretch has none before it: the link then goes to row 2,048, whose event has not come, or
+// is this one, and its own row is written behind the link.
+pub(crate) fn issue(tables: &mut Tables, work: &mut [u16], row: usize, t: u16, x: u16, j: u16)
+    requires { ⌜ (t < 8) × (x < 256) × (row < 32768) × (row + 16 ≤ length (now work)) ⌝ }
+    ensures { λ _. ⌜ now (tables .exit) ≡ issuedTables (now (tables .entry)) row t x ⌝ }
+    ensures { λ _. ⌜ now (work .exit) ≡ issuedWork (now (tables .entry)) (now (work .entry)) row t x j ⌝ }
+{
+    let store = area::event_at(row);
+    let old = threads::thread_of(tables, t);
+    let new = old.issue(store);
+    area::row_put(work, old.newest, 11, store);
+    clocks::write_row(tables, t, work, row, new.issued, x, j);
+    threads::put_issued(tables, t, new);
+    tables[tables::newest(x, t)] = store;
+}
+
+// "the oldest waiting store of the thread takes effect": it heads its location's chain of committed stores.
+pub(crate) fn commit(tables: &mut Tables, work: &mut [u16], row: usize, t: u16, j: u16)
+    requires { ⌜ (t < 8) × (row + 16 ≤ length (now work)) ⌝ }
+    ensures { λ _. ⌜ now (tables .exit) ≡ committedTables (now (tables .entry)) (now (work .entry)) t j ⌝ }
+    ensures { λ _. ⌜ now (work .exit) ≡ committedWork (now (tables .entry)) (now (work .entry)) row t ⌝ }
+{
+    let old = threads::thread_of(tables, t);
+    let p = old.oldest;
+    let x = area::row_get(work, p, 9) % 256;
+    let next = area::row_get(work, p, 11);
+    let new = old.commit(next);
+    area::no_store(work, row);
+    area::row_put(work, p, 14, tables[tables::last(x)]);
+    tables[tables::last(x)] = p;
+    tables[tables::stretch(x)] = j;
+    threads::put_committed(tables, t, new);
+}
+
+// A load from store s of the stretch brings the store's clock to its thread.
+pub(crate) fn meet(tables: &mut Tables, work: &mut [u16], row: usize, t: u16, s: u16)
+    requires { ⌜ (t < 8) × (row + 16 ≤ length (now work)) × (32768 ≤ length (now work)) ⌝ }
+    ensures { λ _. ⌜ now (tables .exit) ≡ joined 8 (now (work .entry)) t s (now (tables .entry)) ⌝ }
+    ensures { λ _. ⌜ now (work .exit) ≡ noStore (now (work .entry)) row ⌝ }
+{
+    clocks::meet(tables, t, work, s);
+    area::no_store(work, row);
+}
+
+// Stretch j is finished: the commits of thread t go to their table, and the thread starts afresh.
+fn finish_thread(tables: &mut Tables, j: u16, t: u16)
+    requires { ⌜ t < 8 ⌝ }
+    ensures { λ _. ⌜ now (tables .exit) ≡ finishedThread (now (tables .entry)) j t ⌝ }
+{
+    let old = threads::thread_of(tables, t);
+    tables[tables::commits(j, t)] = old.committed;
+    threads::restart(tables, t, old.crash());
+}
+
+// So of all threads.
+pub(crate) fn finish(tables: &mut Tables, j: u16)
+    ensures { λ _. ⌜ now (tables .exit) ≡ finished 8 (now (tables .entry)) j ⌝ }
+{
+    let mut t: u16 = 0;
+    while t < 8 {
+        finish_thread(tables, j, t);
+        t += 1;
+    }
+}

@@ -1,0 +1,159 @@
+-- What judging a load leaves of the counts: the walk stores below number 128, observing stores in the eight numbers of
+-- one stretch's cut, and noting stores in its location's two numbers and at the breaking load's. Assumes nothing.
+use Prim.Native.Nat.{ℕ, zero, suc, _+_, _≤_, _<_, max}
+use native.Mathlib.Omega.{arith}
+use mathlib.Core.Path.{_≡_, refl, _∙_}
+use mathlib.Core.Bool.{Bool, true, false, cond}
+use mathlib.Core.Logic.{_⊎_, inl, inr, _≢_}
+use mathlib.Core.List.{List}
+use lib.ListN.{length, getD, set, length-set}
+use lib.Dec.{eqb}
+use lib.Seq.{getD-set-same, getD-set-other}
+use Rattle.model.proofs.Searching.{same?}
+use Rattle.area.specs.Cells.{rowStart, getRow}
+use Rattle.marks.specs.Marks.{Marks, cutCell, lastCell, sourceCell, brokenCell, countIn, brokenIn}
+use Rattle.marks.specs.Marking.{lowIn, marked, walked, raised, seenFrom, loaded}
+use Rattle.marks.specs.Judged.{noted}
+
+module _ (l : List ℕ) where
+  -- ---- the walk
+
+  walked-leaves :
+      (k : ℕ) (m : Marks) (h s i : ℕ) → 128 ≤ i → countIn (walked k l m h s .counts) i ≡ countIn (m .counts) i
+  unfolding walked marked
+  walked-leaves zero m h s i from-128 = refl
+  walked-leaves (suc k) m h s i from-128 =
+      by-tests (eqb h 0) (eqb h s)
+      (walked-leaves k (marked l m h) (getRow l h 14) s i from-128
+      ∙ getD-set-other (m .counts) (lowIn l h) i _ 0 (λ same. omega arith))
+    where
+      by-tests :
+          (none stops : Bool)
+          → countIn (walked k l (marked l m h) (getRow l h 14) s .counts) i ≡ countIn (m .counts) i
+          → countIn (cond none m (cond stops m (walked k l (marked l m h) (getRow l h 14) s)) .counts) i
+          ≡ countIn (m .counts) i
+      by-tests true stops further = refl
+      by-tests false true further = refl
+      by-tests false false further = further
+
+  -- ---- observing
+
+  pub raised-size : (u : ℕ) (counts : List ℕ) (s j : ℕ) → length (raised u l counts s j) ≡ length counts
+  unfolding raised
+  raised-size zero counts s j = refl
+  raised-size (suc u) counts s j = length-set (raised u l counts s j) _ _ ∙ raised-size u counts s j
+
+  pub raised-leaves :
+      (u : ℕ) (counts : List ℕ) (s j i : ℕ) → ((t : ℕ) → t < u → i ≢ cutCell j 0 + t)
+      → countIn (raised u l counts s j) i ≡ countIn counts i
+  unfolding raised
+  raised-leaves zero counts s j i apart = refl
+  raised-leaves (suc u) counts s j i apart =
+      getD-set-other (raised u l counts s j) (cutCell j 0 + u) i _ 0 (apart u (omega arith))
+      ∙ raised-leaves u counts s j i (λ t below. apart t (omega arith))
+
+  pub raised-there :
+      (u : ℕ) (counts : List ℕ) (s j t : ℕ) → length counts ≡ 648 → u ≤ 8 → t < u
+      → countIn (raised u l counts s j) (cutCell j 0 + t)
+      ≡ max (countIn counts (cutCell j 0 + t)) (getD l (rowStart s + t) 0)
+  unfolding raised
+  raised-there zero counts s j t size within below = absurd (omega arith)
+  raised-there (suc u) counts s j t size within below =
+      by-thread (same? t u) (raised-there u counts s j t size (omega arith))
+    where
+      so-far : List ℕ
+      so-far = raised u l counts s j
+
+      by-thread :
+          (t ≡ u) ⊎ (t ≢ u)
+          → (t < u
+          → countIn (raised u l counts s j) (cutCell j 0 + t)
+          ≡ max (countIn counts (cutCell j 0 + t)) (getD l (rowStart s + t) 0))
+          → countIn (raised (suc u) l counts s j) (cutCell j 0 + t)
+          ≡ max (countIn counts (cutCell j 0 + t)) (getD l (rowStart s + t) 0)
+      by-thread (inl is-u) earlier =
+          rw is-u
+          (getD-set-same so-far (cutCell j 0 + u) _ 0 (omega (arith, raised-size u counts s j))
+          ∙ rw (raised-leaves u counts s j (cutCell j 0 + u) (λ v less same. omega arith)) refl)
+      by-thread (inr differs) earlier =
+          getD-set-other so-far (cutCell j 0 + u) (cutCell j 0 + t) _ 0 (λ same. differs (omega arith))
+          ∙ earlier (omega arith)
+
+  -- ---- a counted load
+
+  pub loaded-leaves :
+      (m : Marks) (h s i : ℕ) → 128 ≤ i → countIn (loaded l m h s .counts) i ≡ countIn (m .counts) i
+  unfolding loaded seenFrom
+  loaded-leaves m h s i from-128 = by-test (eqb s 0)
+    where
+      v : Marks
+      v = walked 2048 l m h s
+
+      by-test :
+          (none : Bool)
+          → countIn (cond none (walked 2048 l m h s) (seenFrom l (walked 2048 l m h s) s (getRow l s 10)) .counts) i
+          ≡ countIn (m .counts) i
+      by-test true = walked-leaves 2048 m h s i from-128
+      by-test false =
+          raised-leaves 8 (v .counts) s (getRow l s 10) i (λ t below same. omega arith)
+          ∙ walked-leaves 2048 m h s i from-128
+
+-- ---- noting
+
+module _ (counts : List ℕ) (h x s e : ℕ) (breaks : Bool) where
+  abbrev after : List ℕ
+  after = noted counts h x s e breaks
+
+  abbrev with-load : List ℕ
+  with-load = set (set counts (lastCell x) h) (sourceCell x) s
+
+  with-load-size : length with-load ≡ length counts
+  with-load-size = length-set (set counts (lastCell x) h) (sourceCell x) s ∙ length-set counts (lastCell x) h
+
+  -- whether it breaks or not
+  before-broken : (i : ℕ) → i ≢ brokenCell → countIn after i ≡ countIn with-load i
+  unfolding noted
+  before-broken i differs = by-test breaks
+    where
+      by-test : (b : Bool) → countIn (cond b (set with-load brokenCell e) with-load) i ≡ countIn with-load i
+      by-test true = getD-set-other with-load brokenCell i e 0 differs
+      by-test false = refl
+
+  pub noted-size : length after ≡ length counts
+  unfolding noted
+  noted-size = by-test breaks ∙ with-load-size
+    where
+      by-test : (b : Bool) → length (cond b (set with-load brokenCell e) with-load) ≡ length with-load
+      by-test true = length-set with-load brokenCell e
+      by-test false = refl
+
+  pub noted-leaves : (i : ℕ) → i ≢ lastCell x → i ≢ sourceCell x → i ≢ brokenCell → countIn after i ≡ countIn counts i
+  noted-leaves i not-last not-source not-broken =
+      before-broken i not-broken
+      ∙ (getD-set-other (set counts (lastCell x) h) (sourceCell x) i s 0 not-source
+      ∙ getD-set-other counts (lastCell x) i h 0 not-last)
+
+  module _ (size : length counts ≡ 648) where
+    pub noted-last : countIn after (lastCell x) ≡ h
+    noted-last =
+        before-broken (lastCell x) (λ same. omega arith)
+        ∙ (getD-set-other (set counts (lastCell x) h) (sourceCell x) (lastCell x) s 0 (λ same. omega arith)
+        ∙ getD-set-same counts (lastCell x) h 0 (omega arith))
+
+    pub noted-source : countIn after (sourceCell x) ≡ s
+    noted-source =
+        before-broken (sourceCell x) (λ same. omega arith)
+        ∙ getD-set-same (set counts (lastCell x) h) (sourceCell x) s 0
+        (omega (arith, length-set counts (lastCell x) h))
+
+    pub noted-broken : brokenIn after ≡ cond breaks e (brokenIn counts)
+    unfolding noted
+    noted-broken = by-test breaks
+      where
+        by-test :
+            (b : Bool)
+            → brokenIn (cond b (set with-load brokenCell e) with-load) ≡ cond b e (brokenIn counts)
+        by-test true = getD-set-same with-load brokenCell e 0 (omega (arith, with-load-size))
+        by-test false =
+            getD-set-other (set counts (lastCell x) h) (sourceCell x) brokenCell s 0 (λ same. omega arith)
+            ∙ getD-set-other counts (lastCell x) brokenCell h 0 (λ same. omega arith)
