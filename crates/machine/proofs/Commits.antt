@@ -28,7 +28,7 @@ use Rattle.model.proofs.Unchanged.{live-away, live-here, store-at-away, skippin
 use Rattle.model.proofs.Unchanged.{landed-once, Lacks}
 use Rattle.area.specs.Cells.{getRow, putRow, noStore, up}
 use Rattle.area.specs.Rows.{Linked}
-use Rattle.area.proofs.ReadBack.{rows-apart, put-same, put-row}
+use Rattle.area.proofs.ReadBack.{rows-apart, put-same, put-row, up-is}
 use Rattle.machine.specs.declared.threads.Thread.{Thread}
 use Rattle.machine.specs.Tables.{lastCell, stretchCell}
 use Rattle.machine.specs.Threads.{committedT, putCommitted, threadOf}
@@ -36,7 +36,6 @@ use Rattle.machine.specs.Twin.{World, world, ticked}
 use Rattle.machine.specs.Effects.{oldestPlace, committedTables, committedWork, commitW}
 use Rattle.machine.specs.Sim.{issued, done, Queue, Chain, Chains, Sim}
 use Rattle.machine.proofs.Storing.{Same}
-use Rattle.area.proofs.ReadBack.{up-is}
 use Rattle.machine.proofs.TableLaws.{committed-replaced, committed-beyond, committed-last}
 use Rattle.machine.proofs.TableLaws.{committed-stretch}
 use Rattle.machine.proofs.RowLaws.{NoStore, no-store-is, no-store-links, link-no-store}

@@ -18,12 +18,12 @@ use Rattle.model.proofs.Counting.{stretch-crash, count-skip}
 use Rattle.model.proofs.ClockSteps.{seen-crash}
 use Rattle.model.proofs.StorePlaces.{stretch-some}
 use Rattle.model.proofs.Unchanged.{live-crash, store-at-crash, skipping-crash}
+use Rattle.area.proofs.ReadBack.{up-is}
 use Rattle.machine.specs.Tables.{commitsCell}
 use Rattle.machine.specs.Threads.{fresh, threadOf, ofThread}
 use Rattle.machine.specs.Twin.{State, World, crashed}
 use Rattle.machine.specs.Effects.{finished, crashW}
 use Rattle.machine.specs.Sim.{issued, done, Numbers, Limits, Queue, Queues, Seen, Commits, Sim}
-use Rattle.area.proofs.ReadBack.{up-is}
 use Rattle.machine.proofs.TableLaws.{Finished, finished-is, thread-fresh}
 use Rattle.machine.proofs.RowLaws.{no-store-is, no-store-links}
 use Rattle.machine.proofs.Keep.{limits-next, in-time, newest-keep, sources-keep, chains-keep, rows-keep}

@@ -27,14 +27,13 @@ use Rattle.model.proofs.StorePlaces.{store-at-here, store-at-else}
 use Rattle.model.proofs.Unchanged.{live-away, live-here, skipping-away, newest-away, newest-here, seen-away}
 use Rattle.area.specs.Cells.{rowStart, getRow, putRow, eventAt, up}
 use Rattle.area.specs.Rows.{StoreRow, Rows}
-use Rattle.area.proofs.ReadBack.{rows-apart, length-put, put-same, put-row, put-column}
+use Rattle.area.proofs.ReadBack.{rows-apart, length-put, put-same, put-row, put-column, up-is}
 use Rattle.machine.specs.declared.threads.Thread.{Thread}
 use Rattle.machine.specs.Tables.{newestCell}
 use Rattle.machine.specs.Threads.{firstOf, issuedT, threadOf, ofThread}
 use Rattle.machine.specs.Twin.{World, world, ticked}
 use Rattle.machine.specs.Effects.{written, issuedTables, issuedWork, issueW}
 use Rattle.machine.specs.Sim.{issued, done, Queue, Links, Newest, Sim}
-use Rattle.area.proofs.ReadBack.{up-is}
 use Rattle.machine.proofs.TableLaws.{issued-replaced, issued-beyond, issued-newest}
 use Rattle.machine.proofs.RowLaws.{Written, written-size, written-elsewhere, written-far, written-row}
 use Rattle.machine.proofs.Keep.{limits-next, in-time, numbers-next, queues-with, seen-keep, commits-keep}
