@@ -1,6 +1,6 @@
 -- The work area as rows of 16 numbers, one for each event from 1 to 2,048, one after the other. Reads and stores are
 -- total.
-use Prim.Native.Nat.{ℕ, _+_, _*_, _/_, _%_}
+use Prim.Native.Nat.{ℕ, zero, suc, _+_, _*_, _/_, _%_, max}
 use mathlib.Core.Bool.{cond}
 use mathlib.Core.List.{List}
 use lib.ListN.{getD, set}
@@ -26,6 +26,13 @@ eventAt row = row / 16 + 1
 -- the event whose row begins there is no store: its stretch is 0
 abbrev pub noStore : List ℕ → ℕ → List ℕ
 noStore l row = set l (row + 10) 0
+
+-- the first n numbers from `to` on become the larger of them and of store s's clock
+unfoldable pub joined : ℕ → List ℕ → ℕ → ℕ → List ℕ → List ℕ
+joined zero l s to numbers = numbers
+joined (suc u) l s to numbers =
+    let so-far = joined u l s to numbers in
+    set so-far (to + u) (max (getD so-far (to + u) 0) (getD l (rowStart s + u) 0))
 
 -- the sum of n numbers from a position on
 abbrev pub total : ℕ → List ℕ → ℕ → ℕ

@@ -3,7 +3,7 @@
 ghost use mathlib.Core.Path.{_≡_};
 ghost use Prim.Native.Nat.{_+_, _*_, _≤_};
 ghost use lib.ListN.{getD, set, length, replicate};
-ghost use Rattle.area.specs.Cells.{rowStart, getRow, putRow, eventAt, noStore, total};
+ghost use Rattle.area.specs.Cells.{rowStart, getRow, putRow, eventAt, noStore, total, joined};
 
 pub mod numbers;
 
@@ -83,4 +83,17 @@ pub fn no_store(work: &mut [u16], row: usize)
     ensures { λ _. ⌜ now (work .exit) ≡ noStore (now (work .entry)) row ⌝ }
 {
     work[row + 10] = 0;
+}
+
+// The eight numbers from `to` on become the larger of them and of store s's clock.
+pub fn join(numbers: &mut [u16], to: usize, work: &[u16], s: u16)
+    requires { ⌜ (to + 8 ≤ length (now numbers)) × (32768 ≤ length (now work)) ⌝ }
+    ensures { λ _. ⌜ now (numbers .exit) ≡ joined 8 (now (work .entry)) s to (now (numbers .entry)) ⌝ }
+{
+    let from = row_of(s);
+    let mut u: usize = 0;
+    while u < 8 {
+        numbers[to + u] = numbers::larger(numbers[to + u], work[from + u]);
+        u += 1;
+    }
 }

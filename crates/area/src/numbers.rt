@@ -10,7 +10,7 @@ pub fn next_number(x: u16) -> u16
     if x < 65535 { x + 1 } else { 0 }
 }
 
-pub fn larger(a: u16, b: u16) -> u16
+pub(crate) fn larger(a: u16, b: u16) -> u16
     ensures { λ r. ⌜ r ≡ max a b ⌝ }
 {
     if a < b { b } else { a }

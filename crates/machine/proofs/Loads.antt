@@ -4,7 +4,7 @@ use mathlib.Core.Path.{_≡_, refl, sym, _∙_}
 use mathlib.Core.Bool.{true, _&&_}
 use mathlib.Core.List.{List}
 use mathlib.Core.Logic.{_⊎_, inl, inr, _≢_}
-use Prim.Native.Nat.{ℕ, suc, _+_, _*_, _%_, _<_, max}
+use Prim.Native.Nat.{ℕ, suc, _+_, _*_, _%_, _<_}
 use native.Mathlib.Omega.{arith}
 use borrow.Author.Tests.{eqb-true, eq-eqb, ne-eqb}
 use lib.Dec.{eqb}
@@ -20,14 +20,14 @@ use Rattle.model.proofs.Searching.{same?}
 use Rattle.model.proofs.Roles.{load-no-crash}
 use Rattle.model.proofs.Acceptance.{store-not-0, fitting, own-source, commit-source, crossing-source}
 use Rattle.model.proofs.Unchanged.{seen-away, seen-from, seen-crossing}
-use Rattle.area.specs.Cells.{rowStart, getRow}
-use Rattle.machine.specs.Tables.{sourceCell}
+use Rattle.area.specs.Cells.{rowStart, getRow, joined}
+use Rattle.area.proofs.Joins.{joined-size, joined-leaves, joined-there}
+use Rattle.machine.specs.Tables.{threadCell, sourceCell}
 use Rattle.machine.specs.Threads.{ofThread}
 use Rattle.machine.specs.Twin.{World}
 use Rattle.machine.specs.Effects.{passWith, meetW, crossW, loadW}
 use Rattle.machine.specs.Sim.{PastAt, Seen, Sources, Sim}
-use Rattle.machine.proofs.Storing.{Same, set-leaves, run, run-size, run-leaves, run-in}
-use Rattle.machine.proofs.TableLaws.{joined-is}
+use Rattle.machine.proofs.Storing.{Same, Elsewhere, set-leaves}
 use Rattle.machine.proofs.Keep.{limits-next, queues-keep, past-keep, sources-keep}
 use Rattle.machine.proofs.Quiet.{still-of, still-next}
 use Rattle.machine.proofs.Searches.{→past, crossing-is}
@@ -102,41 +102,42 @@ module _ (ev : ℕ → Event) (n : ℕ) (w : World) (sim : Sim ev n w) (passes :
 
   -- ---- a load that does not cross
 
-  -- what its thread has seen, and what its source brings
-  abbrev both-seen : ℕ → ℕ
-  both-seen u = max (ofThread (w .tables) t u) (getD (w .work) (rowStart s + u) 0)
-
   abbrev met : List ℕ
-  met = run (16 * t) 8 both-seen (w .tables)
+  met = joined 8 (w .work) s (threadCell t 0) (w .tables)
+
+  met-leaves : Elsewhere (16 * t) (16 * t + 8) (w .tables) met
+  met-leaves i outside =
+      joined-leaves (w .work) s (threadCell t 0) (w .tables) 8 i (λ low high. outside (omega arith) (omega arith))
 
   -- what is seen then, of its own thread and of another
   met-seen :
       FromHere → (v u : ℕ) → v < 8 → u < 8 → (t ≡ v) ⊎ (t ≢ v) → ofThread met v u ≡ seen ev (suc n) v u
   met-seen from v u few-v few-u (inl own) =
       let row = sim .rows .stores s (from .early) (from .store) in
+      let at : threadCell t u ≡ threadCell t 0 + u = omega arith in
       rw (
         ← own,
-        run-in (16 * t) both-seen (w .tables) 8 u (omega (arith, sim .size)) few-u,
+        at,
+        joined-there (w .work) s (threadCell t 0) (w .tables) 8 u (omega (arith, sim .size)) few-u,
+        ← at,
         sim .seen-are t u few few-u,
         column-at (w .work) s u (omega arith),
         row .clock-is u few-u,
       )
       (sym (seen-from ev n u loads (from .store) (from .early) (from .in-stretch)))
   met-seen from v u few-v few-u (inr other) =
-      run-leaves (16 * t) both-seen (w .tables) 8 (16 * v + u) (λ low high. other (omega arith))
+      met-leaves (16 * v + u) (λ low high. other (omega arith))
       ∙ sim .seen-are v u few-v few-u
       ∙ sym (seen-away ev n v u (load-no-crash ev loads) (λ _ same. other same))
 
   meet-next : FromHere → Sim ev (suc n) (meetW w t s)
   unfolding meetW
   meet-next from =
-      let leaves = run-leaves (16 * t) both-seen (w .tables) 8 in
-      rw (joined-is 8 (w .work) t s (w .tables))
-      (with-seen met (run-size (16 * t) both-seen (w .tables) 8 ∙ sim .size)
-      (λ u few-u i from-8 below. leaves i (λ low high. omega arith))
+      with-seen met (joined-size (w .work) s (threadCell t 0) (w .tables) 8 ∙ sim .size)
+      (λ u few-u i from-8 below. met-leaves i (λ low high. omega arith))
       (λ v u few-v few-u. met-seen from v u few-v few-u (same? t v))
-      (sources-keep ev n (w .tables) met (λ i low high. leaves i (λ low′ high′. omega arith)) (sim .sources))
-      (λ i low high. leaves i (λ low′ high′. omega arith)) (λ i low high. leaves i (λ low′ high′. omega arith)))
+      (sources-keep ev n (w .tables) met (λ i low high. met-leaves i (λ low′ high′. omega arith)) (sim .sources))
+      (λ i low high. met-leaves i (λ low′ high′. omega arith)) (λ i low high. met-leaves i (λ low′ high′. omega arith))
 
   -- ---- a crossing load
 

@@ -1,37 +1,24 @@
 -- What is read of the machine's tables after each change of them. A thread's row, and each table, has positions of its
 -- own, so that a change leaves all the others.
--- In order: what a thread has seen, joined; a thread's state after a skip, an issue and a commit; a finished stretch.
+-- In order: a thread's state after a skip, an issue and a commit; a finished stretch.
 use mathlib.Core.Path.{_≡_, refl, _∙_}
 use mathlib.Core.Bool.{Bool, true, false, not}
 use mathlib.Core.List.{List}
 use mathlib.Core.Logic.{_⊎_, inl, inr, _≢_}
-use Prim.Native.Nat.{ℕ, zero, suc, _+_, _*_, _≤_, _<_, max}
+use Prim.Native.Nat.{ℕ, zero, suc, _+_, _*_, _≤_, _<_}
 use native.Mathlib.Omega.{arith}
 use borrow.Author.Tests.{ltb-true, le-leb}
 use lib.Dec.{eqb, ltb, leb}
 use lib.ListN.{length, getD, set, length-set}
 use lib.Seq.{getD-set-same}
 use Rattle.model.proofs.Searching.{same?}
-use Rattle.area.specs.Cells.{rowStart, eventAt}
+use Rattle.area.specs.Cells.{eventAt}
 use Rattle.machine.specs.declared.threads.Thread.{Thread}
 use Rattle.machine.specs.Tables.{lastCell, commitsCell, newestCell, stretchCell}
 use Rattle.machine.specs.Threads.{fresh, bit, issuedT, committedT, skippedT, threadOf, ofThread}
 use Rattle.machine.specs.Threads.{putIssued, putCommitted, putSkip, unseen, restarted}
-use Rattle.machine.specs.Effects.{joined, issuedTables, finishedThread, finished}
+use Rattle.machine.specs.Effects.{issuedTables, finishedThread, finished}
 use Rattle.machine.proofs.Storing.{Same, Elsewhere, set-leaves, column-after, run, run-size, run-leaves, run-in}
-
--- ---- what a thread has seen, joined with a store's clock
-
--- each number is stored before the next is read
-pub joined-is :
-    (k : ℕ) (l : List ℕ) (t s : ℕ) (tables : List ℕ)
-    → joined k l t s tables
-    ≡ run (16 * t) k (λ u. max (ofThread tables t u) (getD l (rowStart s + u) 0)) tables
-unfolding joined run
-joined-is zero l t s tables = refl
-joined-is (suc u) l t s tables =
-    let both-seen : ℕ → ℕ = λ i. max (ofThread tables t i) (getD l (rowStart s + i) 0) in
-    rw (joined-is u l t s tables, run-leaves (16 * t) both-seen tables u (16 * t + u) (λ low high. omega arith)) refl
 
 -- ---- a thread's state
 

@@ -1,6 +1,6 @@
 -- What an event that passes does to the machine's tables and to the work area, as total functions. `row` is where the
 -- event's own row begins.
-use Prim.Native.Nat.{ℕ, zero, suc, _+_, _%_, max}
+use Prim.Native.Nat.{ℕ, zero, suc, _+_, _%_}
 use mathlib.Core.Bool.{Bool}
 use mathlib.Core.List.{List}
 use lib.Dec.{eqb}
@@ -10,9 +10,9 @@ use Rattle.record.specs.declared.events.Fields.{Fields}
 use Rattle.record.specs.Tests.{_gives_else_}
 use Rattle.record.specs.Events.{kindOf}
 use Rattle.record.specs.Fields.{fieldsOf}
-use Rattle.area.specs.Cells.{rowStart, getRow, putRow, eventAt, noStore, up}
-use Rattle.machine.specs.Tables.{lastCell, sourceCell, commitsCell, newestCell, stretchCell}
-use Rattle.machine.specs.Threads.{issuedT, committedT, skippedT, crashedT, threadOf, ofThread, putThread}
+use Rattle.area.specs.Cells.{getRow, putRow, eventAt, noStore, joined, up}
+use Rattle.machine.specs.Tables.{threadCell, lastCell, sourceCell, commitsCell, newestCell, stretchCell}
+use Rattle.machine.specs.Threads.{issuedT, committedT, skippedT, crashedT, threadOf, ofThread}
 use Rattle.machine.specs.Threads.{putIssued, putCommitted, putSkip, restarted}
 use Rattle.machine.specs.Twin.{World, world, threadAt, ticked, crashed, crossingW}
 use Rattle.machine.specs.Arms.{byKind}
@@ -32,13 +32,6 @@ written tables t row c x j l =
     let with-thread = set with-clock (row + 8) t in
     let with-location = set with-thread (row + 9) x in
     set (set with-location (row + 10) j) (row + 11) 0
-
--- what thread t has seen of threads 0 to k - 1 becomes the larger of it and of store s's clock
-unfoldable pub joined : ℕ → List ℕ → ℕ → ℕ → List ℕ → List ℕ
-joined zero l t s tables = tables
-joined (suc u) l t s tables =
-    let so-far = joined u l t s tables in
-    putThread so-far t u (max (ofThread so-far t u) (getD l (rowStart s + u) 0))
 
 -- ---- the steps
 
@@ -90,7 +83,7 @@ passW w = passWith w (w .tables)
 
 -- store s brings its clock to thread t
 unfoldable pub meetW : World → ℕ → ℕ → World
-meetW w t s = passWith w (joined 8 (w .work) t s (w .tables))
+meetW w t s = passWith w (joined 8 (w .work) s (threadCell t 0) (w .tables))
 
 -- a crossing load at location x from s, which is noted
 unfoldable pub crossW : World → ℕ → ℕ → World

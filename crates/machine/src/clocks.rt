@@ -1,9 +1,8 @@
-// Vector clocks: what a thread has seen, columns 0 to 7 of its row, goes into a store's row, and a store's clock into
-// what a thread has seen.
+// Vector clocks: what a thread has seen, columns 0 to 7 of its row, goes into a store's row.
 ghost use mathlib.Core.Path.{_≡_};
 ghost use Prim.Native.Nat.{_+_, _≤_, _<_};
 ghost use lib.ListN.{length};
-ghost use Rattle.machine.specs.Effects.{written, joined};
+ghost use Rattle.machine.specs.Effects.{written};
 use crate::tables;
 use crate::tables::Tables;
 
@@ -32,18 +31,4 @@ pub(crate) fn write_row(
     work[row + 9] = x;
     work[row + 10] = j;
     work[row + 11] = 0;
-}
-
-// What thread t has seen becomes the larger of it and of store s's clock.
-pub(crate) fn meet(tables: &mut Tables, t: u16, work: &[u16], s: u16)
-    requires { ⌜ (t < 8) × (32768 ≤ length (now work)) ⌝ }
-    ensures { λ _. ⌜ now (tables .exit) ≡ joined 8 (now (work .entry)) t s (now (tables .entry)) ⌝ }
-{
-    let to = tables::thread(t, 0);
-    let from = area::row_of(s);
-    let mut u: usize = 0;
-    while u < 8 {
-        tables[to + u] = area::numbers::larger(tables[to + u], work[from + u]);
-        u += 1;
-    }
 }

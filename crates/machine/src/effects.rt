@@ -3,8 +3,9 @@
 ghost use mathlib.Core.Path.{_≡_};
 ghost use Prim.Native.Nat.{_+_, _≤_, _<_};
 ghost use lib.ListN.{length};
-ghost use Rattle.area.specs.Cells.{noStore};
-ghost use Rattle.machine.specs.Effects.{issuedTables, issuedWork, committedTables, committedWork, joined};
+ghost use Rattle.area.specs.Cells.{noStore, joined};
+ghost use Rattle.machine.specs.Tables.{threadCell};
+ghost use Rattle.machine.specs.Effects.{issuedTables, issuedWork, committedTables, committedWork};
 ghost use Rattle.machine.specs.Effects.{finishedThread, finished};
 use crate::clocks;
 use crate::tables;
@@ -49,10 +50,10 @@ pub(crate) fn commit(tables: &mut Tables, work: &mut [u16], row: usize, t: u16, 
 // A load from store s of the stretch brings the store's clock to its thread.
 pub(crate) fn meet(tables: &mut Tables, work: &mut [u16], row: usize, t: u16, s: u16)
     requires { ⌜ (t < 8) × (row + 16 ≤ length (now work)) × (32768 ≤ length (now work)) ⌝ }
-    ensures { λ _. ⌜ now (tables .exit) ≡ joined 8 (now (work .entry)) t s (now (tables .entry)) ⌝ }
+    ensures { λ _. ⌜ now (tables .exit) ≡ joined 8 (now (work .entry)) s (threadCell t 0) (now (tables .entry)) ⌝ }
     ensures { λ _. ⌜ now (work .exit) ≡ noStore (now (work .entry)) row ⌝ }
 {
-    clocks::meet(tables, t, work, s);
+    area::join(tables, tables::thread(t, 0), work, s);
     area::no_store(work, row);
 }
 

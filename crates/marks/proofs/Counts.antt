@@ -1,18 +1,18 @@
 -- What judging a load leaves of the counts: the walk stores below number 128, observing stores in the eight numbers of
 -- one stretch's cut, and noting stores in its location's two numbers and at the breaking load's. Assumes nothing.
-use Prim.Native.Nat.{ℕ, zero, suc, _+_, _≤_, _<_, max}
+use Prim.Native.Nat.{ℕ, zero, suc, _≤_}
 use native.Mathlib.Omega.{arith}
 use mathlib.Core.Path.{_≡_, refl, _∙_}
 use mathlib.Core.Bool.{Bool, true, false, cond}
-use mathlib.Core.Logic.{_⊎_, inl, inr, _≢_}
+use mathlib.Core.Logic.{_≢_}
 use mathlib.Core.List.{List}
-use lib.ListN.{length, getD, set, length-set}
+use lib.ListN.{length, set, length-set}
 use lib.Dec.{eqb}
 use lib.Seq.{getD-set-same, getD-set-other}
-use Rattle.model.proofs.Searching.{same?}
-use Rattle.area.specs.Cells.{rowStart, getRow}
+use Rattle.area.specs.Cells.{getRow}
+use Rattle.area.proofs.Joins.{joined-leaves}
 use Rattle.marks.specs.Marks.{Marks, cutCell, lastCell, sourceCell, brokenCell, countIn, brokenIn}
-use Rattle.marks.specs.Marking.{lowIn, marked, walked, raised, seenFrom, loaded}
+use Rattle.marks.specs.Marking.{lowIn, marked, walked, seenFrom, loaded}
 use Rattle.marks.specs.Judged.{noted}
 
 module _ (l : List ℕ) where
@@ -36,49 +36,6 @@ module _ (l : List ℕ) where
       by-tests false true further = refl
       by-tests false false further = further
 
-  -- ---- observing
-
-  pub raised-size : (u : ℕ) (counts : List ℕ) (s j : ℕ) → length (raised u l counts s j) ≡ length counts
-  unfolding raised
-  raised-size zero counts s j = refl
-  raised-size (suc u) counts s j = length-set (raised u l counts s j) _ _ ∙ raised-size u counts s j
-
-  pub raised-leaves :
-      (u : ℕ) (counts : List ℕ) (s j i : ℕ) → ((t : ℕ) → t < u → i ≢ cutCell j 0 + t)
-      → countIn (raised u l counts s j) i ≡ countIn counts i
-  unfolding raised
-  raised-leaves zero counts s j i apart = refl
-  raised-leaves (suc u) counts s j i apart =
-      getD-set-other (raised u l counts s j) (cutCell j 0 + u) i _ 0 (apart u (omega arith))
-      ∙ raised-leaves u counts s j i (λ t below. apart t (omega arith))
-
-  pub raised-there :
-      (u : ℕ) (counts : List ℕ) (s j t : ℕ) → length counts ≡ 648 → u ≤ 8 → t < u
-      → countIn (raised u l counts s j) (cutCell j 0 + t)
-      ≡ max (countIn counts (cutCell j 0 + t)) (getD l (rowStart s + t) 0)
-  unfolding raised
-  raised-there zero counts s j t size within below = absurd (omega arith)
-  raised-there (suc u) counts s j t size within below =
-      by-thread (same? t u) (raised-there u counts s j t size (omega arith))
-    where
-      so-far : List ℕ
-      so-far = raised u l counts s j
-
-      by-thread :
-          (t ≡ u) ⊎ (t ≢ u)
-          → (t < u
-          → countIn (raised u l counts s j) (cutCell j 0 + t)
-          ≡ max (countIn counts (cutCell j 0 + t)) (getD l (rowStart s + t) 0))
-          → countIn (raised (suc u) l counts s j) (cutCell j 0 + t)
-          ≡ max (countIn counts (cutCell j 0 + t)) (getD l (rowStart s + t) 0)
-      by-thread (inl is-u) earlier =
-          rw is-u
-          (getD-set-same so-far (cutCell j 0 + u) _ 0 (omega (arith, raised-size u counts s j))
-          ∙ rw (raised-leaves u counts s j (cutCell j 0 + u) (λ v less same. omega arith)) refl)
-      by-thread (inr differs) earlier =
-          getD-set-other so-far (cutCell j 0 + u) (cutCell j 0 + t) _ 0 (λ same. differs (omega arith))
-          ∙ earlier (omega arith)
-
   -- ---- a counted load
 
   pub loaded-leaves :
@@ -95,7 +52,7 @@ module _ (l : List ℕ) where
           ≡ countIn (m .counts) i
       by-test true = walked-leaves 2048 m h s i from-128
       by-test false =
-          raised-leaves 8 (v .counts) s (getRow l s 10) i (λ t below same. omega arith)
+          joined-leaves l s (cutCell (getRow l s 10) 0) (v .counts) 8 i (λ low high. omega arith)
           ∙ walked-leaves 2048 m h s i from-128
 
 -- ---- noting

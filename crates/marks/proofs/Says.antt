@@ -27,13 +27,13 @@ use Rattle.model.proofs.Limits.{few-crashes}
 use Rattle.model.proofs.StorePlaces.{stretch-some}
 use Rattle.model.proofs.Ranges.{issue-has-thread, thread-bound}
 use Rattle.model.proofs.RulingSteps.{Over}
-use Rattle.area.specs.Cells.{rowStart, getRow}
+use Rattle.area.specs.Cells.{rowStart, getRow, joined}
 use Rattle.area.specs.Rows.{StoreRow, Rows}
+use Rattle.area.proofs.Joins.{joined-size, joined-leaves, joined-there}
 use Rattle.marks.specs.Marks.{Marks, marksOf, cutCell, lowCell, flagCell, countIn, flagIn}
-use Rattle.marks.specs.Marking.{forbid, observe, lower, ownIn, marked, raised, seenFrom}
+use Rattle.marks.specs.Marking.{forbid, observe, lower, ownIn, marked, seenFrom}
 use Rattle.marks.specs.Testing.{inCut, markHits}
 use Rattle.marks.specs.Good.{PlaceOf, AtMost, Says}
-use Rattle.marks.proofs.Counts.{raised-size, raised-leaves, raised-there}
 
 -- ---- flags
 
@@ -263,7 +263,7 @@ module _ (ev : ℕ → Event) where
       raised-choice j t = cond (eqb (stretch ev q) j) (max (C j t) (vc ev q t)) (C j t)
 
       abbrev raised-counts : List ℕ
-      raised-counts = raised 8 l (m .counts) q (stretch ev q)
+      raised-counts = joined 8 l q (cutCell (stretch ev q) 0) (m .counts)
 
       cut-after :
           (j t : ℕ) → 1 ≤ j → j ≤ 7 → t < 8 → (stretch ev q ≡ j) ⊎ (stretch ev q ≢ j)
@@ -274,16 +274,17 @@ module _ (ev : ℕ → Event) where
           rw (← at) (says .cuts j t from-1 to-7 there)
           in
           rw (eq-eqb (stretch ev q) j in-j, at)
-          (raised-there l 8 (m .counts) q (stretch ev q) t (says .counts-size) (omega arith) there
+          (joined-there l q (cutCell (stretch ev q) 0) (m .counts) 8 t (omega (arith, says .counts-size)) there
           ∙ ap₂ max old (clock-at t there))
       cut-after j t from-1 to-7 there (inr elsewhere) =
           rw (ne-eqb (stretch ev q) j elsewhere)
-          (raised-leaves l 8 (m .counts) q (stretch ev q) (cutCell j t) (λ u below same. elsewhere (omega arith))
+          (joined-leaves l q (cutCell (stretch ev q) 0) (m .counts) 8 (cutCell j t)
+          (λ low high. elsewhere (omega arith))
           ∙ says .cuts j t from-1 to-7 there)
 
       low-stays : (j t : ℕ) → 1 ≤ j → j ≤ 7 → t < 8 → Low F j t (countIn raised-counts (lowCell j t))
       low-stays j t from-1 to-7 there =
-          rw (raised-leaves l 8 (m .counts) q (stretch ev q) (lowCell j t) (λ u below same. omega arith))
+          rw (joined-leaves l q (cutCell (stretch ev q) 0) (m .counts) 8 (lowCell j t) (λ low high. omega arith))
           (low-of says j t from-1 to-7 there)
 
       pub see-says :
@@ -291,7 +292,7 @@ module _ (ev : ℕ → Event) where
           (seenFrom l m q (getRow l q 10))
       unfolding seenFrom
       see-says = rw (row .stretch-is) (record {
-        counts-size = raised-size l 8 (m .counts) q (stretch ev q) ∙ says .counts-size;
+        counts-size = joined-size l q (cutCell (stretch ev q) 0) (m .counts) 8 ∙ says .counts-size;
         flags-size = length-set (m .flags) (flagCell q) _ ∙ says .flags-size;
         flags =
             flags-stored F (with-q O q) _

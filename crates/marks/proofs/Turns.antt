@@ -1,7 +1,7 @@
 -- One turn of each of the code's loops, and the functions that make several calls: laws over plain variables, which the
 -- functions' proofs hand what their calls ensure.
--- In order: marking and the walk; observing; a counted load; the searches; the end.
-use Prim.Native.Nat.{ℕ, zero, suc, _+_, _-_, _*_, _/_, _≤_, _<_, max, min}
+-- In order: marking and the walk; a counted load; the searches; the end.
+use Prim.Native.Nat.{ℕ, zero, suc, _+_, _-_, _*_, _/_, _≤_, _<_, min}
 use native.Mathlib.Nat.{not-suc-le-zero}
 use native.Mathlib.Numerals.{sub-one, add-one}
 use native.Mathlib.Omega.{arith}
@@ -13,9 +13,9 @@ use lib.Dec.{leb}
 use borrow.Author.Tests.{eq-eqb, ne-eqb}
 use Rattle.model.specs.Search.{some, firstFrom}
 use Rattle.model.specs.Answers.{percent}
-use Rattle.area.specs.Cells.{rowStart, getRow}
+use Rattle.area.specs.Cells.{getRow}
 use Rattle.marks.specs.Marks.{Marks, marksOf, cutCell, lowCell, flagCell, countIn, brokenIn}
-use Rattle.marks.specs.Marking.{forbid, lower, marked, walked, raised, seenFrom, loaded}
+use Rattle.marks.specs.Marking.{forbid, lower, marked, walked, seenFrom, loaded}
 use Rattle.marks.specs.Testing.{markHits, walkHits, hits, loadHits}
 use Rattle.marks.specs.Judged.{repeated, noted, judgedNew, judged}
 use Rattle.marks.specs.Ending.{copied}
@@ -77,17 +77,6 @@ module _ (l : List ℕ) (stop : ℕ) (w : Marks) (b : Bool) where
         rw (ne-eqb p 0 store, ne-eqb p stop not-stop) at walk-is,
         or-assoc hit (markHits l (m .counts) p) _ ∙ rw (ne-eqb p 0 store, ne-eqb p stop not-stop) at hit-is,
       )
-
--- ---- observing
-
--- one thread more
-pub raise-more :
-    (u : ℕ) (l counts so-far : List ℕ) (s j from to v : ℕ)
-    → so-far ≡ raised u l counts s j → from ≡ rowStart s → to ≡ cutCell j 0
-    → v ≡ max (countIn so-far (to + u)) (getD l (from + u) 0) → set so-far (to + u) v ≡ raised (u + 1) l counts s j
-unfolding raised
-raise-more u l counts so-far s j from to v so-far-is from-is to-is v-is =
-    rw (v-is, so-far-is, from-is, to-is, add-one)
 
 -- ---- a counted load
 

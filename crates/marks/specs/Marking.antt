@@ -2,12 +2,12 @@
 -- becomes forbidden: its flag 1, and the lowest forbidden place of its stretch and thread. Then the source becomes
 -- observed: its flag 2, and the cut of its stretch is raised to its clock, so that the cut is the closure of what is
 -- observed.
-use Prim.Native.Nat.{ℕ, zero, suc, _+_, _*_, _/_, max}
+use Prim.Native.Nat.{ℕ, zero, suc, _+_, _*_, _/_}
 use mathlib.Core.Bool.{cond}
 use mathlib.Core.List.{List}
 use lib.Dec.{eqb, ltb}
-use lib.ListN.{getD, set}
-use Rattle.area.specs.Cells.{rowStart, getRow}
+use lib.ListN.{set}
+use Rattle.area.specs.Cells.{getRow, joined}
 use Rattle.marks.specs.Marks.{Marks, marksOf, cutCell, lowCell, flagCell, countIn, flagIn}
 
 -- ---- flags and the lowest places
@@ -47,17 +47,10 @@ walked (suc n) l m h s = cond (eqb h 0) m (cond (eqb h s) m (walked n l (marked 
 
 -- ---- observing
 
--- the cut of stretch j and of the first n threads becomes at least the clock of store s
-unfoldable pub raised : ℕ → List ℕ → List ℕ → ℕ → ℕ → List ℕ
-raised zero l counts s j = counts
-raised (suc u) l counts s j =
-    let so-far = raised u l counts s j in
-    set so-far (cutCell j 0 + u) (max (countIn so-far (cutCell j 0 + u)) (getD l (rowStart s + u) 0))
-
 -- store s, of stretch j, becomes observed: its flag, and the cut of its stretch
 unfoldable pub seenFrom : List ℕ → Marks → ℕ → ℕ → Marks
 seenFrom l m s j =
-    marksOf (raised 8 l (m .counts) s j) (set (m .flags) (flagCell s) (observe (flagIn (m .flags) s)))
+    marksOf (joined 8 l s (cutCell j 0) (m .counts)) (set (m .flags) (flagCell s) (observe (flagIn (m .flags) s)))
 
 -- ---- a counted load from s of the location whose chain begins with h
 

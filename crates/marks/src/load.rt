@@ -3,7 +3,7 @@ ghost use mathlib.Core.Path.{_≡_};
 ghost use Prim.Native.Nat.{_≤_};
 ghost use lib.ListN.{length};
 ghost use Rattle.marks.specs.Marks.{marksOf};
-ghost use Rattle.marks.specs.Marking.{raised, seenFrom, loaded};
+ghost use Rattle.marks.specs.Marking.{seenFrom, loaded};
 ghost use Rattle.marks.specs.Testing.{loadHits};
 use crate::cells;
 use crate::cells::Flags;
@@ -11,20 +11,6 @@ use crate::cells::Marks;
 use crate::flags;
 use crate::hits;
 use crate::walk;
-
-// The cut of stretch j becomes at least store s's clock.
-fn raise(marks: &mut Marks, rows: &[u16], s: u16, j: u16)
-    requires { ⌜ 32768 ≤ length (now rows) ⌝ }
-    ensures { λ _. ⌜ now (marks .exit) ≡ raised 8 (now (rows .entry)) (now (marks .entry)) s j ⌝ }
-{
-    let from = area::row_of(s);
-    let to = cells::cut(j, 0);
-    let mut u: usize = 0;
-    while u < 8 {
-        marks[to + u] = area::numbers::larger(marks[to + u], rows[from + u]);
-        u += 1;
-    }
-}
 
 // Store s, of stretch j, becomes observed: its flag, and the cut of its stretch.
 fn see(marks: &mut Marks, flags: &mut Flags, rows: &[u16], s: u16, j: u16)
@@ -34,7 +20,7 @@ fn see(marks: &mut Marks, flags: &mut Flags, rows: &[u16], s: u16, j: u16)
 {
     let i = cells::flag(s);
     flags[i] = flags::observe(flags[i]);
-    raise(marks, rows, s, j);
+    area::join(marks, cells::cut(j, 0), rows, s);
 }
 
 // A counted load from s of the location whose chain begins with store h. It answers whether with it there is a pair, if

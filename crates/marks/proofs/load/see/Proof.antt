@@ -1,4 +1,4 @@
--- The definition's two parts: the flag, and the cut that `raise` leaves. Assumes nothing.
+-- The definition's two parts: the flag, and the cut, joined with the store's clock. Assumes nothing.
 use Rattle.marks.specs.Marking.{seenFrom}
 use borrow.Author.Needs.{needs}
 use Rattle.marks.proofs.load.see.Statement.{statement}
@@ -16,15 +16,19 @@ observe-requires c κs = search needs
 element-write-flags : tie.Need-element-write-flags
 element-write-flags c = search needs
 
-raise-requires : tie.Need-raise-requires
-raise-requires c κs = search needs
+cut-requires : tie.Need-cut-requires
+cut-requires c κs = search needs
+
+join-requires : tie.Need-join-requires
+join-requires c κs = search needs
 
 returns : tie.Need-returns
 unfolding seenFrom
 returns c =
-    let at-observe = c .before .before in
+    let at-cut = c .before in
+    let at-observe = at-cut .before .before in
     let at-flag = at-observe .before .before in
-    rw (c .raise .ensures, at-observe .observe .ensures, at-flag .flag .ensures .0)
+    rw (c .join .ensures, at-cut .cut .ensures .0, at-observe .observe .ensures, at-flag .flag .ensures .0)
 
 pub see-spec : {M : Type 1} → statement M
 see-spec =
@@ -34,5 +38,6 @@ see-spec =
     element-copy-out-observe
     observe-requires
     element-write-flags
-    raise-requires
+    cut-requires
+    join-requires
     returns)
