@@ -1,8 +1,10 @@
 -- The mathematics that the functions' proofs cite, and the theorems about the definitions: RoundTrips, Starts
--- and Scans.
+-- and Scans. TakesApart and GoesThrough have the walks that the reader's functions share.
 pub mod Rows
 pub mod Frames
 pub mod Shapes
 pub mod RoundTrips
 pub mod Starts
 pub mod Scans
+pub mod TakesApart
+pub mod GoesThrough
