@@ -37,11 +37,11 @@ pub fn total(numbers: &[u16], from: usize) -> u32
     requires { ⌜ from + 56 ≤ length (now numbers) ⌝ }
     ensures { λ r. ⌜ (r ≡ total 56 (now (numbers .entry)) from) × (r ≤ 65535 * 56) ⌝ }
 {
-    let mut i: usize = 0;
+    let mut n: usize = 0;
     let mut sum: u32 = 0;
-    while i < 56 {
-        sum += numbers::wide(numbers[from + i]);
-        i += 1;
+    while n < 56 {
+        sum += numbers::wide(numbers[from + n]);
+        n += 1;
     }
     sum
 }

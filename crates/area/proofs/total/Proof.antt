@@ -1,4 +1,4 @@
--- Invariant: the first i numbers are summed, and each is a two-byte number; measure: the numbers left. Assumes nothing.
+-- Invariant: the first n numbers are summed, and each is a two-byte number; measure: the numbers left. Assumes nothing.
 use mathlib.Core.Path.{_≡_, refl}
 use mathlib.Core.List.{List}
 use Prim.Native.Nat.{ℕ, _+_, _-_, _*_, _≤_}
@@ -11,16 +11,16 @@ use borrow.Author.Needs.{needs}
 use Rattle.area.proofs.total.Statement.{statement}
 use Rattle.area.proofs.total.Tie as tie
 
-record Summed (numbers : List ℕ) (from i so-far : ℕ) : Type 0 where
-  below : i ≤ 56
-  is-so : so-far ≡ total i numbers from
-  few : so-far ≤ 65535 * i
+record Summed (numbers : List ℕ) (from n so-far : ℕ) : Type 0 where
+  below : n ≤ 56
+  is-so : so-far ≡ total n numbers from
+  few : so-far ≤ 65535 * n
 
 abbrev Inv-loop : tie.InvT-loop
-Inv-loop numbers from i₀ sum₀ i so-far = Summed numbers from i so-far
+Inv-loop numbers from n₀ sum₀ n so-far = Summed numbers from n so-far
 
 abbrev μ-loop : tie.MeasureT-loop
-μ-loop numbers from i₀ sum₀ i so-far = 56 - i
+μ-loop numbers from n₀ sum₀ n so-far = 56 - n
 
 loop-holds : tie.Need-loop-holds Inv-loop μ-loop
 unfolding tabulate sum
@@ -41,8 +41,8 @@ wide-requires c κs = search needs
 add-sum : tie.Need-add-sum Inv-loop μ-loop
 add-sum c = search needs
 
-add-i : tie.Need-add-i Inv-loop μ-loop
-add-i c = search needs
+add-n : tie.Need-add-n Inv-loop μ-loop
+add-n c = search needs
 
 loop-less : tie.Need-loop-less Inv-loop μ-loop
 loop-less c = search needs
@@ -56,14 +56,14 @@ loop-again c =
       below = omega (arith, at-test .loop-test .taken);
       is-so =
           rw (here .inv .is-so, c .wide .ensures .0)
-          (sum-more (here .i) (λ i. getD (args .numbers .now) (args .from + i) 0));
+          (sum-more (here .n) (λ n. getD (args .numbers .now) (args .from + n) 0));
       few = omega (arith, here .inv .few, c .wide .ensures .1);
     }
 
 returns : tie.Need-returns Inv-loop μ-loop
 returns c =
     let here = c .before .loop in
-    let end : here .i ≡ 56 = omega (arith, here .inv .below, c .loop-test .left) in
+    let end : here .n ≡ 56 = omega (arith, here .inv .below, c .loop-test .left) in
     (rw end at (here .inv .is-so), omega (arith, here .inv .few))
 
 pub total-spec : {M : Type 1} → statement M
@@ -78,7 +78,7 @@ total-spec =
     shared-slice-read-wide
     wide-requires
     add-sum
-    add-i
+    add-n
     loop-less
     loop-again
     returns)
