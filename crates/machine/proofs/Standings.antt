@@ -14,7 +14,7 @@ use Rattle.model.specs.Trace.{thread, issue?, Issue, stretch, place}
 use Rattle.model.specs.Clocks.{vc}
 use Rattle.model.specs.Answers.{before, after, same, neither, orderAnswer}
 use Rattle.model.specs.Judge.{store?, standing}
-use Rattle.model.proofs.Searching.{same?, less?, both, parts, second-fails}
+use Rattle.model.proofs.Searching.{same?, less?, both, parts, second-fails, eqb-turned}
 use Rattle.model.proofs.Roles.{issue-or-not}
 use Rattle.model.proofs.ClockSteps.{vc-own}
 use Rattle.model.proofs.Acceptance.{store-not-0}
@@ -24,13 +24,6 @@ use Rattle.machine.specs.Twin.{World}
 use Rattle.machine.specs.Orders.{storeW, orderW}
 use Rattle.machine.specs.Sim.{Sim}
 use Rattle.machine.proofs.Searches.{leb-suc, store-thread}
-
-eqb-turned : (a b : ℕ) → eqb a b ≡ eqb b a
-eqb-turned a b = by-equality (same? a b)
-  where
-    by-equality : (a ≡ b) ⊎ (a ≢ b) → eqb a b ≡ eqb b a
-    by-equality (inl is) = eq-eqb a b is ∙ sym (eq-eqb b a (sym is))
-    by-equality (inr differs) = ne-eqb a b differs ∙ sym (ne-eqb b a (λ is. differs (sym is)))
 
 -- the machine's tests and the definitions', in their orders
 standing-by-tests :

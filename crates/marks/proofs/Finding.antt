@@ -7,7 +7,6 @@ use mathlib.Core.Bool.{Bool, true, false, _&&_}
 use mathlib.Core.Logic.{_⊎_, inl, inr}
 use mathlib.Core.List.{List}
 use lib.Dec.{eqb, ltb}
-use borrow.Author.Tests.{eqb-true}
 use Rattle.record.specs.declared.events.Event.{Event}
 use Rattle.model.specs.Search.{bit, first, firstFrom}
 use Rattle.model.specs.Trace.{thread, stretch, place}
@@ -15,7 +14,7 @@ use Rattle.model.specs.Rules.{Accepted}
 use Rattle.model.specs.Clocks.{vc}
 use Rattle.model.specs.Stores.{marked?}
 use Rattle.model.specs.Verdict.{forbidden?, observed?, pair?, missing?, bad?, closure, missingOf, observedOf}
-use Rattle.model.proofs.Searching.{false-true, test, parts, same-test, first-is, eqb-same}
+use Rattle.model.proofs.Searching.{false-true, test, parts, first-is, eqb-turned}
 use Rattle.model.proofs.Acceptance.{event-bound}
 use Rattle.model.proofs.StorePlaces.{fails}
 use Rattle.model.proofs.Closure.{observed→, observed-is-kept}
@@ -51,10 +50,6 @@ observed-bits true true = refl
 observed-bits true false = refl
 observed-bits false true = refl
 observed-bits false false = refl
-
-eqb-turned : (a b : ℕ) → eqb a b ≡ eqb b a
-eqb-turned a b =
-    same-test _ _ (λ same. rw (eqb-true a b same) (eqb-same b)) (λ same. rw (eqb-true b a same) (eqb-same a))
 
 module _
     (ev : ℕ → Event) (N : ℕ) (accepted : Accepted ev N) (l : List ℕ) (rows : Rows ev N l) (m : Marks)

@@ -79,6 +79,11 @@ less? m n = by-test (test (ltb m n))
 pub eqb-same : (n : ℕ) → eqb n n ≡ true
 eqb-same n = eq-eqb n n refl
 
+-- equality is tested either way round
+pub eqb-turned : (a b : ℕ) → eqb a b ≡ eqb b a
+eqb-turned a b =
+    same-test _ _ (λ same. rw (eqb-true a b same) (eqb-same b)) (λ same. rw (eqb-true b a same) (eqb-same a))
+
 -- two numbers with the same numbers below them are equal
 pub same-below : (a b : ℕ) → ((i : ℕ) → i < a → i < b) → ((i : ℕ) → i < b → i < a) → a ≡ b
 same-below a b up down = by-order (less? a b) (less? b a)
