@@ -6,7 +6,7 @@ use Prim.Native.Nat.{ℕ, zero, suc, _≤_, _<_}
 use native.Mathlib.Omega.{arith}
 use mathlib.Core.Path.{_≡_, refl, sym, _∙_, ap}
 use mathlib.Core.Bool.{true, false, cond, _&&_}
-use mathlib.Core.List.{List, [], _∷_}
+use mathlib.Core.List.{_∷_}
 use mathlib.Core.Logic.{_⊎_, inl, inr, _≢_}
 use lib.Dec.{eqb}
 use borrow.Author.Tests.{eqb-true, eq-eqb, le-leb, leb-true}
@@ -201,9 +201,6 @@ module _ (ev : ℕ → Event) where
       where
         from-zero : lastCommit n x ≡ 0 → p ≡ 0
         from-zero is-0 = sym is-head ∙ head-is-last n x ∙ ap (committed ev) is-0 ∙ committed-zero
-
-    pub head-early : {x p : ℕ} → Head x p → p < n
-    head-early head = omega (arith, head .store .early, head .lands .early)
 
     pub current-head :
         (p : ℕ) → headOf (landed ev n (location ev n)) ≡ p → p ≢ 0 → stretch ev p ≡ stretch ev n → current ev n ≡ p

@@ -27,9 +27,6 @@ module _ (ev : ℕ → Event) where
   pub load-no-crash : {e : ℕ} → Load ev e → crash? ev e ≡ false
   load-no-crash {e} loads = one-kind e 4 9 (omega arith) (loads .test)
 
-  pub load-no-issue : {e : ℕ} → Load ev e → issue? ev e ≡ false
-  load-no-issue {e} loads = one-kind e 4 2 (omega arith) (loads .test)
-
   pub load-no-commit : {e : ℕ} → Load ev e → commit? ev e ≡ false
   load-no-commit {e} loads = one-kind e 4 3 (omega arith) (loads .test)
 
