@@ -1,6 +1,6 @@
 -- The order query under `Sim`: a row says whether an event is a store (`store-is`), and the answer for two stores is
 -- the definitions' (`order-is`), for a store's clock of its own thread is one more than its place.
-use mathlib.Core.Path.{_≡_, refl, sym, _∙_}
+use mathlib.Core.Path.{_≡_, refl}
 use mathlib.Core.Bool.{Bool, true, false, _&&_, not}
 use mathlib.Core.Logic.{_⊎_, inl, inr, _≢_}
 use Prim.Native.Nat.{ℕ, _-_, _≤_, _<_}
