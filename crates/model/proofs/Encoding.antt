@@ -4,7 +4,7 @@
 use Prim.Native.Nat.{ℕ, zero, suc, _+_, _≤_, _<_}
 use native.Mathlib.Omega.{arith}
 use mathlib.Core.Path.{_≡_, refl, sym, ap, _∙_, fun-ext}
-use mathlib.Core.Bool.{Bool, true, false, cond, _&&_, not}
+use mathlib.Core.Bool.{Bool, true, false, cond, not}
 use mathlib.Core.Logic.{_⊎_, inl, inr}
 use mathlib.Core.List.{List, [], _∷_, _++_}
 use lib.ListN.{length, drop, length-drop, List·getD-eq-default}
@@ -15,9 +15,10 @@ use Rattle.record.specs.declared.events.Event.{Event}
 use Rattle.record.specs.declared.events.Event.the-variants.{Crash}
 use Rattle.record.specs.Answers.{Answer, refused, event}
 use Rattle.record.specs.Events.{recordOf}
-use Rattle.record.specs.Fields.{fieldsOf, TwoByte}
+use Rattle.record.specs.Fields.{columns, fieldsOf, TwoByte}
 use Rattle.record.specs.Parts.{start, sizeAt}
 use Rattle.record.specs.Reading.{readFirst, readAt}
+use Rattle.record.proofs.Computed.{every}
 use Rattle.record.proofs.RoundTrips.{write-read}
 use Rattle.record.proofs.Starts.{start-inside, start-mono, read-at, read-past, read-past-end, read-grows}
 use Rattle.model.specs.Search.{some, first}
@@ -44,10 +45,7 @@ pub record AllTwoByte (xs : List Event) : Type 0 where
 
 -- the same, as a test
 abbrev pub twoByte? : Event → Bool
-twoByte? x =
-    let f = fieldsOf x in
-    ltb (f .thread) 65536 && ltb (f .location) 65536 && ltb (f .source) 65536
-    && ltb (f .version) 65536 && ltb (f .threads) 65536 && ltb (f .locations) 65536
+twoByte? x = every (λ v. ltb v 65536) (columns (fieldsOf x))
 
 -- the rules turn event e away
 abbrev pub turned? : List Event → ℕ → Bool

@@ -1,8 +1,7 @@
 -- Sessions: how a list of worked examples is shown of the definitions, from their bytes. The bytes are those of a list
 -- of events, so what the definitions say of the bytes is what they say of the events (proofs/Encoding.antt), and that
 -- is computed. Assumes nothing.
-use Prim.Native.Nat.{ℕ, zero, suc, _<_}
-use native.Mathlib.Omega.{arith}
+use Prim.Native.Nat.{ℕ, _<_}
 use mathlib.Core.Path.{_≡_, refl, ap₂}
 use mathlib.Core.Bool.{Bool, true, _&&_}
 use mathlib.Core.List.{List, [], _∷_, map}
@@ -10,7 +9,9 @@ use lib.ListN.{length, replicate}
 use lib.Dec.{ltb}
 use borrow.Author.Tests.{ltb-true}
 use Rattle.record.specs.declared.events.Event.{Event}
-use Rattle.record.specs.Fields.{fieldsOf, TwoByte}
+use Rattle.record.specs.declared.events.Event.the-variants.{Crash}
+use Rattle.record.specs.Fields.{columns, fieldsOf, TwoByte}
+use Rattle.record.proofs.Computed.{every, every-at, every-each}
 use Rattle.model.specs.Trace.{traceOf}
 use Rattle.model.specs.Answers.{Answer}
 use Rattle.model.specs.Judge.{judgeOf, cutAfter}
@@ -40,10 +41,6 @@ judgedEvents xs =
 
 -- ---- a list of sessions
 
-abbrev pub every : (Event → Bool) → List Event → Bool
-every f [] = true
-every f (x ∷ xs) = f x && every f xs
-
 -- there is an event, and each has two-byte fields
 abbrev pub writable : List Event → Bool
 writable xs = ltb 0 (length xs) && every twoByte? xs
@@ -52,42 +49,24 @@ abbrev pub allWritable : List (List Event) → Bool
 allWritable [] = true
 allWritable (xs ∷ xss) = writable xs && allWritable xss
 
+-- an event that passes the test has two-byte fields
 two-byte : (x : Event) → twoByte? x ≡ true → TwoByte (fieldsOf x)
 two-byte x passes =
-    let f = fieldsOf x in
-    let first-five =
-    ltb (f .thread) 65536 && ltb (f .location) 65536 && ltb (f .source) 65536
-    && ltb (f .version) 65536 && ltb (f .threads) 65536
-    in
-    let first-four =
-    ltb (f .thread) 65536 && ltb (f .location) 65536 && ltb (f .source) 65536 && ltb (f .version) 65536
-    in
-    let first-three = ltb (f .thread) 65536 && ltb (f .location) 65536 && ltb (f .source) 65536 in
-    let six = parts first-five _ passes in
-    let five = parts first-four _ (six .0) in
-    let four = parts first-three _ (five .0) in
-    let three = parts (ltb (f .thread) 65536 && ltb (f .location) 65536) _ (four .0) in
-    let two = parts (ltb (f .thread) 65536) _ (three .0) in
     record {
-      thread = ltb-true _ _ (two .0);
-      location = ltb-true _ _ (two .1);
-      source = ltb-true _ _ (three .1);
-      version = ltb-true _ _ (four .1);
-      threads = ltb-true _ _ (five .1);
-      locations = ltb-true _ _ (six .1);
+      small =
+          every-each (λ v. ltb v 65536) (λ v. v < 65536) (λ v. ltb-true v 65536) (columns (fieldsOf x)) passes;
     }
 
-each-two-byte :
-    (xs : List Event) → every twoByte? xs ≡ true → (e : ℕ) → e < length xs → TwoByte (fieldsOf (traceOf xs e))
-each-two-byte [] passes e inside = absurd (omega arith)
-each-two-byte (x ∷ xs) passes zero inside = two-byte x (parts (twoByte? x) _ passes .0)
-each-two-byte (x ∷ xs) passes (suc e) inside = each-two-byte xs (parts (twoByte? x) _ passes .1) e (omega arith)
+-- behind the last event all are crashes, which pass it too
+each-two-byte : (xs : List Event) → every twoByte? xs ≡ true → AllTwoByte xs
+each-two-byte xs passes =
+    record { two-byte = λ e inside. two-byte (traceOf xs e) (every-at twoByte? xs Crash passes refl e) }
 
 judged-encoded : (xs : List Event) → writable xs ≡ true → judged (encode xs) ≡ judgedEvents xs
 unfolding judgeOf cutAfter
 judged-encoded xs passes =
     let fits = parts (ltb 0 (length xs)) _ passes in
-    let small : AllTwoByte xs = record { two-byte = each-two-byte xs (fits .1) } in
+    let small = each-two-byte xs (fits .1) in
     let reading = same-reading xs small (ltb-true _ _ (fits .0)) in
     rw (reading, same-answer xs small, same-cut xs small)
 

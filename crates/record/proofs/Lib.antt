@@ -1,5 +1,6 @@
 -- The mathematics that the functions' proofs cite, and the theorems about the definitions: RoundTrips, Starts
 -- and Scans. TakesApart and GoesThrough have the walks that the reader's functions share.
+pub mod Computed
 pub mod Rows
 pub mod Frames
 pub mod Shapes

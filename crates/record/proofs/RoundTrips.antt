@@ -1,6 +1,6 @@
 -- The round trips, theorems about the definitions: `write-read`, an event that was written is read as itself, whatever
 -- follows it; `read-write`, a record that was read, written again, has its old bytes. Assumes nothing.
-use mathlib.Core.Path.{_≡_, refl, sym, ap, _∙_}
+use mathlib.Core.Path.{_≡_, refl, sym, ap, _∙_, fun-ext}
 use mathlib.Core.List.{List, [], _∷_, _++_}
 use Prim.Native.Nat.{ℕ, zero, suc, _+_, _*_, _/_, _%_, _<_, _≤_}
 use native.Mathlib.Omega.{arith}
@@ -13,12 +13,13 @@ use borrow.Author.Tests.{le-ltb}
 use Rattle.record.specs.Bytes.{word, bytes}
 use Rattle.record.specs.Table.{rowOf, lengthOf}
 use Rattle.record.specs.Events.{kindOf, valuesOf, recordOf}
-use Rattle.record.specs.Fields.{fieldsAt, fieldsOf, eventOf, TwoByte}
+use Rattle.record.specs.Fields.{columns, fromColumns, fieldsAt, fieldsOf, eventOf, TwoByte}
 use Rattle.record.specs.Answers.{event, wrote}
 use Rattle.record.specs.Reading.{readFirst}
 use Rattle.record.specs.Writing.{writing, written}
 use Rattle.record.specs.declared.events.Event.{Event}
 use Rattle.record.specs.declared.events.Fields.{Fields}
+use Rattle.record.proofs.Computed.{each-at}
 use Rattle.record.proofs.Frames.{Framed, read→, →read}
 use Rattle.record.proofs.Shapes.{wordsFrom, fieldCount, made, twoBytes, inTwoBytes, laid}
 
@@ -27,16 +28,10 @@ use Rattle.record.proofs.Shapes.{wordsFrom, fieldCount, made, twoBytes,
 two-bytes : (v : ℕ) → v < 65536 → twoBytes v ≡ v
 two-bytes v h = omega arith
 
+-- two bytes hold each value of such fields
 same-fields : (f : Fields) → TwoByte f → inTwoBytes f ≡ f
 same-fields f h =
-    rw (
-      two-bytes (f .thread) (h .thread),
-      two-bytes (f .location) (h .location),
-      two-bytes (f .source) (h .source),
-      two-bytes (f .version) (h .version),
-      two-bytes (f .threads) (h .threads),
-      two-bytes (f .locations) (h .locations),
-    )
+    ap fromColumns (fun-ext (λ j. two-bytes _ (each-at (λ (v : ℕ). v < 65536) (columns f) 0 (h .small) (lit< tt) j)))
 
 pub write-read :
     (e : Event) (rest : List ℕ) → TwoByte (fieldsOf e)

@@ -4,7 +4,7 @@
 use mathlib.Core.Path.{_≡_, refl, sym, ap, _∙_}
 use mathlib.Core.Bool.{false}
 use mathlib.Core.Logic.{_≢_}
-use mathlib.Core.List.{List, []}
+use mathlib.Core.List.{List, [], _∷_}
 use Prim.Native.Nat.{ℕ, _+_, _-_, _≤_}
 use native.Mathlib.Nat.{add-zero}
 use native.Mathlib.Omega.{arith}
@@ -22,9 +22,10 @@ use Rattle.record.specs.declared.events.Event.{Event}
 use Rattle.record.specs.declared.events.Fields.{Fields}
 use Rattle.record.specs.declared.scanning.Scan.{Scan}
 use Rattle.record.specs.declared.scanning.Scanned.the-variants.{Record, Refused}
+use Rattle.record.proofs.Computed.{else-at, NoneOf, among, none-among}
 use Rattle.record.proofs.Frames.{clash, Framed, read→, →read, Answers, an-event, a-refusal}
 use Rattle.record.proofs.Rows.{row-fits, at-most-eight}
-use Rattle.record.proofs.Shapes.{each-kind, made}
+use Rattle.record.proofs.Shapes.{made}
 use Rattle.record.proofs.Starts.{tail-is, from-event, read-at-answers, read-past-end}
 
 -- the number at an offset of the bytes from a position on
@@ -147,33 +148,21 @@ pub wrong-length :
 wrong-length s at k kind n k-is kind-is n-is unfit =
     refuses s at k k-is (λ (there : IsThere s at). unfit (rw (n-is, kind-is) (there .length-is)))
 
--- a number that no arm of `scan_step` takes
-abbrev NoScanArm : ℕ → Type 0
-NoScanArm k =
-    ((((((((((Unit {0} × (k ≡ 1 → ⊥)) × (k ≡ 2 → ⊥)) × (k ≡ 3 → ⊥)) × (k ≡ 4 → ⊥)) × (k ≡ 5 → ⊥)) × (k ≡ 6 → ⊥))
-    × (k ≡ 7 → ⊥)) × (k ≡ 8 → ⊥)) × (k ≡ 9 → ⊥)) × (k ≡ 10 → ⊥)) × (k ≡ 11 → ⊥)
+-- the kinds that `scan_step` has an arm for, the last one first
+abbrev arms : List ℕ
+arms = 11 ∷ 10 ∷ 9 ∷ 8 ∷ 7 ∷ 6 ∷ 5 ∷ 4 ∷ 3 ∷ 2 ∷ 1 ∷ []
 
-arm-for : (k : ℕ) → (lengthOf k ≡ 0 → ⊥) → NoScanArm k → ⊥
-arm-for =
-    each-kind (λ (k : ℕ). NoScanArm k → ⊥)
-    (λ no. no .0 .0 .0 .0 .0 .0 .0 .0 .0 .0 .1 refl)
-    (λ no. no .0 .0 .0 .0 .0 .0 .0 .0 .0 .1 refl)
-    (λ no. no .0 .0 .0 .0 .0 .0 .0 .0 .1 refl)
-    (λ no. no .0 .0 .0 .0 .0 .0 .0 .1 refl)
-    (λ no. no .0 .0 .0 .0 .0 .0 .1 refl)
-    (λ no. no .0 .0 .0 .0 .0 .1 refl)
-    (λ no. no .0 .0 .0 .0 .1 refl)
-    (λ no. no .0 .0 .0 .1 refl)
-    (λ no. no .0 .0 .1 refl)
-    (λ no. no .0 .1 refl)
-    (λ no. no .1 refl)
+-- any other number has no length in the table
+no-length : (k : ℕ) → NoneOf arms k → lengthOf k ≡ 0
+unfolding rowOf
+no-length k none = else-at (length kinds) (among arms) lengthOf 0 refl (λ i. refl) k (none-among arms k none)
 
 -- a kind that is not in the table refuses
 pub unknown-kind :
-    (s : List ℕ) (at k kind : ℕ) → k ≡ refusalOf (scanOf (readAt s at)) → kind ≡ word s (at + 2) → NoScanArm kind
+    (s : List ℕ) (at k kind : ℕ) → k ≡ refusalOf (scanOf (readAt s at)) → kind ≡ word s (at + 2) → NoneOf arms kind
     → Refused k ≡ scanOf (readAt s at)
 unknown-kind s at k kind k-is kind-is no-arm =
-    refuses s at k k-is (λ (there : IsThere s at). arm-for kind (rw kind-is (there .known)) no-arm)
+    refuses s at k k-is (λ (there : IsThere s at). there .known (rw kind-is at (no-length kind no-arm)))
 
 -- ---- what was scanned is what was read
 

@@ -1,46 +1,45 @@
--- How the table lays out each kind's record: facts that hold of every kind, by one clause for each.
--- Assumes nothing.
+-- How the table lays out each kind's record: facts that hold of every kind of the table, computed over all its rows at
+-- once, and facts that hold of every event, by one clause for each variant. Assumes nothing.
 use mathlib.Core.Path.{_≡_, refl, sym, _∙_}
-use mathlib.Core.Bool.{Bool, true, false}
-use mathlib.Core.Logic.{_⊎_, inl, inr}
 use mathlib.Core.List.{List, [], _∷_, _++_}
 use Prim.Native.Nat.{ℕ, zero, suc, _+_, _-_, _*_, _/_, _%_, _≤_}
 use native.Mathlib.Nat.{zero-add}
 use native.Mathlib.Omega.{arith}
-use lib.ListN.{length, getD, drop, List·getD-eq-default}
+use lib.ListN.{length, getD, drop}
 use lib.Seq.{sets, sets-eq}
 use lib.Dec.{eqb, lit≤}
-use borrow.Author.Tests.{eqb-true, eqb-false}
+use borrow.Author.Tests.{ne-eqb}
+use Rattle.record.specs.Tests.{_gives_else_}
 use Rattle.record.specs.Bytes.{word, putWord}
-use Rattle.record.specs.Table.{rowOf, lengthOf}
+use Rattle.record.specs.Table.{kinds, rowOf, lengthOf}
 use Rattle.record.specs.Events.{kindOf, valuesOf, recordOf}
-use Rattle.record.specs.Fields.{fieldsAt, putFields, eventsOf, eventOf, fieldsOf}
+use Rattle.record.specs.Fields.{mapFields, fieldsAt, putField, putEach, putFields, eventOf, fieldsOf}
 use Rattle.record.specs.declared.events.Event.{Event}
 use Rattle.record.specs.declared.events.Event.the-variants.{Begin, Issue, Commit, Load, Clflush, Clwb}
 use Rattle.record.specs.declared.events.Event.the-variants.{Sfence, Mfence, Crash, SkipOn, SkipOff}
 use Rattle.record.specs.declared.events.Fields.{Fields}
+use Rattle.record.proofs.Computed.{firsts, everywhere, else-at, NoneOf, among, none-among}
 
 -- ---- kinds by number
 
--- what holds of each kind of the table holds of every number that has a length there
-pub each-kind :
-    (P : ℕ → Type 0) → P 1 → P 2 → P 3 → P 4 → P 5 → P 6 → P 7 → P 8 → P 9 → P 10 → P 11
-    → (k : ℕ) → (lengthOf k ≡ 0 → ⊥) → P k
+-- what a function gives at a number that has a length in the table
+abbrev atKind : {A : Type 0} → (ℕ → A) → ℕ → List A
+atKind f k = eqb (lengthOf k) 0 gives [] else f k ∷ []
+
+-- two functions that give the same at each kind of the table, which is computed, do so at every number
+alike :
+    {A : Type 0} (f g : ℕ → A) → firsts (length kinds) (atKind f) ≡ firsts (length kinds) (atKind g)
+    → (k : ℕ) → atKind f k ≡ atKind g k
 unfolding rowOf
-each-kind P a b c d e f g h i j l zero known = absurd (known refl)
-each-kind P a b c d e f g h i j l (suc zero) known = a
-each-kind P a b c d e f g h i j l (suc (suc zero)) known = b
-each-kind P a b c d e f g h i j l (suc (suc (suc zero))) known = c
-each-kind P a b c d e f g h i j l (suc (suc (suc (suc zero)))) known = d
-each-kind P a b c d e f g h i j l (suc (suc (suc (suc (suc zero))))) known = e
-each-kind P a b c d e f g h i j l (suc (suc (suc (suc (suc (suc zero)))))) known = f
-each-kind P a b c d e f g h i j l (suc (suc (suc (suc (suc (suc (suc zero))))))) known = g
-each-kind P a b c d e f g h i j l (suc (suc (suc (suc (suc (suc (suc (suc zero)))))))) known = h
-each-kind P a b c d e f g h i j l (suc (suc (suc (suc (suc (suc (suc (suc (suc zero))))))))) known = i
-each-kind P a b c d e f g h i j l (suc (suc (suc (suc (suc (suc (suc (suc (suc (suc zero)))))))))) known = j
-each-kind P a b c d e f g h i j l (suc (suc (suc (suc (suc (suc (suc (suc (suc (suc (suc zero))))))))))) known = l
-each-kind P a b c d e f g h i j l (suc (suc (suc (suc (suc (suc (suc (suc (suc (suc (suc (suc k)))))))))))) known =
-    absurd (known refl)
+alike f g same = everywhere (length kinds) (atKind f) (atKind g) same (λ k. refl)
+
+-- so they agree at every number that has a length there
+at-kinds :
+    {A : Type 0} (f g : ℕ → A) → firsts (length kinds) (atKind f) ≡ firsts (length kinds) (atKind g)
+    → (k : ℕ) → (lengthOf k ≡ 0 → ⊥) → f k ≡ g k
+at-kinds f g same k known =
+    let known-alike : f k ∷ [] ≡ g k ∷ [] = rw (ne-eqb (lengthOf k) 0 known) at (alike f g same k) in
+    cc
 
 -- the numbers that stand in a list of bytes from an offset on
 abbrev pub wordsFrom : ℕ → ℕ → List ℕ → List ℕ
@@ -51,65 +50,36 @@ wordsFrom (suc m) at s = word s at ∷ wordsFrom m (at + 2) s
 abbrev pub fieldCount : ℕ → ℕ
 fieldCount k = (lengthOf k - 2) / 2
 
--- the event of a kind, made of the fields that its row places, has that kind, those fields, and the record's words as
--- its values
+-- the event of a kind, made of the fields that its row places
+abbrev eventAt : List ℕ → ℕ → Event
+eventAt s k = eventOf k (fieldsAt s (rowOf k))
+
+-- it has that kind, those fields, and the record's words as its values
 pub record Made (s : List ℕ) (k : ℕ) : Type 0 where
-  pub kind-is : kindOf (eventOf k (fieldsAt s (rowOf k))) ≡ k
-  pub fields-are : fieldsOf (eventOf k (fieldsAt s (rowOf k))) ≡ fieldsAt s (rowOf k)
-  pub values-are : valuesOf (eventOf k (fieldsAt s (rowOf k))) ≡ wordsFrom (fieldCount k) 4 s
+  pub kind-is : kindOf (eventAt s k) ≡ k
+  pub fields-are : fieldsOf (eventAt s k) ≡ fieldsAt s (rowOf k)
+  pub values-are : valuesOf (eventAt s k) ≡ wordsFrom (fieldCount k) 4 s
   pub length-is : lengthOf k ≡ 2 + fieldCount k * 2
 
 pub made : (s : List ℕ) (k : ℕ) → (lengthOf k ≡ 0 → ⊥) → Made s k
 unfolding rowOf eventOf
-made s =
-    each-kind (Made s)
-    (record { kind-is = refl; fields-are = refl; values-are = refl; length-is = refl })
-    (record { kind-is = refl; fields-are = refl; values-are = refl; length-is = refl })
-    (record { kind-is = refl; fields-are = refl; values-are = refl; length-is = refl })
-    (record { kind-is = refl; fields-are = refl; values-are = refl; length-is = refl })
-    (record { kind-is = refl; fields-are = refl; values-are = refl; length-is = refl })
-    (record { kind-is = refl; fields-are = refl; values-are = refl; length-is = refl })
-    (record { kind-is = refl; fields-are = refl; values-are = refl; length-is = refl })
-    (record { kind-is = refl; fields-are = refl; values-are = refl; length-is = refl })
-    (record { kind-is = refl; fields-are = refl; values-are = refl; length-is = refl })
-    (record { kind-is = refl; fields-are = refl; values-are = refl; length-is = refl })
-    (record { kind-is = refl; fields-are = refl; values-are = refl; length-is = refl })
+made s k known =
+    record {
+      kind-is = at-kinds (λ i. kindOf (eventAt s i)) (λ i. i) refl k known;
+      fields-are = at-kinds (λ i. fieldsOf (eventAt s i)) (λ i. fieldsAt s (rowOf i)) refl k known;
+      values-are = at-kinds (λ i. valuesOf (eventAt s i)) (λ i. wordsFrom (fieldCount i) 4 s) refl k known;
+      length-is = at-kinds lengthOf (λ i. 2 + fieldCount i * 2) refl k known;
+    }
 
--- a number that no arm of a match on the kinds 1 to 8, 10 and 11 takes
-abbrev pub NoArm : ℕ → Type 0
-NoArm k =
-    (((((((((Unit {0} × (k ≡ 1 → ⊥)) × (k ≡ 2 → ⊥)) × (k ≡ 3 → ⊥)) × (k ≡ 4 → ⊥)) × (k ≡ 5 → ⊥)) × (k ≡ 6 → ⊥))
-    × (k ≡ 7 → ⊥)) × (k ≡ 8 → ⊥)) × (k ≡ 10 → ⊥)) × (k ≡ 11 → ⊥)
+-- the kinds that `of_kind` has an arm for, the last one first
+abbrev arms : List ℕ
+arms = 11 ∷ 10 ∷ 8 ∷ 7 ∷ 6 ∷ 5 ∷ 4 ∷ 3 ∷ 2 ∷ 1 ∷ []
 
-six-on :
-    (k : ℕ) → (k ≡ 0 → ⊥) → (k ≡ 1 → ⊥) → (k ≡ 2 → ⊥) → (k ≡ 3 → ⊥) → (k ≡ 4 → ⊥) → (k ≡ 5 → ⊥)
-    → 6 ≤ k
-six-on k n0 n1 n2 n3 n4 n5 = omega arith
-
-twelve-on :
-    (k : ℕ) → 6 ≤ k → (k ≡ 6 → ⊥) → (k ≡ 7 → ⊥) → (k ≡ 8 → ⊥) → (k ≡ 9 → ⊥) → (k ≡ 10 → ⊥) → (k ≡ 11 → ⊥)
-    → 12 ≤ k
-twelve-on k from-six n6 n7 n8 n9 n10 n11 = omega arith
-
--- such a number gives a crash: it is 0, the crash's own 9, or past the table
-pub crash-else : (k : ℕ) (f : Fields) → NoArm k → Crash ≡ eventOf k f
+-- any other number gives a crash: it is 0, the crash's own, or past the table
+pub crash-else : (k : ℕ) (f : Fields) → NoneOf arms k → Crash ≡ eventOf k f
 unfolding eventOf
-crash-else k f ((((((((((u, n1), n2), n3), n4), n5), n6), n7), n8), n10), n11) =
-    by-tests (test (eqb k 0)) (test (eqb k 9))
-  where
-    test : (b : Bool) → (b ≡ true) ⊎ (b ≡ false)
-    test true = inl refl
-    test false = inr refl
-
-    by-tests :
-        (eqb k 0 ≡ true) ⊎ (eqb k 0 ≡ false) → (eqb k 9 ≡ true) ⊎ (eqb k 9 ≡ false)
-        → Crash ≡ getD (eventsOf f) k Crash
-    by-tests (inl z) n = rw (eqb-true k 0 z)
-    by-tests (inr z) (inl n) = rw (eqb-true k 9 n)
-    by-tests (inr z) (inr n) =
-        let from-six = six-on k (eqb-false k 0 z) n1 n2 n3 n4 n5 in
-        let past = twelve-on k from-six n6 n7 n8 (eqb-false k 9 n) n10 n11 in
-        sym (List·getD-eq-default (eventsOf f) Crash past)
+crash-else k f none =
+    sym (else-at (length kinds) (among arms) (λ i. eventOf i f) Crash refl (λ i. refl) k (none-among arms k none))
 
 -- ---- events
 
@@ -117,16 +87,9 @@ crash-else k f ((((((((((u, n1), n2), n3), n4), n5), n6), n7), n8), n10), n11) =
 abbrev pub twoBytes : ℕ → ℕ
 twoBytes v = v % 256 + v / 256 % 256 * 256
 
+-- what a record holds of an event's fields
 abbrev pub inTwoBytes : Fields → Fields
-inTwoBytes f =
-    record {
-      thread = twoBytes (f .thread);
-      location = twoBytes (f .location);
-      source = twoBytes (f .source);
-      version = twoBytes (f .version);
-      threads = twoBytes (f .threads);
-      locations = twoBytes (f .locations);
-    }
+inTwoBytes = mapFields twoBytes
 
 -- the writer's stores: length, kind, and the fields where the kind's row places them
 abbrev pub stores : Event → List ℕ → List ℕ
@@ -179,6 +142,18 @@ module _ (rest out : List ℕ) where
         event-is = f .5;
         stores-are = f .6;
       }
+
+-- values are stored at offsets, one after the other, and t is what the bytes are in the end
+abbrev InTurn : List ℕ → List ℕ → List ℕ → List ℕ → Type 0
+InTurn s [] vs t = t ≡ s
+InTurn s (at ∷ ats) [] t = t ≡ s
+InTurn s (at ∷ ats) (v ∷ vs) t = (s₁ : List ℕ) × (s₁ ≡ putField s at v) × InTurn s₁ ats vs t
+
+-- that is the definition's, so a function that makes the stores in turn needs no more
+pub in-turn : (s ats vs t : List ℕ) → InTurn s ats vs t → t ≡ putEach s ats vs
+in-turn s [] vs t is = is
+in-turn s (at ∷ ats) [] t is = is
+in-turn s (at ∷ ats) (v ∷ vs) t (s₁, first, rest) = rw (← first) (in-turn s₁ ats vs t rest)
 
 -- the writer's stores put the record at the front and leave the rest
 pub stores-record :

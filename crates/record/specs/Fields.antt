@@ -10,34 +10,54 @@ use Rattle.record.specs.declared.events.Event.the-variants.{Begin, Issue
 use Rattle.record.specs.declared.events.Event.the-variants.{Sfence, Mfence, Crash, SkipOn, SkipOff}
 use Rattle.record.specs.declared.events.Fields.{Fields}
 
--- ---- the columns of a row: the offset of each field, 0 where the kind has no such field
+-- ---- the columns of the table: the fields as a list, and back
 
+-- the values of the fields, in the order of the table's columns behind kind and length
+abbrev pub columns : Fields → List ℕ
+columns f = f .thread ∷ f .location ∷ f .source ∷ f .version ∷ f .threads ∷ f .locations ∷ []
+
+-- the fields, each with the value that is given at its place in that order
+abbrev pub fromColumns : (ℕ → ℕ) → Fields
+fromColumns at =
+    record {
+      thread = at 0;
+      location = at 1;
+      source = at 2;
+      version = at 3;
+      threads = at 4;
+      locations = at 5;
+    }
+
+-- the fields with each value changed alike
+abbrev pub mapFields : (ℕ → ℕ) → Fields → Fields
+mapFields g f = fromColumns (λ j. g (getD (columns f) j 0))
+
+-- P holds of each number of a list
+abbrev pub Each : (ℕ → Type 0) → List ℕ → Type 0
+Each P [] = Unit {0}
+Each P (x ∷ xs) = P x × Each P xs
+
+-- each value is a two-byte number, as in every event of the code
+pub record TwoByte (f : Fields) : Type 0 where
+  pub small : Each (λ (v : ℕ). v < 65536) (columns f)
+
+-- ---- the offsets of a row
+
+-- the offset of each field in the record, 0 where the kind has no such field; they stand behind kind and length
+abbrev pub offsetsIn : List ℕ → Fields
+offsetsIn row = fromColumns (λ j. getD row (j + 2) 0)
+
+-- that of the thread
 abbrev pub threadIn : List ℕ → ℕ
-threadIn row = getD row 2 0
+threadIn row = offsetsIn row .thread
 
+-- that of the location
 abbrev pub locationIn : List ℕ → ℕ
-locationIn row = getD row 3 0
-
-abbrev pub sourceIn : List ℕ → ℕ
-sourceIn row = getD row 4 0
-
-abbrev pub versionIn : List ℕ → ℕ
-versionIn row = getD row 5 0
-
-abbrev pub threadsIn : List ℕ → ℕ
-threadsIn row = getD row 6 0
-
-abbrev pub locationsIn : List ℕ → ℕ
-locationsIn row = getD row 7 0
+locationIn row = offsetsIn row .location
 
 -- each field that a row places ends within n bytes
 pub record RowFits (row : List ℕ) (n : ℕ) : Type 0 where
-  pub thread : threadIn row + 2 ≤ n
-  pub location : locationIn row + 2 ≤ n
-  pub source : sourceIn row + 2 ≤ n
-  pub version : versionIn row + 2 ≤ n
-  pub threads : threadsIn row + 2 ≤ n
-  pub locations : locationsIn row + 2 ≤ n
+  pub ends : Each (λ (at : ℕ). at + 2 ≤ n) (columns (offsetsIn row))
 
 -- ---- fields in a record
 
@@ -47,29 +67,21 @@ fieldAt s at = eqb at 0 gives 0 else word s at
 
 -- the fields that a row places in the record at the front of the bytes
 abbrev pub fieldsAt : List ℕ → List ℕ → Fields
-fieldsAt s row =
-    record {
-      thread = fieldAt s (threadIn row);
-      location = fieldAt s (locationIn row);
-      source = fieldAt s (sourceIn row);
-      version = fieldAt s (versionIn row);
-      threads = fieldAt s (threadsIn row);
-      locations = fieldAt s (locationsIn row);
-    }
+fieldsAt s row = mapFields (fieldAt s) (offsetsIn row)
 
 -- the bytes with a value stored at a field's offset
 abbrev pub putField : List ℕ → ℕ → ℕ → List ℕ
 putField s at v = eqb at 0 gives s else putWord s at v
 
+-- the bytes with values stored at offsets, one after the other
+abbrev pub putEach : List ℕ → List ℕ → List ℕ → List ℕ
+putEach s [] vs = s
+putEach s (at ∷ ats) [] = s
+putEach s (at ∷ ats) (v ∷ vs) = putEach (putField s at v) ats vs
+
 -- the bytes with the fields stored where a row places them
 unfoldable pub putFields : List ℕ → List ℕ → Fields → List ℕ
-putFields s row f =
-    let s₁ = putField s (threadIn row) (f .thread) in
-    let s₂ = putField s₁ (locationIn row) (f .location) in
-    let s₃ = putField s₂ (sourceIn row) (f .source) in
-    let s₄ = putField s₃ (versionIn row) (f .version) in
-    let s₅ = putField s₄ (threadsIn row) (f .threads) in
-    putField s₅ (locationsIn row) (f .locations)
+putFields s row f = putEach s (columns (offsetsIn row)) (columns f)
 
 -- ---- fields and events
 
@@ -112,12 +124,3 @@ fieldsOf (Mfence t) = threadFields t 0 0
 fieldsOf Crash = threadFields 0 0 0
 fieldsOf (SkipOn t) = threadFields t 0 0
 fieldsOf (SkipOff t) = threadFields t 0 0
-
--- each value is a two-byte number, as in every event of the code
-pub record TwoByte (f : Fields) : Type 0 where
-  pub thread : f .thread < 65536
-  pub location : f .location < 65536
-  pub source : f .source < 65536
-  pub version : f .version < 65536
-  pub threads : f .threads < 65536
-  pub locations : f .locations < 65536

@@ -21,9 +21,9 @@ kinds =
     ∷ (11 ∷ 4 ∷ 4 ∷ 0 ∷ 0 ∷ 0 ∷ 0 ∷ 0 ∷ [])
     ∷ []
 
--- the row of a kind; zeros where there is no such kind
+-- the row of a kind; the zeros of row 0 where there is no such kind
 unfoldable pub rowOf : ℕ → List ℕ
-rowOf k = getD kinds k (0 ∷ 0 ∷ 0 ∷ 0 ∷ 0 ∷ 0 ∷ 0 ∷ 0 ∷ [])
+rowOf k = getD kinds k (getD kinds 0 [])
 
 -- the length of a kind's record, "of all that follows" its length bytes; 0 where there is no such kind
 abbrev pub lengthOf : ℕ → ℕ

@@ -1,9 +1,8 @@
 -- The code's table is the definition's, row by row; past it both give zeros. Assumes nothing.
-use mathlib.Core.Path.{_≡_, refl, sym}
-use Prim.Native.Nat.{_≤_}
+use mathlib.Core.Path.{_≡_, refl}
 use native.Mathlib.Omega.{arith}
-use lib.ListN.{List·getD-eq-default}
-use Rattle.record.specs.Table.{rowOf, kinds}
+use Rattle.record.specs.Table.{rowOf}
+use Rattle.record.proofs.Rows.{zeros-else}
 use borrow.Author.Needs.{needs}
 use Rattle.record.proofs.kinds.row_of.Statement.{statement}
 use Rattle.record.proofs.kinds.row_of.Tie as tie
@@ -98,10 +97,7 @@ unfolding rowOf
 returns-12 c = rw (c .before .match2 .keys6) refl
 
 returns-13 : tie.Need-returns-13
-unfolding rowOf
-returns-13 c =
-    let past : 12 ≤ c .before .before .before .args .kind = omega arith in
-    sym (List·getD-eq-default kinds _ past)
+returns-13 c = zeros-else _ (c .before .before .if1 .left) (c .before .match2 .rest)
 
 pub row-of-spec : {M : Type 1} → statement M
 row-of-spec =

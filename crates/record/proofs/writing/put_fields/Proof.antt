@@ -1,5 +1,7 @@
--- The six stores, one after the other, are the definition's. Assumes nothing.
-use Rattle.record.specs.Fields.{putFields}
+-- The stores, one after the other, are the definition's. Assumes nothing.
+use mathlib.Core.Path.{refl}
+use Rattle.record.specs.Fields.{columns, offsetsIn, putFields}
+use Rattle.record.proofs.Shapes.{in-turn}
 use borrow.Author.Needs.{needs}
 use Rattle.record.proofs.writing.put_fields.Statement.{statement}
 use Rattle.record.proofs.writing.put_fields.Tie as tie
@@ -45,7 +47,27 @@ same-length c = search needs
 
 returns : tie.Need-returns
 unfolding putFields
-returns c = cc
+returns c =
+    let at6 = c .before .before in
+    let at5 = at6 .before .before .before .before in
+    let at4 = at5 .before .before .before .before in
+    let at3 = at4 .before .before .before .before in
+    let at2 = at3 .before .before .before .before in
+    let at1 = at2 .before .before .before .before in
+    let args = at1 .before .before .before .args in
+    in-turn _ (columns (offsetsIn (args .t2))) (columns (args .f)) _ (
+      _,
+      at1 .put-field .ensures,
+      (
+        _,
+        at2 .put-field2 .ensures,
+        (
+          _,
+          at3 .put-field3 .ensures,
+          (_, at4 .put-field4 .ensures, (_, at5 .put-field5 .ensures, (_, at6 .put-field6 .ensures, refl))),
+        ),
+      ),
+    )
 
 pub put-fields-spec : {M : Type 1} → statement M
 put-fields-spec =
