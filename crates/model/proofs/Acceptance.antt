@@ -7,27 +7,28 @@ use native.Mathlib.Omega.{arith}
 use mathlib.Core.Path.{_≡_, refl}
 use mathlib.Core.Bool.{true, false, _&&_, _||_, not}
 use mathlib.Core.Logic.{_⊎_, inl, inr, _≢_}
-use lib.Dec.{eqb, ltb}
+use lib.Dec.{eqb, ltb, leb}
 use borrow.Author.Tests.{eqb-true, eq-eqb, ne-eqb, ltb-true, ltb-false}
 use Rattle.record.specs.declared.events.Event.{Event}
 use Rattle.model.specs.Search.{last}
-use Rattle.model.specs.Trace.{thread, location, source, is, issue?, commit?, load?, crash?, Issue, Commit, Load}
-use Rattle.model.specs.Trace.{stretch, commits, place}
+use Rattle.model.specs.Trace.{thread, location, source, is, issue?, commit?, load?, crash?, begin?, mfence?}
+use Rattle.model.specs.Trace.{skipOn?, skipOff?, Issue, Commit, Load, hasThread?, hasLocation?}
+use Rattle.model.specs.Trace.{threads, locations, stretch, commits, place}
 use Rattle.model.specs.Machine.{beside, committedBy, queued, oldest, committed, waits, waiting, commitsHere}
-use Rattle.model.specs.Machine.{current, past, sourceFits, crossing, counted}
-use Rattle.model.specs.Rules.{Rules, pass, _gives_else_, answer, rules, Accepted}
+use Rattle.model.specs.Machine.{current, past, sourceFits, crossing, skipping, counted}
+use Rattle.model.specs.Rules.{Rules, pass, _gives_else_, answer, beginFits, rules, Accepted}
 use Rattle.model.proofs.Searching.{same?, parts, or-cases, or-fails, not-without, last-is}
 use Rattle.model.proofs.Roles.{begin-no-issue}
 
 -- ---- the list of refusals, read backwards
 
 -- every test that gives a number other than 0 failed
-abbrev pub Passes : Rules → Type 0
+abbrev Passes : Rules → Type 0
 Passes pass = Unit
 Passes (b gives zero else r) = Unit
 Passes (b gives suc k else r) = (b ≡ false) × Passes r
 
-pub passes : (r : Rules) → answer r ≡ 0 → Passes r
+passes : (r : Rules) → answer r ≡ 0 → Passes r
 unfolding answer
 passes pass none = tt
 passes (b gives zero else r) none = tt
@@ -42,21 +43,39 @@ module _ (ev : ℕ → Event) where
   prefix N n accepted some within =
       record { some-record = some; passes = λ e inside. accepted .passes e (omega arith) }
 
-  -- the tests that it failed and that are used below, by the numbers of the refusals
-  record Passed (n : ℕ) : Type 0 where
-    no-1 : (eqb n 0 && not (is ev 1 n)) ≡ false
-    no-13 : (ltb 2048 n || crash? ev n && eqb (stretch ev n) 8) ≡ false
-    no-9 : (load? ev n && not (sourceFits ev n)) ≡ false
-    no-10 : (commit? ev n && not (queued ev n)) ≡ false
+  -- the tests that it failed, by the numbers of the refusals, in the order of `rules`
+  pub record Passed (n : ℕ) : Type 0 where
+    pub no-1 : (eqb n 0 && not (begin? ev n)) ≡ false
+    pub no-5 : (ltb 0 n && begin? ev n) ≡ false
+    pub no-13 : (ltb 2048 n || crash? ev n && eqb (stretch ev n) 8) ≡ false
+    pub no-6 : (begin? ev n && not (beginFits ev n)) ≡ false
+    pub no-7 : (hasThread? ev n && leb (threads ev) (thread ev n)) ≡ false
+    pub no-8 : (hasLocation? ev n && leb (locations ev) (location ev n)) ≡ false
+    pub no-9 : (load? ev n && not (sourceFits ev n)) ≡ false
+    pub no-10 : (commit? ev n && not (queued ev n)) ≡ false
+    pub no-11 : (mfence? ev n && queued ev n) ≡ false
+    pub no-12 :
+        (skipOn? ev n && skipping ev n (thread ev n) || skipOff? ev n && not (skipping ev n (thread ev n))) ≡ false
 
   module _ (N : ℕ) (accepted : Accepted ev N) where
-    passed : (n : ℕ) → n < N → Passed n
+    pub passed : (n : ℕ) → n < N → Passed n
     unfolding rules
     passed n inside = by-number (passes (rules ev n) (accepted .passes n inside))
       where
         by-number : Passes (rules ev n) → Passed n
-        by-number (no-1, (no-5, (no-13, (no-6, (no-7, (no-8, (no-9, (no-10, rest)))))))) =
-            record { no-1 = no-1; no-13 = no-13; no-9 = no-9; no-10 = no-10 }
+        by-number (no-1, (no-5, (no-13, (no-6, (no-7, (no-8, (no-9, (no-10, (no-11, (no-12, end)))))))))) =
+            record {
+              no-1 = no-1;
+              no-5 = no-5;
+              no-13 = no-13;
+              no-6 = no-6;
+              no-7 = no-7;
+              no-8 = no-8;
+              no-9 = no-9;
+              no-10 = no-10;
+              no-11 = no-11;
+              no-12 = no-12;
+            }
 
     -- event 0 is a begin, so it is no store
     pub begins : is ev 1 0 ≡ true

@@ -1,9 +1,9 @@
 -- The limits that hold in an accepted trace: at most eight threads, 256 locations and seven crashes, and every thread
--- and location below what the begin said. The list of refusals read backwards, as in proofs/Acceptance.antt.
+-- and location below what the begin said. These are refusals that its events have passed (proofs/Acceptance.antt).
 use Prim.Native.Nat.{ℕ, zero, suc, _≤_, _<_}
 use native.Mathlib.Omega.{arith}
 use mathlib.Core.Path.{_≡_, refl}
-use mathlib.Core.Bool.{Bool, true, false, _&&_, _||_, not}
+use mathlib.Core.Bool.{Bool, true, false, _&&_}
 use mathlib.Core.Logic.{_⊎_, inl, inr, _≢_}
 use lib.Dec.{eqb, ltb, leb}
 use borrow.Author.Tests.{eqb-true, eqb-false, leb-true, leb-false}
@@ -11,10 +11,10 @@ use Rattle.record.specs.declared.events.Event.{Event}
 use Rattle.record.specs.Fields.{fieldsOf}
 use Rattle.model.specs.Trace.{thread, location, is, crash?, hasThread?, hasLocation?, threads, locations}
 use Rattle.model.specs.Trace.{stretch}
-use Rattle.model.specs.Rules.{rules, within, beginFits, refusal, Accepted}
+use Rattle.model.specs.Rules.{within, beginFits, refusal, Accepted}
 use Rattle.model.proofs.Searching.{false-true, test, parts, or-fails, not-without}
 use Rattle.model.proofs.Counting.{stretch-crash, stretch-else}
-use Rattle.model.proofs.Acceptance.{Passes, passes, begins}
+use Rattle.model.proofs.Acceptance.{passed, begins}
 
 -- `a && b` fails and a passes: b fails
 fails-after : (a b : Bool) → (a && b) ≡ false → a ≡ true → b ≡ false
@@ -40,26 +40,12 @@ module _ (ev : ℕ → Event) where
               accepted .passes e (omega arith)
 
   module _ (N : ℕ) (accepted : Accepted ev N) where
-    -- the tests that an event failed and that are used below, by the numbers of the refusals
-    record Limited (n : ℕ) : Type 0 where
-      no-13 : (ltb 2048 n || crash? ev n && eqb (stretch ev n) 8) ≡ false
-      no-6 : (is ev 1 n && not (beginFits ev n)) ≡ false
-      no-7 : (hasThread? ev n && leb (threads ev) (thread ev n)) ≡ false
-      no-8 : (hasLocation? ev n && leb (locations ev) (location ev n)) ≡ false
-
-    limited : (n : ℕ) → n < N → Limited n
-    unfolding rules
-    limited n inside = by-number (passes (rules ev n) (accepted .passes n inside))
-      where
-        by-number : Passes (rules ev n) → Limited n
-        by-number (no-1, (no-5, (no-13, (no-6, (no-7, (no-8, rest)))))) =
-            record { no-13 = no-13; no-6 = no-6; no-7 = no-7; no-8 = no-8 }
-
     -- ---- the begin's fields
 
     begin-fits : beginFits ev 0 ≡ true
     begin-fits =
-        not-without (is ev 1 0) (beginFits ev 0) (limited 0 (accepted .some-record) .no-6) (begins ev N accepted)
+        let past = passed ev N accepted 0 (accepted .some-record) in
+        not-without (is ev 1 0) (beginFits ev 0) (past .no-6) (begins ev N accepted)
 
     threads-fit : within 1 8 (threads ev) ≡ true
     threads-fit =
@@ -81,17 +67,19 @@ module _ (ev : ℕ → Event) where
 
     pub thread-below : (n : ℕ) → n < N → hasThread? ev n ≡ true → thread ev n < threads ev
     thread-below n inside has =
-        leb-false (threads ev) (thread ev n) (fails-after (hasThread? ev n) _ (limited n inside .no-7) has)
+        let past = passed ev N accepted n inside in
+        leb-false (threads ev) (thread ev n) (fails-after (hasThread? ev n) _ (past .no-7) has)
 
     pub location-below : (n : ℕ) → n < N → hasLocation? ev n ≡ true → location ev n < locations ev
     location-below n inside has =
-        leb-false (locations ev) (location ev n) (fails-after (hasLocation? ev n) _ (limited n inside .no-8) has)
+        let past = passed ev N accepted n inside in
+        leb-false (locations ev) (location ev n) (fails-after (hasLocation? ev n) _ (past .no-8) has)
 
     -- ---- stretches
 
     crash-bound : (n : ℕ) → n < N → crash? ev n ≡ true → stretch ev n ≢ 8
     crash-bound n inside crash =
-        let eighth = or-fails (ltb 2048 n) _ (limited n inside .no-13) .1 in
+        let eighth = or-fails (ltb 2048 n) _ (passed ev N accepted n inside .no-13) .1 in
         eqb-false (stretch ev n) 8 (fails-after (crash? ev n) _ eighth crash)
 
     pub few-crashes : (n : ℕ) → n ≤ N → stretch ev n ≤ 8
