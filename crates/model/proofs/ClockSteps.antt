@@ -1,9 +1,10 @@
 -- How vector clocks change from event to event, and that they count no more than was issued: by these laws, proofs and
 -- code use specs/Clocks.antt and never unfold it. The steps are its clauses with the tests decided; the bounds follow.
--- In order: what `joins` says; the steps of `seen`; the clock of a store, of its own thread and of another; the bounds.
+-- In order: what `joins` says; the steps of `seen`; the clock of an event, of its own thread and of another; the
+-- bounds. These laws ask of an event that it stands in its stretch, and so is no crash; only `vc-own` is of stores.
 use Prim.Native.Nat.{ℕ, zero, suc, _≤_, _<_, max}
 use native.Mathlib.Omega.{arith}
-use mathlib.Core.Path.{_≡_, refl}
+use mathlib.Core.Path.{_≡_, refl, sym, _∙_}
 use mathlib.Core.Bool.{true, false}
 use mathlib.Core.Logic.{_⊎_, inl, inr, _≢_}
 use borrow.Author.Tests.{eqb-true, eq-eqb, ne-eqb, ltb-true, lt-ltb}
@@ -11,7 +12,7 @@ use Rattle.record.specs.declared.events.Event.{Event}
 use Rattle.model.specs.Trace.{thread, source, issue?, crash?, Issue, Load, stretch, issues, place}
 use Rattle.model.specs.Clocks.{joins, seen, clock, vc}
 use Rattle.model.proofs.Searching.{test, both, parts, same?, eqb-same}
-use Rattle.model.proofs.Counting.{stretch-else, count-mono, count-lt}
+use Rattle.model.proofs.Counting.{stretch-else, count-it, count-own, count-mono}
 use Rattle.model.proofs.Induction.{from-all-smaller}
 use Rattle.model.proofs.Roles.{issue-no-crash, load-no-crash}
 
@@ -82,29 +83,34 @@ module _ (ev : ℕ → Event) where
   unfolding seen
   seen-keep n t u no-crash no-join = rw (no-crash, no-join)
 
-  -- of its own thread, a store's clock counts it and the stores before it
-  pub vc-own : (q u : ℕ) → Issue ev q → u ≡ thread ev q → vc ev q u ≡ suc (place ev q)
+  -- of its own thread, an event's clock counts what is issued, the event included
+  pub vc-here : (q u : ℕ) → u ≡ thread ev q → vc ev q u ≡ issues ev (suc q) (stretch ev q) (thread ev q)
   unfolding vc clock
-  vc-own q u store own-thread = rw (eqb-same q, eq-eqb u (thread ev q) own-thread, store .test) (omega arith)
+  vc-here q u own-thread = rw (eqb-same q, eq-eqb u (thread ev q) own-thread) (sym (count-own ev (issue? ev) q))
+
+  -- so a store's clock counts it and the stores before it
+  pub vc-own : (q u : ℕ) → Issue ev q → u ≡ thread ev q → vc ev q u ≡ suc (place ev q)
+  vc-own q u store own-thread =
+      vc-here q u own-thread ∙ count-it ev (issue? ev) q (stretch ev q) (thread ev q) (store .test) refl refl
 
   -- of another thread, what its thread has seen, event q included
-  pub vc-other : (q u : ℕ) → Issue ev q → u ≢ thread ev q → vc ev q u ≡ seen ev (suc q) (thread ev q) u
+  pub vc-other : (q u : ℕ) → crash? ev q ≡ false → u ≢ thread ev q → vc ev q u ≡ seen ev (suc q) (thread ev q) u
   unfolding vc clock
-  vc-other q u store other = rw (eqb-same q, ne-eqb u (thread ev q) other, issue-no-crash ev store)
+  vc-other q u no-crash other = rw (eqb-same q, ne-eqb u (thread ev q) other, no-crash)
 
   -- ---- the bounds
 
   abbrev SeenBound : ℕ → Type 0
   SeenBound n = (t u : ℕ) → seen ev n t u ≤ issues ev n (stretch ev n) u
 
-  vc-bound-by-seen : (q u : ℕ) → Issue ev q → SeenBound (suc q) → vc ev q u ≤ issues ev (suc q) (stretch ev q) u
-  vc-bound-by-seen q u store bound = by-thread (same? u (thread ev q))
+  vc-bound-by-seen :
+      (q u : ℕ) → crash? ev q ≡ false → SeenBound (suc q) → vc ev q u ≤ issues ev (suc q) (stretch ev q) u
+  vc-bound-by-seen q u no-crash bound = by-thread (same? u (thread ev q))
     where
       by-thread : (u ≡ thread ev q) ⊎ (u ≢ thread ev q) → vc ev q u ≤ issues ev (suc q) (stretch ev q) u
-      by-thread (inl own-thread) =
-          rw (vc-own q u store own-thread, own-thread) (count-lt ev (issue? ev) q (suc q) (store .test) (omega arith))
+      by-thread (inl own-thread) = rw (vc-here q u own-thread, own-thread) (omega arith)
       by-thread (inr other) =
-          rw (vc-other q u store other, ← stretch-else ev q (issue-no-crash ev store)) (bound (thread ev q) u)
+          rw (vc-other q u no-crash other, ← stretch-else ev q no-crash) (bound (thread ev q) u)
 
   seen-bound-next : (n : ℕ) → ((m : ℕ) → m ≤ n → SeenBound m) → SeenBound (suc n)
   seen-bound-next n earlier t u = by-event (test (crash? ev n)) (test (joins ev n t))
@@ -116,7 +122,8 @@ module _ (ev : ℕ → Event) where
       brought : Joined n t → vc ev (source ev n) u ≤ issues ev (suc n) (stretch ev n) u
       brought joined =
           let s = source ev n in
-          let of-source = vc-bound-by-seen s u (joined .store) (earlier (suc s) (joined .early)) in
+          let no-crash = issue-no-crash ev (joined .store) in
+          let of-source = vc-bound-by-seen s u no-crash (earlier (suc s) (joined .early)) in
           let issued = count-mono ev (issue? ev) (suc s) (suc n) (stretch ev s) u (omega (arith, joined .early)) in
           rw (← joined .in-stretch) (omega arith)
 
@@ -133,6 +140,6 @@ module _ (ev : ℕ → Event) where
   pub seen-bound : (n t u : ℕ) → seen ev n t u ≤ issues ev n (stretch ev n) u
   seen-bound = from-all-smaller SeenBound (λ t u. omega (arith, seen-zero t u)) seen-bound-next
 
-  -- and so is what a store's clock counts of u, the store included
-  pub vc-bound : (q u : ℕ) → Issue ev q → vc ev q u ≤ issues ev (suc q) (stretch ev q) u
-  vc-bound q u store = vc-bound-by-seen q u store (seen-bound (suc q))
+  -- and so is what an event's clock counts of u, the event included
+  pub vc-bound : (q u : ℕ) → crash? ev q ≡ false → vc ev q u ≤ issues ev (suc q) (stretch ev q) u
+  vc-bound q u no-crash = vc-bound-by-seen q u no-crash (seen-bound (suc q))

@@ -11,11 +11,11 @@ use Rattle.model.specs.Trace.{thread, source, issue?, crash?, Issue, str
 use Rattle.model.specs.HappensBefore.{Precedes, Before, own, read, chain}
 use Rattle.model.specs.Clocks.{joins, seen, vc}
 use Rattle.model.proofs.Searching.{test, same?, less?}
-use Rattle.model.proofs.Counting.{stretch-crash, stretch-else, stretch-mono, count-it, count-lt, at-place}
+use Rattle.model.proofs.Counting.{stretch-crash, stretch-else, stretch-mono, count-mono, at-place}
 use Rattle.model.proofs.Induction.{from-all-smaller}
 use Rattle.model.proofs.Roles.{issue-no-crash, load-no-crash}
 use Rattle.model.proofs.ClockSteps.{Joined, joins→, →joins, seen-zero, seen-crash, seen-join, seen-keep}
-use Rattle.model.proofs.ClockSteps.{vc-own, vc-other, seen-bound, vc-bound}
+use Rattle.model.proofs.ClockSteps.{vc-here, vc-own, vc-other, seen-bound, vc-bound}
 
 module _ (ev : ℕ → Event) where
   -- ---- the stores that a clock counts
@@ -31,7 +31,8 @@ module _ (ev : ℕ → Event) where
 
   pub clock-place : (q u i : ℕ) → Issue ev q → i < vc ev q u → ClockPlace q u i
   clock-place q u i store counted =
-      let found = at-place ev (issue? ev) (suc q) (stretch ev q) u i (omega (arith, vc-bound ev q u store)) in
+      let bound = vc-bound ev q u (issue-no-crash ev store) in
+      let found = at-place ev (issue? ev) (suc q) (stretch ev q) u i (omega arith) in
       record {
         p = found .p;
         early = found .early;
@@ -43,44 +44,40 @@ module _ (ev : ℕ → Event) where
 
   -- ---- they happen before
 
-  place-grows :
-      (p q : ℕ) → Issue ev p → p < q → stretch ev p ≡ stretch ev q → thread ev p ≡ thread ev q
-      → place ev p < place ev q
-  place-grows p q store earlier in-stretch by-thread =
-      rw (← in-stretch, ← by-thread) (count-lt ev (issue? ev) p q (store .test) earlier)
-
   -- what e's thread has seen before event n precedes e, where e is event n - 1 or a later one of the stretch
   abbrev SeenPrecedes : ℕ → Type 0
   SeenPrecedes n =
       (p e : ℕ) → Issue ev p → stretch ev p ≡ stretch ev n → stretch ev e ≡ stretch ev n → n ≤ suc e
       → place ev p < seen ev n (thread ev e) (thread ev p) → Precedes ev p e
 
-  counted-is-before :
-      (q p : ℕ) → SeenPrecedes (suc q) → Issue ev q → Issue ev p → stretch ev p ≡ stretch ev q
-      → place ev p < vc ev q (thread ev p) → (p ≡ q) ⊎ Before ev p q
-  counted-is-before q p seen-precedes q-store p-store in-stretch counted =
+  -- what the clock of event q counts is q or precedes it
+  counted-precedes :
+      (q p : ℕ) → SeenPrecedes (suc q) → crash? ev q ≡ false → Issue ev p → stretch ev p ≡ stretch ev q
+      → place ev p < vc ev q (thread ev p) → (p ≡ q) ⊎ Precedes ev p q
+  counted-precedes q p seen-precedes no-crash store in-stretch counted =
       by-place (same? p q) (less? p q) (same? (thread ev p) (thread ev q))
     where
       -- of another thread: q's thread has seen it
       seen-before : thread ev p ≢ thread ev q → Precedes ev p q
-      seen-before other = seen-precedes p q p-store (in-stretch ∙ same) same (omega arith) was-seen
+      seen-before other = seen-precedes p q store (in-stretch ∙ same) same (omega arith) was-seen
         where
           same : stretch ev q ≡ stretch ev (suc q)
-          same = sym (stretch-else ev q (issue-no-crash ev q-store))
+          same = sym (stretch-else ev q no-crash)
 
           was-seen : place ev p < seen ev (suc q) (thread ev q) (thread ev p)
-          was-seen = rw (← vc-other ev q (thread ev p) q-store other) counted
+          was-seen = rw (← vc-other ev q (thread ev p) no-crash other) counted
 
       by-place :
           (p ≡ q) ⊎ (p ≢ q) → (p < q) ⊎ (q ≤ p) → (thread ev p ≡ thread ev q) ⊎ (thread ev p ≢ thread ev q)
-          → (p ≡ q) ⊎ Before ev p q
+          → (p ≡ q) ⊎ Precedes ev p q
       by-place (inl is) order by-thread = inl is
-      by-place (inr differs) order (inr other) = inr (record { store = q-store; precedes = seen-before other })
-      by-place (inr differs) (inl earlier) (inl own-thread) =
-          inr (record { store = q-store; precedes = own p-store in-stretch own-thread earlier })
+      by-place (inr differs) order (inr other) = inr (seen-before other)
+      by-place (inr differs) (inl earlier) (inl own-thread) = inr (own store in-stretch own-thread earlier)
       by-place (inr differs) (inr later) (inl own-thread) =
-          let higher = place-grows q p q-store (omega arith) (sym in-stretch) (sym own-thread) in
-          absurd (omega (arith, vc-own ev q (thread ev p) q-store own-thread))
+          absurd (omega (arith, vc-here ev q (thread ev p) own-thread, not-fewer))
+        where
+          not-fewer : issues ev (suc q) (stretch ev q) (thread ev q) ≤ place ev p
+          not-fewer = rw (in-stretch, own-thread) (count-mono ev (issue? ev) (suc q) p _ _ (omega arith))
 
   seen-precedes-next : (n : ℕ) → ((m : ℕ) → m ≤ n → SeenPrecedes m) → SeenPrecedes (suc n)
   seen-precedes-next n earlier p e store p-in-stretch e-in-stretch late was-seen =
@@ -98,7 +95,8 @@ module _ (ev : ℕ → Event) where
       -- event n is a load that brings p in
       brought : Joined ev n t → place ev p < vc ev (source ev n) (thread ev p) → Precedes ev p e
       brought joined counted =
-          from-source (counted-is-before (source ev n) p of-source (joined .store) store in-stretch counted)
+          from-source
+          (counted-precedes (source ev n) p of-source (issue-no-crash ev (joined .store)) store in-stretch counted)
         where
           of-source : SeenPrecedes (suc (source ev n))
           of-source = earlier (suc (source ev n)) (joined .early)
@@ -117,9 +115,9 @@ module _ (ev : ℕ → Event) where
               read n (joined .store) (joined .in-stretch ∙ load-in-stretch) (joined .loads) refl (joined .by-t)
               load-in-stretch (joined .early) (omega arith)
 
-          from-source : (p ≡ source ev n) ⊎ Before ev p (source ev n) → Precedes ev p e
+          from-source : (p ≡ source ev n) ⊎ Precedes ev p (source ev n) → Precedes ev p e
           from-source (inl is) = rw is source-precedes
-          from-source (inr before) = chain (joined .store) (before .precedes) source-precedes
+          from-source (inr before) = chain (joined .store) before source-precedes
 
       before-or-brought :
           crash? ev n ≡ false → joins ev n t ≡ true
@@ -172,46 +170,41 @@ module _ (ev : ℕ → Event) where
 
   -- what q's thread has seen after event e is in the clock of q
   seen-in-clock :
-      (e q u : ℕ) → crash? ev e ≡ false → Issue ev q → e ≤ q → stretch ev e ≡ stretch ev q
+      (e q u : ℕ) → crash? ev e ≡ false → crash? ev q ≡ false → e ≤ q → stretch ev e ≡ stretch ev q
       → seen ev (suc e) (thread ev q) u ≤ vc ev q u
-  seen-in-clock e q u no-crash store early in-stretch = omega (arith, still-seen, by-thread (same? u (thread ev q)))
+  seen-in-clock e q u no-crash here early in-stretch = omega (arith, still-seen, by-thread (same? u (thread ev q)))
     where
       same : stretch ev (suc q) ≡ stretch ev q
-      same = stretch-else ev q (issue-no-crash ev store)
+      same = stretch-else ev q here
 
       still-seen : seen ev (suc e) (thread ev q) u ≤ seen ev (suc q) (thread ev q) u
       still-seen =
           seen-grows (suc e) (suc q) (thread ev q) u (omega arith) (stretch-else ev e no-crash ∙ in-stretch ∙ sym same)
 
       by-thread : (u ≡ thread ev q) ⊎ (u ≢ thread ev q) → seen ev (suc q) (thread ev q) u ≤ vc ev q u
-      by-thread (inr other) = omega (arith, vc-other ev q u store other)
-      by-thread (inl own-thread) = rw own-thread (omega (arith, vc-own ev q (thread ev q) store refl, issued, bound))
-        where
-          issued : issues ev (suc q) (stretch ev q) (thread ev q) ≡ suc (place ev q)
-          issued = count-it ev (issue? ev) q (stretch ev q) (thread ev q) (store .test) refl refl
+      by-thread (inr other) = omega (arith, vc-other ev q u here other)
+      by-thread (inl own-thread) =
+          rw (vc-here ev q u own-thread, own-thread) (rw same at (seen-bound ev (suc q) (thread ev q) (thread ev q)))
 
-          bound : seen ev (suc q) (thread ev q) (thread ev q) ≤ issues ev (suc q) (stretch ev q) (thread ev q)
-          bound = rw same at (seen-bound ev (suc q) (thread ev q) (thread ev q))
-
-  clocks-grow : {p n : ℕ} → Issue ev n → Precedes ev p n → (u : ℕ) → vc ev p u ≤ vc ev n u
-  clocks-grow n-store (own {p} {n} p-store in-stretch by-thread earlier) u = by-u (same? u (thread ev p))
+  clocks-grow : {p n : ℕ} → crash? ev n ≡ false → Precedes ev p n → (u : ℕ) → vc ev p u ≤ vc ev n u
+  clocks-grow here (own {p} {n} store in-stretch by-thread earlier) u = by-u (same? u (thread ev p))
     where
       seen-by-p : seen ev (suc p) (thread ev p) u ≤ vc ev n u
-      seen-by-p = rw by-thread (seen-in-clock p n u (issue-no-crash ev p-store) n-store (omega arith) in-stretch)
+      seen-by-p = rw by-thread (seen-in-clock p n u (issue-no-crash ev store) here (omega arith) in-stretch)
 
       by-u : (u ≡ thread ev p) ⊎ (u ≢ thread ev p) → vc ev p u ≤ vc ev n u
       by-u (inl own-thread) =
-          let lower = place-grows p n p-store earlier in-stretch by-thread in
-          omega (arith, vc-own ev p u p-store own-thread, vc-own ev n u n-store (own-thread ∙ by-thread))
-      by-u (inr other) = rw (vc-other ev p u p-store other) seen-by-p
-  clocks-grow n-store (read {p} {n} l p-store in-stretch loads from by-thread load-in-stretch after early) u =
-      omega (arith, brought, seen-in-clock l n u (load-no-crash ev loads) n-store early load-in-stretch)
+          rw (vc-here ev p u own-thread, vc-here ev n u (own-thread ∙ by-thread), in-stretch, by-thread)
+          (count-mono ev (issue? ev) (suc p) (suc n) (stretch ev n) (thread ev n) (omega arith))
+      by-u (inr other) = rw (vc-other ev p u (issue-no-crash ev store) other) seen-by-p
+  clocks-grow here (read {p} {n} l store in-stretch loads from by-thread load-in-stretch after early) u =
+      omega (arith, brought, seen-in-clock l n u (load-no-crash ev loads) here early load-in-stretch)
     where
       joined : Joined ev l (thread ev n)
       joined =
           record {
             loads = loads;
-            store = rw from p-store;
+            store = rw from store;
             by-t = by-thread;
             early = rw from after;
             in-stretch = rw from (in-stretch ∙ sym load-in-stretch);
@@ -219,9 +212,9 @@ module _ (ev : ℕ → Event) where
 
       brought : seen ev (suc l) (thread ev n) u ≡ max (seen ev l (thread ev n) u) (vc ev p u)
       brought = rw from at (seen-join ev l (thread ev n) u (→joins ev l (thread ev n) joined))
-  clocks-grow n-store (chain {p} {q} {n} q-store first second) u =
-      let to-q : vc ev p u ≤ vc ev q u = clocks-grow q-store first u in
-      let to-n : vc ev q u ≤ vc ev n u = clocks-grow n-store second u in
+  clocks-grow here (chain {p} {q} {n} q-store first second) u =
+      let to-q : vc ev p u ≤ vc ev q u = clocks-grow (issue-no-crash ev q-store) first u in
+      let to-n : vc ev q u ≤ vc ev n u = clocks-grow here second u in
       omega arith
 
   -- ---- the theorem
@@ -231,11 +224,22 @@ module _ (ev : ℕ → Event) where
       (q p : ℕ) → Issue ev q → Issue ev p → stretch ev p ≡ stretch ev q
       → (place ev p < vc ev q (thread ev p)) ↔ ((p ≡ q) ⊎ Before ev p q)
   clock-is-happens-before q p q-store p-store in-stretch =
-      (counted-is-before q p (seen-precedes (suc q)) q-store p-store in-stretch, before-is-counted)
+      (counted-is-before, before-is-counted)
     where
+      q-here : crash? ev q ≡ false
+      q-here = issue-no-crash ev q-store
+
+      counted-is-before : place ev p < vc ev q (thread ev p) → (p ≡ q) ⊎ Before ev p q
+      counted-is-before counted =
+          by-order (counted-precedes q p (seen-precedes (suc q)) q-here p-store in-stretch counted)
+        where
+          by-order : (p ≡ q) ⊎ Precedes ev p q → (p ≡ q) ⊎ Before ev p q
+          by-order (inl is) = inl is
+          by-order (inr precedes) = inr (record { store = q-store; precedes = precedes })
+
       itself : place ev p < vc ev p (thread ev p)
       itself = omega (arith, vc-own ev p (thread ev p) p-store refl)
 
       before-is-counted : (p ≡ q) ⊎ Before ev p q → place ev p < vc ev q (thread ev p)
       before-is-counted (inl is) = rw (← is) itself
-      before-is-counted (inr before) = omega (arith, itself, clocks-grow q-store (before .precedes) (thread ev p))
+      before-is-counted (inr before) = omega (arith, itself, clocks-grow q-here (before .precedes) (thread ev p))

@@ -1,8 +1,9 @@
--- In an accepted trace, whatever happens before a committed store is committed, and earlier in commit order: a thread's
--- commits go in the order of places, and a load from another thread's store of its stretch reads one whose commit comes
--- before the load, so before whatever the load's thread issues later, and so before the commit of that.
--- In order: the commit of a store, and that a thread's commits go in the order of places; in an accepted trace, commits
--- never pass issues, so that a store's commit comes after it; the theorem `before-committed`.
+-- In an accepted trace, whatever happens before a committed store is committed, and earlier in commit order: at the
+-- store's commit all that its thread issued before it is committed, and so is what its thread loaded from, since a load
+-- from another thread's store of its stretch reads one whose commit comes before the load.
+-- In order: the commit of a store; in an accepted trace, commits never pass issues, so that a store's commit comes
+-- after it; what happens before an event whose thread's earlier stores are committed (`settled`), by one recursion
+-- over happens-before; the theorem `before-committed`.
 use Prim.Native.Nat.{ℕ, zero, suc, _≤_, _<_}
 use native.Mathlib.Omega.{arith}
 use mathlib.Core.Path.{_≡_, sym, _∙_}
@@ -16,10 +17,11 @@ use Rattle.model.specs.Trace.{stretch, count, issues, commits, place}
 use Rattle.model.specs.Machine.{committedBy, commitsIt, commitOf}
 use Rattle.model.specs.HappensBefore.{Precedes, own, read, chain, Before}
 use Rattle.model.specs.Rules.{Accepted}
-use Rattle.model.proofs.Searching.{test, less?, both, parts, last-is, last-of}
+use Rattle.model.proofs.Searching.{test, less?, both, parts, last-of}
 use Rattle.model.proofs.Counting.{count-mono, count-lt, AtPlace, at-place, place-unique}
 use Rattle.model.proofs.Acceptance.{store-not-0, commit-queued, source-from}
-use Rattle.model.proofs.Acceptance.{From, FromCommit, from-own, from-commit, from-past}
+use Rattle.model.proofs.Acceptance.{From, from-own, from-commit, from-past}
+use Rattle.model.proofs.Ordering.{precedes-lt}
 
 module _ (ev : ℕ → Event) where
   module _ (N : ℕ) where
@@ -50,11 +52,6 @@ module _ (ev : ℕ → Event) where
           by-thread = eqb-true _ _ (middle .1);
           at-place = eqb-true _ _ (outer .1);
         }
-
-    -- what the search for p's commit finds
-    pub commit-found : (p : ℕ) → commitOf ev N p ≢ 0 → CommitOf p (commitOf ev N p)
-    unfolding commitOf
-    commit-found p some = let found = last-is N (commitsIt ev p) some in commit-of→ p _ (found .0) (found .1)
 
     →commit-of : (p e : ℕ) → CommitOf p e → commitsIt ev p e ≡ true
     →commit-of p e it = both _ _ (both _ _ in-stretch (eq-eqb _ _ (it .by-thread))) (eq-eqb _ _ (it .at-place))
@@ -97,30 +94,6 @@ module _ (ev : ℕ → Event) where
         rw (← it .in-stretch, ← it .by-thread) (count-lt ev (commit? ev) e N (it .commits-it .test) (it .inside))
         in
         omega (arith, it .at-place)
-
-    -- a thread's commits go in the order of places
-    commits-in-order :
-        (p q : ℕ) → Committed p → Committed q → stretch ev p ≡ stretch ev q → thread ev p ≡ thread ev q
-        → place ev p < place ev q → commitOf ev N p < commitOf ev N q
-    commits-in-order p q p-committed q-committed in-stretch by-thread less =
-        by-order (less? (commitOf ev N p) (commitOf ev N q))
-      where
-        at-p : CommitOf p (commitOf ev N p)
-        at-p = commit-of p p-committed
-
-        at-q : CommitOf q (commitOf ev N q)
-        at-q = commit-of q q-committed
-
-        by-order :
-            (commitOf ev N p < commitOf ev N q) ⊎ (commitOf ev N q ≤ commitOf ev N p)
-            → commitOf ev N p < commitOf ev N q
-        by-order (inl in-order) = in-order
-        by-order (inr other-way) = absurd (omega (arith, at-p .at-place, at-q .at-place, no-fewer))
-          where
-            no-fewer : committedBy ev (commitOf ev N q) ≤ committedBy ev (commitOf ev N p)
-            no-fewer =
-                rw (at-q .in-stretch, at-q .by-thread, at-p .in-stretch, at-p .by-thread, in-stretch, by-thread)
-                (count-mono ev (commit? ev) (commitOf ev N q) (commitOf ev N p) _ _ other-way)
 
     -- p is committed, and before q
     pub record CommittedBefore (p q : ℕ) : Type 0 where
@@ -179,76 +152,88 @@ module _ (ev : ℕ → Event) where
             all-before : issues ev e (stretch ev e) (thread ev e) ≤ place ev p
             all-before = rw (← it .in-stretch, ← it .by-thread) (count-mono ev (issue? ev) e p _ _ not-after)
 
-    committed-inside : (p : ℕ) → Committed N p → p < N
-    committed-inside p committed = omega (arith, commit-after-store p committed, commit-of N p committed .inside)
-
     -- ---- what happens before a committed store
 
+    -- before event m, all that n's thread issued before n in n's stretch is committed
+    abbrev Settled : ℕ → ℕ → Type 0
+    Settled m n = issues ev n (stretch ev n) (thread ev n) ≤ commits ev m (stretch ev n) (thread ev n)
+
     -- a store of n's own thread and stretch, issued earlier
-    from-own-thread :
-        (p n : ℕ) → Issue ev p → stretch ev p ≡ stretch ev n → thread ev p ≡ thread ev n → p < n
-        → Committed N n → CommittedBefore N p n
-    from-own-thread p n store in-stretch by-thread earlier n-committed = record {
-      committed = p-committed;
-      in-order = commits-in-order N p n p-committed n-committed in-stretch by-thread less;
-    }
-      where
-        less : place ev p < place ev n
-        less = rw (← in-stretch, ← by-thread) (count-lt ev (issue? ev) p n (store .test) earlier)
+    own-settled :
+        (p n m : ℕ) → Issue ev p → stretch ev p ≡ stretch ev n → thread ev p ≡ thread ev n → p < n → Settled m n
+        → Committed m p
+    own-settled p n m store in-stretch by-thread earlier settles =
+        let less : place ev p < issues ev n (stretch ev n) (thread ev n) =
+        rw (← in-stretch, ← by-thread) (count-lt ev (issue? ev) p n (store .test) earlier)
+        in
+        rw (in-stretch, by-thread) (omega (arith, rw (in-stretch, by-thread) at less))
 
-        within : place ev n < commits ev N (stretch ev p) (thread ev p)
-        within = rw (in-stretch, by-thread) n-committed
-
-        p-committed : Committed N p
-        p-committed = omega (arith, less, within)
-
-    -- a store that was committed before n, so before n's commit
-    from-commit-before : (p n l : ℕ) → FromCommit ev l p → l ≤ n → Committed N n → CommittedBefore N p n
-    from-commit-before p n l from early n-committed =
-        record { committed = has-commit N p e it; in-order = rw (is-commit-of N p e it) in-order }
-      where
-        e : ℕ
-        e = from .commit
-
-        it : CommitOf N p e
-        it = record {
-          inside = omega (arith, from .before-load, committed-inside n n-committed);
+    -- a store that n's thread loaded from, by the load l of its stretch
+    load-settled :
+        (p n l m : ℕ) → From ev l p → stretch ev p ≡ stretch ev n → thread ev l ≡ thread ev n
+        → stretch ev l ≡ stretch ev n → l ≤ n → n ≤ m → Settled m n → Committed m p
+    load-settled p n l m (from-own from) same-stretch by-thread in-stretch early within settles =
+        let earlier : p < n = omega (arith, from .earlier) in
+        own-settled p n m (from .own .store) same-stretch (from .own .by-thread ∙ by-thread) earlier settles
+    load-settled p n l m (from-commit from) same-stretch by-thread in-stretch early within settles =
+        has-commit m p (from .commit)
+        (record {
+          inside = omega (arith, from .before-load);
           commits-it = from .commits;
           in-stretch = sym (from .of-thread .in-stretch);
           by-thread = sym (from .of-thread .by-thread);
           at-place = sym (from .at-place);
-        }
-
-        in-order : e < commitOf ev N n
-        in-order = omega (arith, from .before-load, commit-after-store n n-committed)
-
-    -- a store that n's thread loaded from, by the load l of its stretch
-    from-load :
-        (p n l : ℕ) → From ev l p → stretch ev p ≡ stretch ev n → thread ev l ≡ thread ev n
-        → stretch ev l ≡ stretch ev n → l ≤ n → Committed N n → CommittedBefore N p n
-    from-load p n l (from-own from) same-stretch by-thread in-stretch early n-committed =
-        let earlier : p < n = omega (arith, from .earlier) in
-        from-own-thread p n (from .own .store) same-stretch (from .own .by-thread ∙ by-thread) earlier n-committed
-    from-load p n l (from-commit from) same-stretch by-thread in-stretch early n-committed =
-        from-commit-before p n l from early n-committed
-    from-load p n l (from-past from) same-stretch by-thread in-stretch early n-committed =
+        })
+    load-settled p n l m (from-past from) same-stretch by-thread in-stretch early within settles =
         absurd (omega (arith, from .earlier))
 
-    precedes-committed : {p n : ℕ} → Precedes ev p n → Committed N n → CommittedBefore N p n
-    precedes-committed (own {p} {n} store in-stretch by-thread earlier) n-committed =
-        from-own-thread p n store in-stretch by-thread earlier n-committed
-    precedes-committed (read {p} {n} l store same-stretch loads from-p by-thread in-stretch after early) n-committed =
-        from-load p n l (rw from-p at from) same-stretch by-thread in-stretch early n-committed
+    -- then all that precedes n is committed before event m
+    settled : {p n : ℕ} → Precedes ev p n → (m : ℕ) → n ≤ m → m < N → Settled m n → Committed m p
+    settled (own {p} {n} store in-stretch by-thread earlier) m within inside settles =
+        own-settled p n m store in-stretch by-thread earlier settles
+    settled (read {p} {n} l store same-stretch loads from-p by-thread in-stretch after early) m within inside settles =
+        load-settled p n l m (rw from-p at from) same-stretch by-thread in-stretch early within settles
       where
-        inside : l < N
-        inside = omega (arith, committed-inside n n-committed)
-
         from : From ev l (source ev l)
-        from = source-from ev N accepted l inside loads (rw from-p (store-not-0 ev N accepted store))
-    precedes-committed (chain store first second) n-committed =
-        let later = precedes-committed second n-committed in
-        let sooner = precedes-committed first (later .committed) in
-        record { committed = sooner .committed; in-order = omega (arith, sooner .in-order, later .in-order) }
+        from = source-from ev N accepted l (omega arith) loads (rw from-p (store-not-0 ev N accepted store))
+    settled (chain {p} {q} {n} store first second) m within inside settles =
+        let q-committed : Committed m q = settled second m within inside settles in
+        settled first m (omega (arith, precedes-lt ev second)) inside (omega arith)
+
+    -- a store's commit finds all that its thread issued before it committed
+    precedes-committed : {p n : ℕ} → Precedes ev p n → Committed N n → CommittedBefore N p n
+    precedes-committed {p} {n} precedes n-committed = record {
+      committed = has-commit N p (commitOf ev c p) p-commit;
+      in-order = rw (is-commit-of N p (commitOf ev c p) p-commit) (found .inside);
+    }
+      where
+        c : ℕ
+        c = commitOf ev N n
+
+        it : CommitOf N n c
+        it = commit-of N n n-committed
+
+        settles : Settled c n
+        settles =
+            let all : commits ev c (stretch ev n) (thread ev n) ≡ place ev n =
+            rw (it .in-stretch, it .by-thread) at (it .at-place)
+            in
+            omega arith
+
+        later : n ≤ c
+        later = omega (arith, commit-after-store n n-committed)
+
+        found : CommitOf c p (commitOf ev c p)
+        found = commit-of c p (settled precedes c later (it .inside) settles)
+
+        p-commit : CommitOf N p (commitOf ev c p)
+        p-commit = record {
+          inside = omega (arith, found .inside, it .inside);
+          commits-it = found .commits-it;
+          in-stretch = found .in-stretch;
+          by-thread = found .by-thread;
+          at-place = found .at-place;
+        }
 
     -- THE THEOREM: whatever happens before a committed store is committed, and earlier in commit order
     pub before-committed : (p q : ℕ) → Before ev p q → Committed N q → CommittedBefore N p q

@@ -58,6 +58,19 @@ module _ (ev : ℕ → Event) where
   unfolding count
   count-skip f n j t h = rw h (omega arith)
 
+  -- of its own thread and stretch
+  pub count-own :
+      (f : ℕ → Bool) (n : ℕ)
+      → count ev f (suc n) (stretch ev n) (thread ev n) ≡ count ev f n (stretch ev n) (thread ev n) + bit (f n)
+  count-own f n = by-test (test (f n))
+    where
+      by-test :
+          (f n ≡ true) ⊎ (f n ≡ false)
+          → count ev f (suc n) (stretch ev n) (thread ev n) ≡ count ev f n (stretch ev n) (thread ev n) + bit (f n)
+      by-test (inl passes) =
+          rw passes (omega (arith, count-it f n (stretch ev n) (thread ev n) passes refl refl))
+      by-test (inr fails) = rw fails (omega (arith, count-skip f n (stretch ev n) (thread ev n) fails))
+
   pub count-mono : (f : ℕ → Bool) (n m j t : ℕ) → n ≤ m → count ev f n j t ≤ count ev f m j t
   unfolding count
   count-mono f n zero j t h = let none : n ≡ 0 = omega arith in rw none (omega arith)
