@@ -1,51 +1,46 @@
--- The test on what a load changes is the ruling's test for a pair, if there was none before. A pair is a marked store
--- in the closure. If the load makes one, either the walk marks a store that was in the closure, or a store came into
--- the closure: then it is of the source's stretch, and a lowest marked place there is below the cut.
--- In order: a marked store; the test of one stretch; `load-hits-is-bad`.
-use Prim.Native.Nat.{ℕ, suc, _+_, _≤_, _<_, max}
+-- The test on what a load changes finds a pair exactly if there is one with it, unless there was one before. A pair is
+-- a store of F, the marks, in the choice C. If the load makes one, either the walk marks a store that was in the
+-- choice, or a store came into it: then it is of the source's stretch, and a lowest marked place there is below the
+-- cut.
+-- In order: `Hit`; the test of one stretch; a load's test.
+use Prim.Native.Nat.{ℕ, suc, _+_, _≤_, _<_}
 use native.Mathlib.Omega.{arith}
 use mathlib.Core.Path.{_≡_, refl, sym, _∙_, ap, ap₂}
-use mathlib.Core.Bool.{Bool, true, false, cond, _&&_, _||_, not}
+use mathlib.Core.Bool.{Bool, true, _&&_, _||_, not}
 use mathlib.Core.Logic.{_⊎_, inl, inr, _≢_}
 use mathlib.Core.List.{List}
 use lib.Dec.{eqb}
-use borrow.Author.Tests.{eqb-true, eqb-false, ne-eqb, leb-true, le-leb, not-true}
+use borrow.Author.Tests.{eqb-false, ne-eqb, leb-true, le-leb, not-true}
 use Rattle.record.specs.declared.events.Event.{Event}
 use Rattle.model.specs.Search.{some}
-use Rattle.model.specs.Trace.{thread, location, source, stretch, place}
-use Rattle.model.specs.Machine.{counted}
-use Rattle.model.specs.Stores.{passed, landed, marked?}
+use Rattle.model.specs.Trace.{thread, source, stretch, place}
+use Rattle.model.specs.Stores.{headOf}
 use Rattle.model.specs.Rules.{Accepted}
-use Rattle.model.specs.Choice.{In}
-use Rattle.model.specs.Clocks.{vc}
-use Rattle.model.specs.Verdict.{observed?, bad?, closure}
-use Rattle.model.proofs.Searching.{false-true, test, less?, both, parts, or-cases, or-left, or-right, same-test}
-use Rattle.model.proofs.Searching.{some→, →some}
-use Rattle.model.proofs.Acceptance.{prefix}
-use Rattle.model.proofs.RulingSteps.{raises, closure-step, hit→, →hit, hit-is-bad, bad-has-hit, marked-over}
-use Rattle.model.proofs.ChainOrder.{load-marks}
+use Rattle.model.specs.Choice.{Choice, In}
+use Rattle.model.proofs.Searching.{less?, both, parts, or-cases, or-left, or-right, some→, →some}
+use Rattle.model.proofs.RulingSteps.{raise, raised→, Over}
 use Rattle.area.specs.Cells.{getRow}
-use Rattle.area.specs.Rows.{Linked, Rows}
 use Rattle.marks.specs.Marks.{Marks, cutCell, lowCell, countIn}
 use Rattle.marks.specs.Marking.{walked, loaded}
 use Rattle.marks.specs.Testing.{walkHits, hit, hits, loadHits}
-use Rattle.marks.specs.Good.{PlaceOf, AtMost, Judging}
+use Rattle.marks.specs.Good.{PlaceOf, AtMost, Says}
 use Rattle.marks.proofs.Says.{Fit, fits, row}
 use Rattle.marks.proofs.Walking.{Walked}
-use Rattle.marks.proofs.Stepping.{source-fits, load-walk, load-step}
+use Rattle.marks.proofs.Stepping.{chain, chained, alsoMarks, alsoSees, alsoAsks, Found, source-fits}
+use Rattle.marks.proofs.Stepping.{load-walk, load-says}
 
-module _ (ev : ℕ → Event) (N : ℕ) (accepted : Accepted ev N) where
-  -- a marked store has its row and numbers
-  pub marked-fits : (p : ℕ) → marked? ev N p ≡ true → Fit ev N p
-  marked-fits p marked = fits ev N N p accepted (omega arith) (marked-over ev N p marked)
-
-  -- in the closure, it makes a pair
-  marked-is-bad : (p : ℕ) → marked? ev N p ≡ true → In ev (closure ev N) p → bad? ev N ≡ true
-  marked-is-bad p marked inside = hit-is-bad ev N accepted p (→hit ev N accepted p marked inside)
+module _ (ev : ℕ → Event) where
+  -- a store of F is in the choice C
+  pub record Hit (F : ℕ → Bool) (C : Choice) : Type 0 where
+    pub p : ℕ
+    pub in-f : F p ≡ true
+    pub inside : In ev C p
 
   -- ---- the test of one stretch
 
-  module _ (m : Marks) (judging : Judging ev N m) (j : ℕ) (from-1 : 1 ≤ j) (to-7 : j ≤ 7) where
+  module _
+      (N : ℕ) (accepted : Accepted ev N) (F O : ℕ → Bool) (C : Choice) (over : (p : ℕ) → F p ≡ true → Over ev N p)
+      (m : Marks) (says : Says ev F O C m) (j : ℕ) (from-1 : 1 ≤ j) (to-7 : j ≤ 7) where
     abbrev low : ℕ → ℕ
     low t = countIn (m .counts) (lowCell j t)
 
@@ -62,25 +57,24 @@ module _ (ev : ℕ → Event) (N : ℕ) (accepted : Accepted ev N) where
         rw (low-at, cut-at)
 
     -- the lowest marked place of a thread is below the cut
-    low-is-bad : (t : ℕ) → t < 8 → low t ≢ 0 → low t ≤ cut t → bad? ev N ≡ true
-    low-is-bad t there some below =
-        let it : PlaceOf ev (marked? ev N) j t (low t) = judging .lows j t from-1 to-7 there some in
-        let cut-is = judging .cuts j t from-1 to-7 there in
-        let same-cut = ap₂ (closure ev N) (it .in-j) (it .by-t) in
-        marked-is-bad (it .p) (it .in-f) (omega (arith, it .is-it, cut-is, same-cut))
+    low-hits : (t : ℕ) → t < 8 → low t ≢ 0 → low t ≤ cut t → Hit F C
+    low-hits t there some below =
+        let it : PlaceOf ev F j t (low t) = says .lows j t from-1 to-7 there some in
+        let cut-is = says .cuts j t from-1 to-7 there in
+        let same-cut = ap₂ C (it .in-j) (it .by-t) in
+        record { p = it .p; in-f = it .in-f; inside = omega (arith, it .is-it, cut-is, same-cut) }
 
-    hits-is-bad : hits (m .counts) j ≡ true → bad? ev N ≡ true
+    hits→ : hits (m .counts) j ≡ true → Hit F C
     unfolding hits
-    hits-is-bad passes =
+    hits→ passes =
         let (t, there, at-t) = some→ 8 _ passes in
         let both-hold = parts (not (eqb (low t) 0)) _ (sym (test-at t there) ∙ at-t) in
-        low-is-bad t there (eqb-false _ 0 (not-true _ (both-hold .0))) (leb-true _ _ (both-hold .1))
+        low-hits t there (eqb-false _ 0 (not-true _ (both-hold .0))) (leb-true _ _ (both-hold .1))
 
-    -- a marked store in the closure is found in its stretch
-    marked-hits :
-        (p : ℕ) → stretch ev p ≡ j → marked? ev N p ≡ true → In ev (closure ev N) p → hits (m .counts) j ≡ true
+    -- a store of F in the choice is found in its stretch
+    →hits : (p : ℕ) → stretch ev p ≡ j → F p ≡ true → In ev C p → hits (m .counts) j ≡ true
     unfolding hits
-    marked-hits p in-j marked inside =
+    →hits p in-j in-f inside =
         →some 8 _ t there
         (test-at t there ∙ both (not (eqb (low t) 0)) _ (rw (ne-eqb (low t) 0 some)) (le-leb _ _ below))
       where
@@ -88,117 +82,106 @@ module _ (ev : ℕ → Event) (N : ℕ) (accepted : Accepted ev N) where
         t = thread ev p
 
         there : t < 8
-        there = marked-fits p marked .thread-below-8
+        there = fits ev N N p accepted (omega arith) (over p in-f) .thread-below-8
 
         it : AtMost ev (low t) p
-        it = judging .lowest j t from-1 to-7 there p marked in-j refl
+        it = says .lowest j t from-1 to-7 there p in-f in-j refl
 
         some : low t ≢ 0
         some none = omega (arith, it .some)
 
         below : low t ≤ cut t
         below =
-            let same-cut : closure ev N (stretch ev p) t ≡ closure ev N j t = ap (λ (i : ℕ). closure ev N i t) in-j in
-            omega (arith, it .at-most, judging .cuts j t from-1 to-7 there, inside)
+            let same-cut : C (stretch ev p) t ≡ C j t = ap (λ (i : ℕ). C i t) in-j in
+            omega (arith, it .at-most, says .cuts j t from-1 to-7 there, inside)
 
--- ---- a counted load, where there was no pair
+  -- ---- a load's test
 
-module _
-    (ev : ℕ → Event) (n : ℕ) (accepted : Accepted ev (suc n)) (counts : counted ev n ≡ true) (l : List ℕ) (h : ℕ)
-    (rows : Rows ev n l) (links : Linked l h (landed ev n (location ev n))) (m : Marks) (judging : Judging ev n m)
-    (fine : bad? ev n ≡ false) where
-  abbrev x : ℕ
-  x = location ev n
+  module _
+      (n : ℕ) (l : List ℕ) (k : ℕ) (accepted : Accepted ev (suc n)) (found : Found ev n l k) (F O : ℕ → Bool)
+      (C : Choice) (over : (p : ℕ) → alsoMarks ev k F p ≡ true → Over ev (suc n) p) (m : Marks)
+      (says : Says ev F O C m) where
+    abbrev s : ℕ
+    s = source ev k
 
-  abbrev s : ℕ
-  s = source ev n
+    abbrev h : ℕ
+    h = headOf (chain ev k)
 
-  abbrev after : Marks
-  after = loaded l m h s
+    abbrev after : Marks
+    after = loaded l m h s
 
-  abbrev walkHit : Bool
-  walkHit = walkHits 2048 l (m .counts) h s
+    abbrev walkHit : Bool
+    walkHit = walkHits 2048 l (m .counts) h s
 
-  abbrev sourceHit : Bool
-  sourceHit = not (eqb s 0) && hits (after .counts) (getRow l s 10)
+    abbrev sourceHit : Bool
+    sourceHit = not (eqb s 0) && hits (after .counts) (getRow l s 10)
 
-  judging-after : Judging ev (suc n) after
-  judging-after = load-step ev n accepted counts l h rows links m judging
+    says-after : Says ev (alsoMarks ev k F) (alsoSees ev k O) (alsoAsks ev k C) after
+    says-after = load-says ev n l k accepted found F O C m says
 
-  walk : Walked ev (observed? ev n) (closure ev n) s (landed ev n x) (marked? ev n) (walked 2048 l m h s) walkHit
-  walk = load-walk ev n accepted counts l h rows links m judging
+    walk : Walked ev O C s (chain ev k) F (walked 2048 l m h s) walkHit
+    walk = load-walk ev n l k accepted found F O C m says
 
-  marks : (p : ℕ) → (passed s p (landed ev n x) || marked? ev n p) ≡ marked? ev (suc n) p
-  marks = load-marks ev (suc n) accepted n (omega arith) counts
+    -- the stretch of the source
+    source-fit : s ≢ 0 → Fit ev (suc n) s
+    source-fit = source-fits ev n l k accepted found
 
-  -- the stretch of the source
-  source-fit : s ≢ 0 → Fit ev n s
-  source-fit = source-fits ev n accepted counts
+    source-stretch : s ≢ 0 → getRow l s 10 ≡ stretch ev s
+    source-stretch some = row ev (suc n) l (found .rows) s (source-fit some) .stretch-is
 
-  source-stretch : s ≢ 0 → getRow l s 10 ≡ stretch ev s
-  source-stretch some = row ev n l rows s (source-fit some) .stretch-is
+    -- what was a pair stays one
+    pub hit-stays : Hit F C → Hit (alsoMarks ev k F) (alsoAsks ev k C)
+    hit-stays hit = record {
+      p = hit .p;
+      in-f = or-right (chained ev k (hit .p)) _ (hit .in-f);
+      inside = omega (arith, hit .inside);
+    }
 
-  closure-grows : (j t : ℕ) → closure ev n j t ≤ closure ev (suc n) j t
-  closure-grows j t = rw (closure-step ev n j t accepted) (by-test (raises ev n j))
-    where
-      by-test : (b : Bool) → closure ev n j t ≤ cond b (max (closure ev n j t) (vc ev s t)) (closure ev n j t)
-      by-test true = omega arith
-      by-test false = omega arith
+    pub load-hits→ : loadHits l m (headOf (chain ev k)) (source ev k) ≡ true → Hit (alsoMarks ev k F) (alsoAsks ev k C)
+    unfolding loadHits
+    load-hits→ passes = by-test (or-cases walkHit _ passes)
+      where
+        by-test : (walkHit ≡ true) ⊎ (sourceHit ≡ true) → Hit (alsoMarks ev k F) (alsoAsks ev k C)
+        by-test (inl walks) =
+            let (p, stands, inside) = walk .found walks in
+            record { p = p; in-f = or-left _ _ stands; inside = omega arith }
+        by-test (inr raised) =
+            let both-hold = parts (not (eqb s 0)) _ raised in
+            let some : s ≢ 0 = eqb-false s 0 (not-true _ (both-hold .0)) in
+            hits→ (suc n) accepted (alsoMarks ev k F) (alsoSees ev k O) (alsoAsks ev k C) over after says-after
+            (stretch ev s) (source-fit some .stretch-from-1) (source-fit some .stretch-to-7)
+            (rw (source-stretch some) at (both-hold .1))
 
-  to-bad : (walkHit ≡ true) ⊎ (sourceHit ≡ true) → bad? ev (suc n) ≡ true
-  to-bad (inl walks) =
-      let (p, stands, inside) = walk .found walks in
-      let marked : marked? ev (suc n) p ≡ true = sym (marks p) ∙ or-left _ _ stands in
-      marked-is-bad ev (suc n) accepted p marked (omega (arith, closure-grows (stretch ev p) (thread ev p)))
-  to-bad (inr raised) =
-      let both-hold = parts (not (eqb s 0)) _ raised in
-      let some : s ≢ 0 = eqb-false s 0 (not-true _ (both-hold .0)) in
-      hits-is-bad ev (suc n) accepted after judging-after (stretch ev s)
-      (source-fit some .stretch-from-1) (source-fit some .stretch-to-7) (rw (source-stretch some) at (both-hold .1))
+    pub →load-hits :
+        Hit (alsoMarks ev k F) (alsoAsks ev k C)
+        → Hit F C ⊎ (loadHits l m (headOf (chain ev k)) (source ev k) ≡ true)
+    unfolding loadHits
+    →load-hits hit = by-choice (less? (place ev p) (C (stretch ev p) (thread ev p)))
+      where
+        p : ℕ
+        p = hit .p
 
-  module _ (p : ℕ) (marked : marked? ev (suc n) p ≡ true) (inside : In ev (closure ev (suc n)) p) where
-    abbrev before : ℕ
-    before = closure ev n (stretch ev p) (thread ev p)
+        -- it was in the choice: it was marked, or the walk marks it
+        was-in :
+            place ev p < C (stretch ev p) (thread ev p) → (chained ev k p ≡ true) ⊎ (F p ≡ true)
+            → Hit F C ⊎ ((walkHit || sourceHit) ≡ true)
+        was-in in-it (inl stands) = inr (or-left _ _ (walk .finds p stands in-it))
+        was-in in-it (inr before) = inl (record { p = p; in-f = before; inside = in-it })
 
-    -- it was in the closure: the walk marks it, for there was no pair
-    was-in : place ev p < before → (passed s p (landed ev n x) ≡ true) ⊎ (marked? ev n p ≡ true) → walkHit ≡ true
-    was-in in-it (inl stands) = walk .finds p stands in-it
-    was-in in-it (inr marked-before) =
-        let some-event = marked-over ev n p marked-before .early in
-        let part = prefix ev (suc n) n accepted (omega arith) (omega arith) in
-        false-true (sym fine ∙ marked-is-bad ev n part p marked-before in-it)
-
-    -- it was not: the source brings it in
-    raises-it :
-        before ≤ place ev p → (raises ev n (stretch ev p) ≡ true) ⊎ (raises ev n (stretch ev p) ≡ false)
-        → sourceHit ≡ true
-    raises-it out (inr fails) =
-        let same : closure ev (suc n) (stretch ev p) (thread ev p) ≡ before =
-        rw (closure-step ev n (stretch ev p) (thread ev p) accepted, fails) refl
-        in
-        absurd (omega (arith, inside))
-    raises-it out (inl passes) =
-        let outer = parts (counted ev n && not (eqb s 0)) _ passes in
-        let some-store = parts (counted ev n) _ (outer .0) .1 in
-        let some : s ≢ 0 = eqb-false s 0 (not-true _ some-store) in
-        let same : stretch ev s ≡ stretch ev p = eqb-true _ _ (outer .1) in
-        both _ _ some-store
-        (rw (source-stretch some)
-        (marked-hits ev (suc n) accepted after judging-after (stretch ev s) (source-fit some .stretch-from-1)
-        (source-fit some .stretch-to-7) p (sym same) marked inside))
-
-    by-closure : (place ev p < before) ⊎ (before ≤ place ev p) → (walkHit || sourceHit) ≡ true
-    by-closure (inl in-it) =
-        or-left _ _ (was-in in-it (or-cases (passed s p (landed ev n x)) _ (marks p ∙ marked)))
-    by-closure (inr out) = or-right walkHit _ (raises-it out (test (raises ev n (stretch ev p))))
-
-  -- THE TEST: with the load there is a pair
-  pub load-hits-is-bad : loadHits l m h s ≡ bad? ev (suc n)
-  unfolding loadHits
-  load-hits-is-bad = same-test _ _ (λ passes. to-bad (or-cases walkHit _ passes)) from-bad
-    where
-      from-bad : bad? ev (suc n) ≡ true → loadHits l m h s ≡ true
-      from-bad bad =
-          let (p, hit) = bad-has-hit ev (suc n) accepted bad in
-          let (marked, inside) = hit→ ev (suc n) accepted p hit in
-          by-closure p marked inside (less? (place ev p) (closure ev n (stretch ev p) (thread ev p)))
+        -- it was not: the source brings it in
+        by-choice :
+            (place ev p < C (stretch ev p) (thread ev p)) ⊎ (C (stretch ev p) (thread ev p) ≤ place ev p)
+            → Hit F C ⊎ ((walkHit || sourceHit) ≡ true)
+        by-choice (inl in-it) = was-in in-it (or-cases (chained ev k p) (F p) (hit .in-f))
+        by-choice (inr out) =
+            let asked : place ev p < raise ev k (stretch ev p) (thread ev p) = omega (arith, hit .inside) in
+            let it = raised→ ev k (stretch ev p) (thread ev p) (place ev p) asked in
+            let some : s ≢ 0 = it .observes .some-store in
+            let here =
+            →hits (suc n) accepted (alsoMarks ev k F) (alsoSees ev k O) (alsoAsks ev k C) over after says-after
+            (stretch ev s) (source-fit some .stretch-from-1) (source-fit some .stretch-to-7) p (sym (it .in-j))
+            (hit .in-f) (hit .inside)
+            in
+            inr
+            (or-right walkHit _
+            (both (not (eqb s 0)) _ (rw (ne-eqb s 0 some)) (rw (source-stretch some) here)))

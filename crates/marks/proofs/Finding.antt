@@ -18,14 +18,13 @@ use Rattle.model.proofs.Searching.{false-true, test, parts, first-is, eqb-turne
 use Rattle.model.proofs.Acceptance.{event-bound}
 use Rattle.model.proofs.StorePlaces.{fails}
 use Rattle.model.proofs.Closure.{observed→, observed-is-kept}
-use Rattle.model.proofs.RulingSteps.{hit?, hit→, hit-is-missing}
+use Rattle.model.proofs.RulingSteps.{marked-over, hit?, hit→, hit-is-missing}
 use Rattle.area.specs.Cells.{getRow}
 use Rattle.area.specs.Rows.{StoreRow, Rows}
 use Rattle.marks.specs.Marks.{Marks, flagIn}
 use Rattle.marks.specs.Testing.{inCut, isForbidden, isObserved, missingIn, observedIn, missingBy, observedBy}
 use Rattle.marks.specs.Good.{Judging}
-use Rattle.marks.proofs.Says.{Fit, row, own-is, in-cut}
-use Rattle.marks.proofs.Breaking.{marked-fits}
+use Rattle.marks.proofs.Says.{Fit, fits, row, own-is, in-cut}
 
 -- searches by tests that agree find the same
 first-from-same :
@@ -54,6 +53,10 @@ observed-bits false false = refl
 module _
     (ev : ℕ → Event) (N : ℕ) (accepted : Accepted ev N) (l : List ℕ) (rows : Rows ev N l) (m : Marks)
     (judging : Judging ev N m) where
+  -- a marked store has its row and numbers
+  marked-fits : (p : ℕ) → marked? ev N p ≡ true → Fit ev N p
+  marked-fits p marked = fits ev N N p accepted (omega arith) (marked-over ev N p marked)
+
   flag-forbidden : (p : ℕ) → p ≤ 2048 → isForbidden (flagIn (m .flags) p) ≡ marked? ev N p
   flag-forbidden p to-2048 =
       ap isForbidden (judging .flags p to-2048) ∙ forbidden-bits (marked? ev N p) (observed? ev N p)
@@ -72,7 +75,7 @@ module _
           (marked? ev N p ≡ true) ⊎ (marked? ev N p ≡ false)
           → (marked? ev N p && inCut l (m .counts) p) ≡ hit? ev N p
       by-test (inl marked) =
-          let fit = marked-fits ev N accepted p marked in
+          let fit = marked-fits p marked in
           let in-closure = in-cut ev N l rows p fit (marked? ev N) (observed? ev N) (closure ev N) m judging in
           rw (marked, in-closure, parts (forbidden? ev N p) _ marked .0) refl
       by-test (inr not-marked) =
@@ -91,7 +94,7 @@ module _
 
   module _ (p : ℕ) (marked : marked? ev N p ≡ true) where
     fit : Fit ev N p
-    fit = marked-fits ev N accepted p marked
+    fit = marked-fits p marked
 
     its-row : StoreRow ev l p
     its-row = row ev N l rows p fit

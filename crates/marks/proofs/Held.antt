@@ -1,45 +1,46 @@
--- For the fold over a trace: the invariant of judging, its start, its steps and its two ends. A load that is judged
--- breaks the trace exactly if with it there is a pair; after that load the marks stay, and at the end of an accepted
--- trace they give its ruling.
--- In order: `held-start`; `held-quiet`; the counted load, `held-load`; the ends, `broke-ruling` and `good-robust`.
+-- For the fold over a trace: the invariant of judging, its start, its step and its two ends. The loads that count as of
+-- an event break the trace exactly if with them there is a pair. After that event the marks stay, and at the end of an
+-- accepted trace they give its ruling.
+-- In order: `held-event`, for every event; what it says of an event as of which no load counts, and of a load;
+-- `held-start`; the ends, `broke-ruling` and `good-robust`.
 use Prim.Native.Nat.{ℕ, suc, _≤_, _<_, min}
 use native.Mathlib.Omega.{arith}
-use mathlib.Core.Path.{_≡_, refl, sym, _∙_, ap}
-use mathlib.Core.Bool.{true, false, cond, not}
+use mathlib.Core.Path.{_≡_, refl, sym, _∙_}
+use mathlib.Core.Bool.{Bool, true, false, cond, _&&_, not}
 use mathlib.Core.Logic.{_⊎_, inl, inr, _≢_}
-use mathlib.Core.List.{List}
-use lib.ListN.{length, replicate, length-replicate}
+use mathlib.Core.List.{List, [], _∷_}
+use lib.Dec.{eqb}
+use lib.ListN.{length, set, length-set, replicate, length-replicate}
+use lib.Seq.{getD-set-same, getD-set-other}
 use borrow.Author.Tests.{eq-eqb, ne-eqb}
 use Rattle.record.specs.declared.events.Event.{Event}
-use Rattle.model.specs.Search.{some, most}
-use Rattle.model.specs.Trace.{location, source, Load}
-use Rattle.model.specs.Machine.{counted}
-use Rattle.model.specs.Stores.{headOf, landed, marked?}
+use Rattle.model.specs.Search.{some, any, most}
+use Rattle.model.specs.Trace.{thread, location, source, stretch}
+use Rattle.model.specs.Machine.{counted, counting, counts}
+use Rattle.model.specs.Stores.{headOf, marked?}
 use Rattle.model.specs.Rules.{Accepted}
 use Rattle.model.specs.Choice.{robust, broken, finished}
 use Rattle.model.specs.Verdict.{forbidden?, observed?, bad?, closure, rulingOf}
 use Rattle.model.specs.Answers.{sum, percent, cutOf, shareOf}
-use Rattle.model.proofs.Searching.{false-true, test, same?, second-fails}
-use Rattle.model.proofs.Roles.{load-no-commit, begin-no-load}
-use Rattle.model.proofs.Acceptance.{begins, counted-crosses}
-use Rattle.model.proofs.RulingSteps.{uncounted-no-worse, robust-ruling, broken-ruling}
-use Rattle.model.proofs.Unchanged.{landed-away}
-use Rattle.model.proofs.RepeatedLoads.{Repeats, no-pair-again}
+use Rattle.model.proofs.Searching.{false-true, test, same?, same-test}
+use Rattle.model.proofs.Roles.{begin-no-load}
+use Rattle.model.proofs.Acceptance.{prefix, begins, store-not-0}
+use Rattle.model.proofs.RulingSteps.{marked-over, hit→, →hit, hit-is-bad, bad-has-hit}
+use Rattle.model.proofs.RulingSteps.{robust-ruling, broken-ruling}
 use Rattle.area.specs.Rows.{Linked, Rows}
 use Rattle.area.proofs.ReadBack.{cleared-at}
-use Rattle.area.proofs.Chains.{linked-head}
-use Rattle.marks.specs.Marks.{Marks, marksOf, brokenCell, countIn, brokenIn}
-use Rattle.marks.specs.Marking.{loaded}
+use Rattle.marks.specs.Marks.{Marks, marksOf, lastCell, sourceCell, brokenCell, countIn, brokenIn}
 use Rattle.marks.specs.Testing.{loadHits, missingBy, observedBy}
-use Rattle.marks.specs.Judged.{repeated, judgedNew, judges, judged}
+use Rattle.marks.specs.Judged.{noted, judgedNew, judged}
 use Rattle.marks.specs.Ending.{copied, keptIn}
 use Rattle.marks.specs.Good.{Judging, Loads, Good, Broke, Held}
-use Rattle.marks.proofs.Counts.{loaded-leaves, noted-broken}
-use Rattle.marks.proofs.Stepping.{quiet-step, again-step, load-step}
-use Rattle.marks.proofs.Breaking.{load-hits-is-bad}
+use Rattle.marks.proofs.Stepping.{chain, due-start}
+use Rattle.marks.proofs.Stepping.{all-marked, all-seen, all-asked, due-end}
+use Rattle.marks.proofs.Breaking.{Hit}
+use Rattle.marks.proofs.Noting.{loads-start, says-there, loads-later}
 use Rattle.marks.proofs.Finding.{missing-is, observed-is}
 use Rattle.marks.proofs.Closing.{cut-is, kept-is, share-is}
-use Rattle.marks.proofs.Noting.{loads-start, loads-later, repeats-noted, noted-says, noted-loads}
+use Rattle.marks.proofs.EachLoad.{Part, again?, walkedOver, judgedAll, breaksAll, keptBy, judgedAs, part-all}
 
 module _ (ev : ℕ → Event) where
   -- no load has broken the trace, and one has
@@ -58,8 +59,7 @@ module _ (ev : ℕ → Event) where
     broke = λ _. rw is-load broke;
   }
 
-  -- ---- the start
-
+  -- cleared marks
   good-start :
       (m : Marks) → length (m .counts) ≡ 648 → length (m .flags) ≡ 2048
       → ((i : ℕ) → countIn (m .counts) i ≡ 0) → ((i : ℕ) → countIn (m .flags) i ≡ 0) → Good ev 0 m
@@ -74,38 +74,197 @@ module _ (ev : ℕ → Event) where
       lowest = λ j t from-1 to-7 there p in-f. false-true in-f;
     };
     no-pair = refl;
-    loads = loads-start ev m no-counts;
+    loads = loads-start ev (marked? ev 0) (observed? ev 0) m no-counts;
   }
 
-  -- ---- an event that is no counted load
+  hit-bad : (N : ℕ) → Accepted ev N → Hit ev (marked? ev N) (closure ev N) → bad? ev N ≡ true
+  hit-bad N accepted hit =
+      hit-is-bad ev N accepted (hit .p) (→hit ev N accepted (hit .p) (hit .in-f) (hit .inside))
 
-  pub held-quiet :
-      (n : ℕ) (m : Marks) → Accepted ev (suc n) → counted ev n ≡ false → Held ev n m → Held ev (suc n) m
-  held-quiet n m accepted uncounted held = record {
-    none-yet = λ none.
-        let good = held .none-yet none in
-        record {
-          judging = quiet-step ev n accepted m uncounted (good .judging);
-          no-pair = uncounted-no-worse ev n accepted uncounted (good .no-pair);
-          loads = loads-later ev n (suc n) m m (omega arith) (λ i from-128. refl) (good .loads);
-        };
-    early = λ some. omega (arith, held .early some);
-    broke = held .broke;
-  }
+  -- ---- the event
 
-  -- the begin of an accepted trace is none
-  begin-uncounted : (N : ℕ) → Accepted ev N → counted ev 0 ≡ false
-  unfolding counted
-  begin-uncounted N accepted = rw (begin-no-load ev 0 (begins ev N accepted)) refl
+  module _
+      (n : ℕ) (l : List ℕ) (accepted : Accepted ev (suc n))
+      (area : (k : ℕ) → counts ev n k ≡ true → Rows ev (suc n) l × Linked l (headOf (chain ev k)) (chain ev k)) where
+    module _ (m : Marks) (none : brokenIn (m .counts) ≡ 0) (good : Good ev n m) where
+      start : Part ev n (counting ev n) false m
+      start = record {
+        F = marked? ev n;
+        O = observed? ev n;
+        C = closure ev n;
+        due = due-start ev n accepted;
+        says = good .judging;
+        loads =
+            loads-later ev n (suc n) _ _ _ _ (omega arith) (λ p in-f. in-f) (λ q in-o. in-o) m m
+            (λ i from-128 below. refl) (good .loads);
+        unbroken = none;
+        told = λ never. false-true never;
+        tells = λ hit.
+            let some-event = marked-over ev n (hit .p) (hit .in-f) .early in
+            let part = prefix ev (suc n) n accepted (omega arith) (omega arith) in
+            sym (good .no-pair) ∙ hit-bad n part hit;
+      }
+
+      abbrev after : Marks
+      after = judgedAll ev l (counting ev n) m
+
+      abbrev breaks : Bool
+      breaks = breaksAll ev l (counting ev n) false m
+
+      end : Part ev n [] breaks after
+      end = part-all ev n l accepted area (counting ev n) false m (λ k here. here) start
+
+      same-f : (p : ℕ) → end .F p ≡ marked? ev (suc n) p
+      same-f = all-marked ev n (end .F) (end .O) (end .C) (end .due)
+
+      same-c : (j t : ℕ) → end .C j t ≡ closure ev (suc n) j t
+      same-c = all-asked ev n (end .F) (end .O) (end .C) (end .due)
+
+      judging-after : Judging ev (suc n) after
+      judging-after = due-end ev n (end .F) (end .O) (end .C) (end .due) after (end .says)
+
+      loads-after : Loads ev (suc n) (marked? ev (suc n)) (observed? ev (suc n)) after
+      loads-after =
+          loads-later ev (suc n) (suc n) (end .F) _ (end .O) _ (omega arith) (λ p in-f. sym (same-f p) ∙ in-f)
+          (λ q in-o. sym (all-seen ev n (end .F) (end .O) (end .C) (end .due) q) ∙ in-o) after after
+          (λ i from-128 below. refl) (end .loads)
+
+      -- the event breaks the trace exactly if there is a pair with it
+      breaks-is-bad : breaks ≡ bad? ev (suc n)
+      breaks-is-bad = same-test _ _ to-bad from-bad
+        where
+          to-bad : breaks ≡ true → bad? ev (suc n) ≡ true
+          to-bad passes =
+              let hit = end .told passes in
+              hit-bad (suc n) accepted
+              (record {
+                p = hit .p;
+                in-f = sym (same-f (hit .p)) ∙ hit .in-f;
+                inside = omega (arith, hit .inside, same-c (stretch ev (hit .p)) (thread ev (hit .p)));
+              })
+
+          from-bad : bad? ev (suc n) ≡ true → breaks ≡ true
+          from-bad bad =
+              let (p, hit) = bad-has-hit ev (suc n) accepted bad in
+              let (marked, inside) = hit→ ev (suc n) accepted p hit in
+              end .tells
+              (record {
+                p = p;
+                in-f = same-f p ∙ marked;
+                inside = omega (arith, inside, same-c (stretch ev p) (thread ev p));
+              })
+
+      -- then it is not the begin, which stores nothing
+      not-begin : breaks ≡ true → n ≢ 0
+      not-begin passes is-0 =
+          let hit = end .told passes in
+          let it = marked-over ev (suc n) (hit .p) (sym (same-f (hit .p)) ∙ hit .in-f) in
+          store-not-0 ev (suc n) accepted (it .store) (omega (arith, it .early))
+
+      good-event : breaks ≡ false → Good ev (suc n) after
+      good-event holds = record {
+        judging = judging-after;
+        no-pair = sym breaks-is-bad ∙ holds;
+        loads = loads-after;
+      }
+
+      broke-event : breaks ≡ true → Broke ev n (marksOf (set (after .counts) brokenCell n) (after .flags))
+      broke-event passes = record {
+        accepted = accepted;
+        no-pair-before = good .no-pair;
+        pair = sym breaks-is-bad ∙ passes;
+        judging =
+            says-there ev after _ (length-set (after .counts) brokenCell n)
+            (λ i below. getD-set-other (after .counts) brokenCell i n 0 (λ same. omega arith)) judging-after;
+      }
+
+      held-judged : Held ev (suc n) (keptBy n breaks after)
+      held-judged = by-test (test breaks)
+        where
+          by-test : (breaks ≡ true) ⊎ (breaks ≡ false) → Held ev (suc n) (keptBy n breaks after)
+          by-test (inr holds) = rw holds (held-good (suc n) after (end .unbroken) (good-event holds))
+          by-test (inl passes) =
+              let room = judging-after .counts-size in
+              rw passes
+              (held-broke (suc n) n _ (getD-set-same (after .counts) brokenCell n 0 (omega arith)) (not-begin passes)
+              (omega arith) (broke-event passes))
+
+    -- EVERY EVENT keeps the invariant
+    pub held-event : (m : Marks) → Held ev n m → Held ev (suc n) (judgedAs ev l n (counting ev n) m)
+    unfolding judgedAs
+    held-event m held = by-broken (same? (brokenIn (m .counts)) 0)
+      where
+        by-broken :
+            (brokenIn (m .counts) ≡ 0) ⊎ (brokenIn (m .counts) ≢ 0)
+            → Held ev (suc n)
+            (cond (eqb (brokenIn (m .counts)) 0)
+            (keptBy n (breaksAll ev l (counting ev n) false m) (judgedAll ev l (counting ev n) m))
+            m)
+        by-broken (inl none) =
+            rw (eq-eqb (brokenIn (m .counts)) 0 none) (held-judged m none (held .none-yet none))
+        by-broken (inr some) =
+            rw (ne-eqb (brokenIn (m .counts)) 0 some)
+            (held-broke (suc n) (brokenIn (m .counts)) m refl some (omega (arith, held .early some))
+            (held .broke some))
+
+  -- an event as of which no load counts leaves the marks
+  pub judged-none : (l : List ℕ) (e : ℕ) (m : Marks) → judgedAs ev l e [] m ≡ m
+  unfolding judgedAs judgedAll breaksAll
+  judged-none l e m = by-test (eqb (brokenIn (m .counts)) 0)
+    where
+      by-test : (b : Bool) → cond b m m ≡ m
+      by-test true = refl
+      by-test false = refl
+
+  -- a load that counts as of itself is judged as the code does it
+  pub judged-load :
+      (l : List ℕ) (k : ℕ) (m : Marks)
+      → judged l m (headOf (chain ev k)) (location ev k) (source ev k) k ≡ judgedAs ev l k (k ∷ []) m
+  unfolding judgedAs judgedAll breaksAll judged judgedNew noted
+  judged-load l k m =
+      by-tests (eqb (brokenIn (m .counts)) 0) (again? ev m k) (loadHits l m (headOf (chain ev k)) (source ev k))
+    where
+      v : Marks
+      v = walkedOver ev l m k
+
+      with-load : List ℕ
+      with-load =
+          set (set (v .counts) (lastCell (location ev k)) (headOf (chain ev k))) (sourceCell (location ev k))
+          (source ev k)
+
+      by-tests :
+          (unbroken again hits : Bool)
+          → cond (not again && unbroken) (marksOf (cond hits (set with-load brokenCell k) with-load) (v .flags)) m
+          ≡ cond unbroken (keptBy k (not again && hits) (cond again m (marksOf with-load (v .flags)))) m
+      by-tests true true hits = refl
+      by-tests true false true = refl
+      by-tests true false false = refl
+      by-tests false true hits = refl
+      by-tests false false hits = refl
+
+  -- ---- the start
+
+  -- no load counts as of the begin of an accepted trace
+  none-at-begin : (N : ℕ) → Accepted ev N → counting ev 0 ≡ []
+  unfolding counting counted
+  none-at-begin N accepted = rw (begin-no-load ev 0 (begins ev N accepted))
 
   pub held-start : Accepted ev 1 → Held ev 1 (marksOf (replicate 648 0) (replicate 2048 0))
+  unfolding any
   held-start accepted =
-      held-quiet 0 _ accepted (begin-uncounted 1 accepted)
-      (held-good 0 _ (cleared-at 648 brokenCell)
-      (good-start _ (length-replicate {A = ℕ} 648 0) (length-replicate {A = ℕ} 2048 0) (cleared-at 648)
-      (cleared-at 2048)))
+      rw (none, judged-none [] 0 cleared) at
+      (held-event 0 [] accepted (λ k here. false-true (rw none at here)) cleared
+      (held-good 0 cleared (cleared-at 648 brokenCell)
+      (good-start cleared (length-replicate {A = ℕ} 648 0) (length-replicate {A = ℕ} 2048 0) (cleared-at 648)
+      (cleared-at 2048))))
+    where
+      cleared : Marks
+      cleared = marksOf (replicate 648 0) (replicate 2048 0)
 
-  -- ---- a counted load
+      none : counting ev 0 ≡ []
+      none = none-at-begin 1 accepted
+
+  -- ---- the ends of an accepted trace of N events
 
   -- the rows of fewer events
   rows-earlier : (n k : ℕ) (l : List ℕ) → n ≤ k → Rows ev k l → Rows ev n l
@@ -114,112 +273,6 @@ module _ (ev : ℕ → Event) where
     stores = λ p early. rows .stores p (omega arith);
     others = λ p from-1 early. rows .others p from-1 (omega arith);
   }
-
-  module _
-      (n : ℕ) (l : List ℕ) (h : ℕ) (accepted : Accepted ev (suc n)) (counts : counted ev n ≡ true)
-      (rows-after : Rows ev (suc n) l) (links-after : Linked l h (landed ev (suc n) (location ev n))) where
-    abbrev x : ℕ
-    x = location ev n
-
-    abbrev s : ℕ
-    s = source ev n
-
-    loads : Load ev n
-    loads = counted-crosses ev n counts .loads
-
-    -- the rows before it, and, since it is no commit, the chain before it
-    rows : Rows ev n l
-    rows = rows-earlier n (suc n) l (omega arith) rows-after
-
-    links : Linked l h (landed ev n x)
-    links =
-        rw (landed-away ev n x (λ commits _. false-true (sym (load-no-commit ev loads) ∙ commits .test))) at links-after
-
-    is-head : h ≡ headOf (landed ev n x)
-    is-head = linked-head l h (landed ev n x) links
-
-    not-begin : n ≢ 0
-    not-begin is-0 = false-true (sym (begin-uncounted (suc n) accepted) ∙ rw is-0 at counts)
-
-    module _ (m : Marks) (good : Good ev n m) where
-      -- it repeats a load
-      good-again : Repeats ev n → Good ev (suc n) m
-      good-again again = record {
-        judging = again-step ev n accepted m again (good .judging);
-        no-pair = no-pair-again ev n accepted again (good .no-pair);
-        loads = loads-later ev n (suc n) m m (omega arith) (λ i from-128. refl) (good .loads);
-      }
-
-      -- it is judged
-      abbrev before-note : Marks
-      before-note = loaded l m h s
-
-      abbrev after : Marks
-      after = judgedNew l m h x s n
-
-      loaded-judging : Judging ev (suc n) before-note
-      loaded-judging = load-step ev n accepted counts l h rows links m (good .judging)
-
-      after-judging : Judging ev (suc n) after
-      unfolding judgedNew
-      after-judging = noted-says ev (suc n) before-note h x s n (loadHits l m h s) loaded-judging
-
-      after-loads : Loads ev (suc n) after
-      unfolding judgedNew
-      after-loads =
-          noted-loads ev n accepted counts before-note h is-head
-          (loads-later ev n n m before-note (omega arith) (loaded-leaves l m h s) (good .loads))
-          n (loadHits l m h s) (loaded-judging .counts-size)
-
-      breaks-is-bad : loadHits l m h s ≡ bad? ev (suc n)
-      breaks-is-bad = load-hits-is-bad ev n accepted counts l h rows links m (good .judging) (good .no-pair)
-
-      broken-after : brokenIn (after .counts) ≡ cond (loadHits l m h s) n (brokenIn (m .counts))
-      unfolding judgedNew
-      broken-after =
-          noted-broken (before-note .counts) h x s n (loadHits l m h s) (loaded-judging .counts-size)
-          ∙ ap (cond (loadHits l m h s) n) (loaded-leaves l m h s brokenCell (omega arith))
-
-      held-judged : brokenIn (m .counts) ≡ 0 → Held ev (suc n) after
-      held-judged none = by-test (test (loadHits l m h s))
-        where
-          by-test : (loadHits l m h s ≡ true) ⊎ (loadHits l m h s ≡ false) → Held ev (suc n) after
-          by-test (inl breaks) =
-              held-broke (suc n) n after (broken-after ∙ rw breaks refl) not-begin (omega arith) (record {
-                accepted = accepted;
-                no-pair-before = good .no-pair;
-                pair = sym breaks-is-bad ∙ breaks;
-                judging = after-judging;
-              })
-          by-test (inr breaks-not) =
-              held-good (suc n) after (broken-after ∙ rw breaks-not none) (record {
-                judging = after-judging;
-                no-pair = sym breaks-is-bad ∙ breaks-not;
-                loads = after-loads;
-              })
-
-    -- A COUNTED LOAD keeps the invariant
-    pub held-load : (m : Marks) → Held ev n m → Held ev (suc n) (judged l m h (location ev n) (source ev n) n)
-    unfolding judged
-    held-load m held = by-cases (same? (brokenIn (m .counts)) 0) (test (repeated (m .counts) h x s))
-      where
-        by-cases :
-            (brokenIn (m .counts) ≡ 0) ⊎ (brokenIn (m .counts) ≢ 0)
-            → (repeated (m .counts) h x s ≡ true) ⊎ (repeated (m .counts) h x s ≡ false)
-            → Held ev (suc n) (cond (judges (m .counts) h x s) (judgedNew l m h x s n) m)
-        by-cases (inr some) either =
-            rw (second-fails (not (repeated (m .counts) h x s)) _ (ne-eqb (brokenIn (m .counts)) 0 some))
-            (held-broke (suc n) (brokenIn (m .counts)) m refl some (omega (arith, held .early some))
-            (held .broke some))
-        by-cases (inl none) (inl again) =
-            let good = held .none-yet none in
-            rw again
-            (held-good (suc n) m none
-            (good-again m good (repeats-noted ev n accepted counts m h is-head (good .loads) again)))
-        by-cases (inl none) (inr new) =
-            rw (new, eq-eqb (brokenIn (m .counts)) 0 none) (held-judged m (held .none-yet none) none)
-
-  -- ---- the ends of an accepted trace of N events
 
   -- a load broke it
   pub broke-ruling :

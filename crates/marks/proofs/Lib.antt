@@ -9,4 +9,5 @@ pub mod Breaking
 pub mod Finding
 pub mod Closing
 pub mod Noting
+pub mod EachLoad
 pub mod Held

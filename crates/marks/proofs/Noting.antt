@@ -1,10 +1,11 @@
--- The last counted load of each location, in its two numbers: `Loads` says that all it marks and observes is marked and
--- observed, so a load that repeats it changes nothing; and noting a load keeps that. A load is noted by its location's
--- last store, which names the whole chain.
+-- The last judged load of each location, in its two numbers: `Loads` says that all it marks and observes is marked (F)
+-- and observed (O), so a load that repeats it changes nothing; and noting a load keeps that. A load is noted by the
+-- head of the chain that it found, which names the whole chain.
+-- In order: the start; what notes nothing; a load that repeats the one noted; the load is noted.
 use Prim.Native.Nat.{ℕ, suc, _≤_, _<_}
 use native.Mathlib.Omega.{arith}
 use mathlib.Core.Path.{_≡_, refl, sym, _∙_}
-use mathlib.Core.Bool.{Bool, true}
+use mathlib.Core.Bool.{Bool, true, false}
 use mathlib.Core.Logic.{_⊎_, inl, inr, _≢_}
 use mathlib.Core.List.{List}
 use lib.ListN.{length}
@@ -12,26 +13,24 @@ use lib.Dec.{eqb}
 use borrow.Author.Tests.{eqb-true}
 use Rattle.record.specs.declared.events.Event.{Event}
 use Rattle.model.specs.Trace.{location, source}
-use Rattle.model.specs.Machine.{counted}
-use Rattle.model.specs.Stores.{headOf, passed, landed, marked?}
+use Rattle.model.specs.Stores.{headOf, landed, passed}
 use Rattle.model.specs.Rules.{Accepted}
-use Rattle.model.specs.Verdict.{observed?}
-use Rattle.model.proofs.Searching.{false-true, same?, parts, or-left}
-use Rattle.model.proofs.Acceptance.{counted-crosses}
-use Rattle.model.proofs.Ranges.{load-has-location, location-bound}
-use Rattle.model.proofs.Closure.{→observed}
-use Rattle.model.proofs.ChainOrder.{load-marks}
-use Rattle.model.proofs.RepeatedLoads.{same-chain, marked-later, observed-later, Repeats}
+use Rattle.model.specs.Choice.{Choice}
+use Rattle.model.specs.Verdict.{observes?}
+use Rattle.model.proofs.Searching.{false-true, same?, less?, parts, or-left, or-right}
+use Rattle.model.proofs.Closure.{→observes}
+use Rattle.model.proofs.ChainOrder.{same-chain}
 use Rattle.marks.specs.Marks.{Marks, marksOf, cutCell, lowCell, lastCell, sourceCell, countIn}
 use Rattle.marks.specs.Judged.{repeated, noted}
-use Rattle.marks.specs.Good.{Judging, Noted, Loads}
-use Rattle.marks.proofs.Counts.{noted-size, noted-leaves, noted-last, noted-source}
+use Rattle.marks.specs.Good.{Says, Noted, Loads}
+use Rattle.marks.proofs.Counts.{noted-leaves, noted-last, noted-source}
+use Rattle.marks.proofs.Stepping.{chain, chained, alsoMarks, alsoSees}
 
 module _ (ev : ℕ → Event) where
   -- where nothing is noted: the empty chain, and no source
-  pub loads-start : (m : Marks) → ((i : ℕ) → countIn (m .counts) i ≡ 0) → Loads ev 0 m
+  pub loads-start : (F O : ℕ → Bool) (m : Marks) → ((i : ℕ) → countIn (m .counts) i ≡ 0) → Loads ev 0 F O m
   unfolding landed passed
-  loads-start m empty x there = record {
+  loads-start F O m empty x there = record {
     k = 0;
     early = omega arith;
     last-is = empty (lastCell x);
@@ -39,35 +38,15 @@ module _ (ev : ℕ → Event) where
     observed = λ some. absurd (some (empty (sourceCell x)));
   }
 
-  -- ---- events that note nothing
+  -- ---- what notes nothing
 
-  -- the same numbers, after as many events or more
-  noted-later :
-      (n k x : ℕ) (counts counts′ : List ℕ) → n ≤ k → countIn counts′ (lastCell x) ≡ countIn counts (lastCell x)
-      → countIn counts′ (sourceCell x) ≡ countIn counts (sourceCell x) → Noted ev n x counts → Noted ev k x counts′
-  noted-later n k x counts counts′ within same-last same-source it = record {
-    k = it .k;
-    early = omega (arith, it .early);
-    last-is = same-last ∙ it .last-is;
-    marked = λ p passes. marked-later ev n k p within (it .marked p (rw same-source at passes));
-    observed = λ some. rw same-source (observed-later ev n k _ within (it .observed (rw same-source at some)));
-  }
-
-  pub loads-later :
-      (n k : ℕ) (m v : Marks) → n ≤ k → ((i : ℕ) → 128 ≤ i → countIn (v .counts) i ≡ countIn (m .counts) i)
-      → Loads ev n m → Loads ev k v
-  loads-later n k m v within same loads x there =
-      noted-later n k x (m .counts) (v .counts) within (same (lastCell x) (omega arith))
-      (same (sourceCell x) (omega arith)) (loads x there)
-
-  -- ---- noting a load
-
-  -- it leaves the marks
-  pub noted-says :
-      (n : ℕ) (m : Marks) (h x s e : ℕ) (breaks : Bool) → Judging ev n m
-      → Judging ev n (marksOf (noted (m .counts) h x s e breaks) (m .flags))
-  noted-says n m h x s e breaks says = record {
-    counts-size = noted-size (m .counts) h x s e breaks ∙ says .counts-size;
+  -- the marks stay as they are with other numbers from 128 on
+  pub says-there :
+      {F O : ℕ → Bool} {C : Choice} (m : Marks) (counts : List ℕ) → length counts ≡ length (m .counts)
+      → ((i : ℕ) → i < 128 → countIn counts i ≡ countIn (m .counts) i) → Says ev F O C m
+      → Says ev F O C (marksOf counts (m .flags))
+  says-there m counts size leaves says = record {
+    counts-size = size ∙ says .counts-size;
     flags-size = says .flags-size;
     flags = says .flags;
     cuts = λ j t from-1 to-7 there. leaves (cutCell j t) (omega arith) ∙ says .cuts j t from-1 to-7 there;
@@ -77,79 +56,108 @@ module _ (ev : ℕ → Event) where
     lowest = λ j t from-1 to-7 there p in-f in-j by-t.
         rw (leaves (lowCell j t) (omega arith)) (says .lowest j t from-1 to-7 there p in-f in-j by-t);
   }
-    where
-      leaves : (i : ℕ) → i < 128 → countIn (noted (m .counts) h x s e breaks) i ≡ countIn (m .counts) i
-      leaves i below =
-          noted-leaves (m .counts) h x s e breaks i (λ same. omega arith) (λ same. omega arith) (λ same. omega arith)
 
-  module _ (n : ℕ) (accepted : Accepted ev (suc n)) (counts : counted ev n ≡ true) where
+  -- the loads noted stay so after more events, with more that is marked and observed
+  module _
+      (n k : ℕ) (F G O P : ℕ → Bool) (within : n ≤ k)
+      (more-f : (p : ℕ) → F p ≡ true → G p ≡ true) (more-o : (q : ℕ) → O q ≡ true → P q ≡ true) where
+    noted-there :
+        (x : ℕ) (counts counts′ : List ℕ) → countIn counts′ (lastCell x) ≡ countIn counts (lastCell x)
+        → countIn counts′ (sourceCell x) ≡ countIn counts (sourceCell x) → Noted ev n x F O counts
+        → Noted ev k x G P counts′
+    noted-there x counts counts′ same-last same-source it = record {
+      k = it .k;
+      early = omega (arith, it .early);
+      last-is = same-last ∙ it .last-is;
+      marked = λ p passes. more-f p (it .marked p (rw same-source at passes));
+      observed = λ some. rw same-source (more-o _ (it .observed (rw same-source at some)));
+    }
+
+    pub loads-later :
+        (m v : Marks) → ((i : ℕ) → 128 ≤ i → i < 640 → countIn (v .counts) i ≡ countIn (m .counts) i)
+        → Loads ev n F O m → Loads ev k G P v
+    loads-later m v same loads x there =
+        noted-there x (m .counts) (v .counts) (same (lastCell x) (omega arith) (omega arith))
+        (same (sourceCell x) (omega arith) (omega arith)) (loads x there)
+
+  -- ---- load k, which counts as of event n
+
+  module _
+      (n k : ℕ) (accepted : Accepted ev (suc n)) (not-later : k ≤ n) (x-there : location ev k < 256) (F O : ℕ → Bool)
+      (m : Marks) (loads : Loads ev (suc n) F O m) where
     abbrev x : ℕ
-    x = location ev n
+    x = location ev k
 
     abbrev s : ℕ
-    s = source ev n
+    s = source ev k
 
-    x-there : x < 256
-    x-there =
-        location-bound ev (suc n) accepted n (omega arith) (load-has-location ev (counted-crosses ev n counts .loads))
+    abbrev h : ℕ
+    h = headOf (chain ev k)
 
-    module _ (m : Marks) (h : ℕ) (is-head : h ≡ headOf (landed ev n x)) (loads : Loads ev n m) where
-      -- a load that repeats the one noted
-      pub repeats-noted : repeated (m .counts) h x s ≡ true → Repeats ev n
-      repeats-noted again = record {
-        counts = counts;
-        marked = λ p passes. it .marked p (rw (same-source, chain) passes);
-        observed = λ some. rw same-source at (it .observed (rw same-source some));
-      }
-        where
-          both-hold :
-              (eqb (countIn (m .counts) (lastCell x)) h ≡ true) × (eqb (countIn (m .counts) (sourceCell x)) s ≡ true)
-          both-hold = parts (eqb (countIn (m .counts) (lastCell x)) h) _ again
+    -- a load that repeats the one noted finds what it forbids marked, and its source observed
+    pub record Again : Type 0 where
+      pub marked : (p : ℕ) → chained ev k p ≡ true → F p ≡ true
+      pub observed : source ev k ≢ 0 → O (source ev k) ≡ true
 
-          same-source : countIn (m .counts) (sourceCell x) ≡ s
-          same-source = eqb-true _ _ (both-hold .1)
+    pub repeats-noted : repeated (m .counts) (headOf (chain ev k)) (location ev k) (source ev k) ≡ true → Again
+    repeats-noted again = record {
+      marked = λ p passes. it .marked p (rw (same-source, same-list) passes);
+      observed = λ some. rw same-source at (it .observed (rw same-source some));
+    }
+      where
+        both-hold :
+            (eqb (countIn (m .counts) (lastCell x)) h ≡ true) × (eqb (countIn (m .counts) (sourceCell x)) s ≡ true)
+        both-hold = parts (eqb (countIn (m .counts) (lastCell x)) h) _ again
 
-          it : Noted ev n x (m .counts)
-          it = loads x x-there
+        same-source : countIn (m .counts) (sourceCell x) ≡ s
+        same-source = eqb-true _ _ (both-hold .1)
 
-          chain : landed ev (it .k) x ≡ landed ev n x
-          chain =
-              same-chain ev (suc n) (it .k) n x accepted (it .early) (omega arith)
-              (sym (it .last-is) ∙ (eqb-true _ _ (both-hold .0) ∙ is-head))
+        it : Noted ev (suc n) x F O (m .counts)
+        it = loads x x-there
 
-      -- the load is noted
-      pub noted-loads :
-          (e : ℕ) (breaks : Bool) → length (m .counts) ≡ 648
-          → Loads ev (suc n) (marksOf (noted (m .counts) h x s e breaks) (m .flags))
-      noted-loads e breaks size y there = by-location (same? y x)
-        where
-          after : List ℕ
-          after = noted (m .counts) h x s e breaks
+        same-head : headOf (landed ev (it .k) x) ≡ headOf (landed ev k x)
+        same-head = sym (it .last-is) ∙ eqb-true _ _ (both-hold .0)
 
-          source-is : countIn after (sourceCell x) ≡ s
-          source-is = noted-source (m .counts) h x s e breaks size
+        -- the load noted can have come before it or after it
+        same-list : landed ev (it .k) x ≡ landed ev k x
+        same-list = by-order (less? k (it .k))
+          where
+            by-order : (k < it .k) ⊎ (it .k ≤ k) → landed ev (it .k) x ≡ landed ev k x
+            by-order (inr earlier) =
+                same-chain ev (suc n) (it .k) k x accepted earlier (omega arith) same-head
+            by-order (inl later) =
+                sym (same-chain ev (suc n) k (it .k) x accepted (omega arith) (it .early) (sym same-head))
 
-          marks : (p : ℕ) → passed s p (landed ev n x) ≡ true → marked? ev (suc n) p ≡ true
-          marks p passes = sym (load-marks ev (suc n) accepted n (omega arith) counts p) ∙ or-left _ _ passes
+    -- the load is noted, among the loads that are judged with it
+    pub noted-loads :
+        (e : ℕ) → length (m .counts) ≡ 648
+        → Loads ev (suc n) (alsoMarks ev k F) (alsoSees ev k O)
+        (marksOf (noted (m .counts) (headOf (chain ev k)) (location ev k) (source ev k) e false) (m .flags))
+    noted-loads e size y there = by-location (same? y x)
+      where
+        after : List ℕ
+        after = noted (m .counts) h x s e false
 
-          observes : s ≢ 0 → observed? ev (suc n) s ≡ true
-          observes some =
-              →observed ev (suc n) s (n, omega arith, record { here = counts; from = refl; some-store = some })
+        source-is : countIn after (sourceCell x) ≡ s
+        source-is = noted-source (m .counts) h x s e false size
 
-          by-location : (y ≡ x) ⊎ (y ≢ x) → Noted ev (suc n) y after
-          by-location (inl is-x) = rw is-x (record {
-            k = n;
-            early = omega arith;
-            last-is = noted-last (m .counts) h x s e breaks size ∙ is-head;
-            marked = λ p passes. marks p (rw source-is at passes);
-            observed = λ some. rw source-is (observes (rw source-is at some));
-          })
-          by-location (inr differs) =
-              noted-later n (suc n) y (m .counts) after (omega arith)
-              (leaves (lastCell y) (omega arith) (omega (arith, x-there)) (omega arith))
-              (leaves (sourceCell y) (omega arith) (omega arith) (omega (arith, x-there))) (loads y there)
-            where
-              leaves :
-                  (i : ℕ) → i < 640 → i ≢ lastCell x → i ≢ sourceCell x → countIn after i ≡ countIn (m .counts) i
-              leaves i below not-last not-source =
-                  noted-leaves (m .counts) h x s e breaks i not-last not-source (λ same. omega arith)
+        observes : s ≢ 0 → alsoSees ev k O s ≡ true
+        observes some = or-left _ _ (→observes ev k s (record { from = refl; some-store = some }))
+
+        by-location : (y ≡ x) ⊎ (y ≢ x) → Noted ev (suc n) y (alsoMarks ev k F) (alsoSees ev k O) after
+        by-location (inl is-x) = rw is-x (record {
+          k = k;
+          early = omega arith;
+          last-is = noted-last (m .counts) h x s e false size;
+          marked = λ p passes. or-left _ _ (rw source-is at passes);
+          observed = λ some. rw source-is (observes (rw source-is at some));
+        })
+        by-location (inr differs) =
+            noted-there (suc n) (suc n) F (alsoMarks ev k F) O (alsoSees ev k O) (omega arith)
+            (λ p in-f. or-right (chained ev k p) _ in-f) (λ q in-o. or-right (observes? ev k q) _ in-o)
+            y (m .counts) after (leaves (lastCell y) (omega arith) (omega (arith, x-there)) (omega arith))
+            (leaves (sourceCell y) (omega arith) (omega arith) (omega (arith, x-there))) (loads y there)
+          where
+            leaves : (i : ℕ) → i < 640 → i ≢ lastCell x → i ≢ sourceCell x → countIn after i ≡ countIn (m .counts) i
+            leaves i below not-last not-source =
+                noted-leaves (m .counts) h x s e false i not-last not-source (λ same. omega arith)

@@ -29,6 +29,11 @@ abbrev pub AllFit : (ℕ → Event) → ℕ → List ℕ → Type 0
 AllFit ev n [] = Unit
 AllFit ev n (p ∷ ps) = Fit ev n p × AllFit ev n ps
 
+pub regroup : (a b c : Bool) → (b || (a || c)) ≡ ((a || b) || c)
+regroup true true c = refl
+regroup true false c = refl
+regroup false b c = refl
+
 module _ (ev : ℕ → Event) (O : ℕ → Bool) (C : Choice) (s : ℕ) where
   -- ---- what a walk along a list of stores does
 
@@ -68,11 +73,6 @@ module _ (ev : ℕ → Event) (O : ℕ → Bool) (C : Choice) (s : ℕ) where
       where
         goes-on : eqb q s ≡ false
         goes-on = ne-eqb q s differs
-
-        regroup : (a b c : Bool) → (b || (a || c)) ≡ ((a || b) || c)
-        regroup true true c = refl
-        regroup true false c = refl
-        regroup false b c = refl
 
         found-by :
             (here ≡ true) ⊎ (further ≡ true) → (p : ℕ) × ((eqb q p || passed s p ps) ≡ true) × In ev C p

@@ -48,22 +48,22 @@ module _ (ev : ℕ → Event) where
   Judging n m = Says (marked? ev n) (observed? ev n) (closure ev n) m
 
   -- the load noted at location x: the head of the location's chain when k events had been, and a source. What stands in
-  -- that chain before the source is marked, and the source is observed.
-  pub record Noted (n x : ℕ) (counts : List ℕ) : Type 0 where
+  -- that chain before the source is in F, and the source is in O.
+  pub record Noted (n x : ℕ) (F O : ℕ → Bool) (counts : List ℕ) : Type 0 where
     pub k : ℕ
     pub early : k ≤ n
     pub last-is : countIn counts (lastCell x) ≡ headOf (landed ev k x)
-    pub marked : (p : ℕ) → passed (countIn counts (sourceCell x)) p (landed ev k x) ≡ true → marked? ev n p ≡ true
-    pub observed : countIn counts (sourceCell x) ≢ 0 → observed? ev n (countIn counts (sourceCell x)) ≡ true
+    pub marked : (p : ℕ) → passed (countIn counts (sourceCell x)) p (landed ev k x) ≡ true → F p ≡ true
+    pub observed : countIn counts (sourceCell x) ≢ 0 → O (countIn counts (sourceCell x)) ≡ true
 
-  abbrev pub Loads : ℕ → Marks → Type 0
-  Loads n m = (x : ℕ) → x < 256 → Noted n x (m .counts)
+  abbrev pub Loads : ℕ → (ℕ → Bool) → (ℕ → Bool) → Marks → Type 0
+  Loads n F O m = (x : ℕ) → x < 256 → Noted n x F O (m .counts)
 
   -- while no pair is found
   pub record Good (n : ℕ) (m : Marks) : Type 0 where
     pub judging : Judging n m
     pub no-pair : bad? ev n ≡ false
-    pub loads : Loads n m
+    pub loads : Loads n (marked? ev n) (observed? ev n) m
 
   -- behind the first load that breaks
   pub record Broke (load : ℕ) (m : Marks) : Type 0 where

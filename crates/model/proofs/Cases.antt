@@ -8,9 +8,9 @@ use Rattle.record.specs.declared.events.Event.{Event}
 use Rattle.record.specs.declared.events.Event.the-variants.{Begin, Issue, Commit, Load, Crash, SkipOn}
 use Rattle.record.specs.Events.{recordOf}
 use Rattle.record.specs.Table.{rowOf}
-use Rattle.model.specs.Search.{some, last, first, firstFrom, most}
+use Rattle.model.specs.Search.{some, any, last, first, firstFrom, most}
 use Rattle.model.specs.Trace.{stretch, count}
-use Rattle.model.specs.Machine.{committed, commitOf, waiting, current, sourceFits, skipping, counted}
+use Rattle.model.specs.Machine.{committed, commitOf, waiting, current, sourceFits, switched, counted, counting}
 use Rattle.model.specs.Rules.{answer, rules}
 use Rattle.model.specs.Choice.{finished}
 use Rattle.model.specs.Clocks.{seen, clock, vc}
@@ -150,8 +150,8 @@ written = refl
 
 computed : map judgedEvents traces ≡ answers
 unfolding traces answers readingEvents some last first firstFrom most stretch count committed commitOf waiting current
-    sourceFits skipping counted answer rules finished seen clock vc forbids? observes? forbidden? observed? pair?
-    missing? bad? closure loadOf missingOf observedOf rulingOf tabulate cutOf sum shareOf rowOf
+    sourceFits switched counted counting any answer rules finished seen clock vc forbids? observes? forbidden?
+    observed? pair? missing? bad? closure loadOf missingOf observedOf rulingOf tabulate cutOf sum shareOf rowOf
 computed = refl
 
 pub cases-1-to-11 : map judged sessions ≡ answers

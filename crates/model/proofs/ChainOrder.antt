@@ -2,30 +2,31 @@
 -- of the load's location before its source. The chain, `landed` of specs/Stores.antt, has the location's committed
 -- stores, newest first; a load whose location has no commit in its stretch finds there stores of earlier stretches
 -- only.
--- In order: the steps of a chain; standing before a store in it; the stores of a crossing load's chain; the theorem
--- `forbids-is-passed`, and what a counted load marks.
+-- In order: the steps of a chain; a chain by its head; standing before a store in it; the stores of a crossing load's
+-- chain; the theorem `forbids-is-passed`; what an event marks, `event-marks`.
 use Prim.Native.Nat.{ℕ, zero, suc, _≤_, _<_}
 use native.Mathlib.Omega.{arith}
-use mathlib.Core.Path.{_≡_, refl, sym, _∙_}
+use mathlib.Core.Path.{_≡_, refl, sym, _∙_, ap}
 use mathlib.Core.Bool.{Bool, true, false, cond, _&&_, _||_, not}
 use mathlib.Core.Logic.{_⊎_, inl, inr, _≢_}
-use mathlib.Core.List.{_∷_}
+use mathlib.Core.List.{List, [], _∷_}
 use lib.ListN.{length}
 use lib.Dec.{eqb}
 use borrow.Author.Tests.{eqb-true, eqb-false, eq-eqb, ne-eqb, ltb-true, lt-ltb, not-true}
 use Rattle.record.specs.declared.events.Event.{Event}
-use Rattle.model.specs.Search.{last}
-use Rattle.model.specs.Trace.{thread, location, source, commit?, Commit, stretch, commits}
-use Rattle.model.specs.Machine.{committed, commitsHere, current, counted, commitOf}
-use Rattle.model.specs.Stores.{passed, landsAt, landed, committed?, marked?}
+use Rattle.model.specs.Search.{any, last}
+use Rattle.model.specs.Trace.{thread, location, source, commit?, Commit, stretch, count}
+use Rattle.model.specs.Machine.{committed, commitsHere, current, counted, counting, counts, commitOf}
+use Rattle.model.specs.Stores.{headOf, passed, landsAt, landed, committed?, marked?}
 use Rattle.model.specs.Rules.{Accepted}
 use Rattle.model.specs.Choice.{Newer, Forbids}
 use Rattle.model.specs.Verdict.{forbids?}
 use Rattle.model.proofs.Searching.{false-true, test, same?, less?, both, parts, or-cases, or-left, or-right}
-use Rattle.model.proofs.Searching.{same-test, last-is}
+use Rattle.model.proofs.Searching.{same-test, last-is, any-same, any-and}
 use Rattle.model.proofs.StorePlaces.{last-most}
-use Rattle.model.proofs.Counting.{stretch-mono, count-skip}
-use Rattle.model.proofs.Roles.{load-no-commit}
+use Rattle.model.proofs.Unchanged.{count-away, Lacks, landed-once}
+use Rattle.model.proofs.Counting.{stretch-mono}
+use Rattle.model.proofs.CountedLoads.{counts-as-of}
 use Rattle.model.proofs.Acceptance.{store-not-0, counted-crosses, counted-source}
 use Rattle.model.proofs.Committed.{Committed, CommitOf, commit-of, is-commit-of, has-commit}
 use Rattle.model.proofs.Effects.{Effect, effect, effect-is, effect-commit, commit-effect}
@@ -45,6 +46,39 @@ module _ (ev : ℕ → Event) where
           → length (cond b (committed ev n ∷ landed ev n x) (landed ev n x)) ≤ suc n
       by-test true earlier = omega arith
       by-test false earlier = omega arith
+
+  -- ---- a chain by its head: a store is committed once, so the chain is the same while its head is
+
+  not-its-head : (p : ℕ) (ps : List ℕ) → p ≢ 0 → Lacks ev p ps → headOf ps ≢ p
+  not-its-head p [] some lacks is-p = some (sym is-p)
+  not-its-head p (q ∷ qs) some lacks is-p = lacks .0 is-p
+
+  pub same-chain :
+      (N m n x : ℕ) → Accepted ev N → m ≤ n → n ≤ N → headOf (landed ev m x) ≡ headOf (landed ev n x)
+      → landed ev m x ≡ landed ev n x
+  unfolding landed
+  same-chain N m zero x accepted early within same =
+      let none : m ≡ 0 = omega arith in ap (λ (k : ℕ). landed ev k x) none
+  same-chain N m (suc n) x accepted early within same =
+      by-event (same? m (suc n)) (test (landsAt ev x n)) (same-chain N m n x accepted) same
+    where
+      -- the store that event n commits is not in the earlier chain
+      new-head : m ≤ n → landsAt ev x n ≡ true → headOf (landed ev m x) ≢ committed ev n
+      new-head before lands =
+          let commits : Commit ev n = record { test = parts (commit? ev n) _ lands .0 } in
+          let store = effect ev N n accepted (omega arith) commits .own .store in
+          not-its-head (committed ev n) (landed ev m x) (store-not-0 ev N accepted store)
+          (landed-once ev N n accepted (omega arith) commits m x before)
+
+      by-event :
+          (m ≡ suc n) ⊎ (m ≢ suc n) → (landsAt ev x n ≡ true) ⊎ (landsAt ev x n ≡ false)
+          → (m ≤ n → n ≤ N → headOf (landed ev m x) ≡ headOf (landed ev n x) → landed ev m x ≡ landed ev n x)
+          → headOf (landed ev m x) ≡ headOf (landed ev (suc n) x) → landed ev m x ≡ landed ev (suc n) x
+      by-event (inl is-it) lands before same = ap (λ (k : ℕ). landed ev k x) is-it
+      by-event (inr differs) (inr fails) before same =
+          rw fails (before (omega arith) (omega arith) (rw fails at same))
+      by-event (inr differs) (inl lands) before same =
+          absurd (new-head (omega arith) lands (rw lands at same))
 
   -- ---- standing before a store in a chain
 
@@ -172,7 +206,7 @@ module _ (ev : ℕ → Event) where
     -- ---- the stores of a crossing load's chain
 
     -- the load rule's second case fails: no commit of the stretch is at the location
-    none-here :
+    pub none-here :
         (n c p : ℕ) → n ≤ N → current ev n ≡ 0 → c < n → Commit ev c → Effect ev c p
         → location ev p ≡ location ev n → stretch ev p ≢ stretch ev n
     unfolding current
@@ -317,18 +351,60 @@ module _ (ev : ℕ → Event) where
 
               forbids : Forbids ev n p
               forbids = record {
-                here = counts;
                 store = it .effects .own .store;
                 to-it = it .there;
                 earlier = chain-earlier (it .c) p (it .early) (it .commits) (it .effects) (it .there);
                 newer = passed-is-newer p it;
               }
 
-      -- so what the load marks is what stands there before its source
-      pub load-marks :
-          (p : ℕ)
-          → (passed (source ev n) p (landed ev n (location ev n)) || marked? ev n p) ≡ marked? ev (suc n) p
-      load-marks p =
-          let no-commit = load-no-commit ev (counted-crosses ev n counts .loads) in
-          let same-commits = count-skip ev (commit? ev) n (stretch ev p) (thread ev p) no-commit in
-          rw (← forbids-is-passed p, marked-step ev n p, same-commits) refl
+    -- ---- what an event marks
+
+    -- of a stretch that is over, nothing more is committed
+    count-over :
+        (f : ℕ → Bool) (l n j t : ℕ) → l ≤ n → j < stretch ev l → count ev f n j t ≡ count ev f l j t
+    count-over f l zero j t within over = let none : l ≡ 0 = omega arith in rw none refl
+    count-over f l (suc n) j t within over = by-last (same? l (suc n)) (count-over f l n j t)
+      where
+        by-last :
+            (l ≡ suc n) ⊎ (l ≢ suc n) → (l ≤ n → j < stretch ev l → count ev f n j t ≡ count ev f l j t)
+            → count ev f (suc n) j t ≡ count ev f l j t
+        by-last (inl is-it) earlier = rw is-it refl
+        by-last (inr differs) earlier =
+            let elsewhere : stretch ev n ≢ j = λ same. omega (arith, stretch-mono ev l n (omega arith)) in
+            count-away ev f n j t (λ _ same _. elsewhere same) ∙ earlier (omega arith) over
+
+    -- what a load forbids of the stores that are committed later on was committed when it came
+    forbids-then :
+        (l n p : ℕ) → l ≤ n
+        → (forbids? ev l p && committed? ev n p) ≡ (forbids? ev l p && committed? ev l p)
+    forbids-then l n p within = by-test (test (forbids? ev l p))
+      where
+        by-test :
+            (forbids? ev l p ≡ true) ⊎ (forbids? ev l p ≡ false)
+            → (forbids? ev l p && committed? ev n p) ≡ (forbids? ev l p && committed? ev l p)
+        by-test (inr fails) = rw fails refl
+        by-test (inl passes) =
+            let earlier = forbids→ ev l p passes .earlier in
+            rw (count-over (commit? ev) l n (stretch ev p) (thread ev p) within earlier) refl
+
+    -- so what an event marks is what stands in the chains of the loads that count as of it, before their sources. The
+    -- chain of a load is the one that it found
+    pub event-marks :
+        (n p : ℕ) → n < N
+        → (any (λ l. passed (source ev l) p (landed ev l (location ev l))) (counting ev n) || marked? ev n p)
+        ≡ marked? ev (suc n) p
+    event-marks n p inside =
+        rw (
+          marked-step ev n p,
+          any-and (λ l. forbids? ev l p) (counting ev n) (committed? ev n p),
+          any-same (λ l. forbids? ev l p && committed? ev n p)
+              (λ l. passed (source ev l) p (landed ev l (location ev l))) (counting ev n) each,
+        ) refl
+      where
+        each :
+            (l : ℕ) → counts ev n l ≡ true
+            → (forbids? ev l p && committed? ev n p) ≡ passed (source ev l) p (landed ev l (location ev l))
+        each l here =
+            let it = counts-as-of ev n l here in
+            forbids-then l n p (it .not-later)
+            ∙ forbids-is-passed l (omega (arith, it .not-later)) (it .is-counted) p

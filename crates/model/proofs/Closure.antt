@@ -11,19 +11,21 @@ use lib.Dec.{eqb}
 use borrow.Author.Tests.{eqb-true, eqb-false, eq-eqb, ne-eqb, lt-ltb, not-true}
 use Rattle.record.specs.declared.events.Event.{Event}
 use Rattle.model.specs.Trace.{thread, source, commit?, Issue, stretch, commits, place}
-use Rattle.model.specs.Machine.{counted}
+use Rattle.model.specs.Search.{any}
+use Rattle.model.specs.Machine.{counting}
 use Rattle.model.specs.Rules.{Accepted}
 use Rattle.model.specs.HappensBefore.{Before, AtOrBefore}
 use Rattle.model.specs.Choice.{Choice, In, finished, Closed, Observes, Observed, Forbidden, Explains}
 use Rattle.model.specs.Choice.{Robust, Pair}
 use Rattle.model.specs.Clocks.{vc}
 use Rattle.model.specs.Verdict.{observes?, observed?, asks, closure}
-use Rattle.model.proofs.Searching.{test, less?, both, parts, eqb-same, some→, →some, most→, →most}
+use Rattle.model.proofs.Searching.{test, less?, both, parts, eqb-same, some→, →some, any→, →any, most→, →most}
 use Rattle.model.proofs.Counting.{stretch-mono, earlier-stretch, count-mono}
 use Rattle.model.proofs.Ordering.{before-first, before-last, before-stretch, before-trans}
 use Rattle.model.proofs.Clocks.{clock-is-happens-before, ClockPlace, clock-place}
 use Rattle.model.proofs.Acceptance.{FromPast, counted-source}
 use Rattle.model.proofs.Committed.{Committed, before-committed}
+use Rattle.model.proofs.CountedLoads.{counted-early, counted-load}
 
 module _ (ev : ℕ → Event) where
   pub same-stretch : (p q : ℕ) → AtOrBefore ev p q → stretch ev p ≡ stretch ev q
@@ -35,27 +37,28 @@ module _ (ev : ℕ → Event) where
   pub observes→ : (l q : ℕ) → observes? ev l q ≡ true → Observes ev l q
   unfolding observes?
   observes→ l q passes =
-      let outer = parts (counted ev l && eqb (source ev l) q) _ passes in
-      let inner = parts (counted ev l) _ (outer .0) in
+      let outer = parts (eqb (source ev l) q) _ passes in
       record {
-        here = inner .0;
-        from = eqb-true _ _ (inner .1);
+        from = eqb-true _ _ (outer .0);
         some-store = eqb-false q 0 (not-true _ (outer .1));
       }
 
-  →observes : (l q : ℕ) → Observes ev l q → observes? ev l q ≡ true
+  pub →observes : (l q : ℕ) → Observes ev l q → observes? ev l q ≡ true
   unfolding observes?
-  →observes l q it = both _ _ (both _ _ (it .here) (eq-eqb _ _ (it .from))) (rw (ne-eqb q 0 (it .some-store)))
+  →observes l q it = both _ _ (eq-eqb _ _ (it .from)) (rw (ne-eqb q 0 (it .some-store)))
 
   pub observed→ : (N q : ℕ) → observed? ev N q ≡ true → Observed ev N q
   unfolding observed?
   observed→ N q passes =
-      let found = some→ N (λ l. observes? ev l q) passes in
-      (found .0, found .1, observes→ (found .0) q (found .2))
+      let (e, inside, counted) = some→ N (λ e. any (λ l. observes? ev l q) (counting ev e)) passes in
+      let (l, here, it) = any→ (λ l. observes? ev l q) (counting ev e) counted in
+      (l, record { as-of = e; inside = inside; here = here }, observes→ l q it)
 
   pub →observed : (N q : ℕ) → Observed ev N q → observed? ev N q ≡ true
   unfolding observed?
-  →observed N q (l, inside, it) = →some N (λ l. observes? ev l q) l inside (→observes l q it)
+  →observed N q (l, counts, it) =
+      →some N (λ e. any (λ l. observes? ev l q) (counting ev e)) (counts .as-of) (counts .inside)
+      (→any (λ l. observes? ev l q) (counting ev (counts .as-of)) l (counts .here) (→observes l q it))
 
   -- ---- an observed store is committed in a finished stretch
 
@@ -66,9 +69,11 @@ module _ (ev : ℕ → Event) where
     pub committed : Committed ev N s
 
   pub observed-is-kept : (N : ℕ) → Accepted ev N → (s : ℕ) → Observed ev N s → Kept N s
-  observed-is-kept N accepted s (l, inside, it) =
+  observed-is-kept N accepted s (l, counts, it) =
+      let inside : l < N = counted-early ev N l counts in
+      let heeds = counted-load ev N l counts in
       let from : FromPast ev l s =
-      rw (it .from) at (counted-source ev N accepted l inside (it .here) (rw (it .from) (it .some-store)))
+      rw (it .from) at (counted-source ev N accepted l inside heeds (rw (it .from) (it .some-store)))
       in
       let j = stretch ev s in
       let no-fewer = count-mono ev (commit? ev) l N j (thread ev s) (omega arith) in

@@ -7,18 +7,21 @@ use Prim.Native.Nat.{ℕ, zero, suc, _≤_, _<_}
 use native.Mathlib.Omega.{arith}
 use mathlib.Core.Path.{_≡_, sym, _∙_, ap, fun-ext}
 use mathlib.Core.Bool.{true, false}
-use mathlib.Core.Logic.{_⊎_, inl, inr, _≢_}
+use mathlib.Core.Logic.{_⊎_, inl, inr}
+use mathlib.Core.List.{[]}
 use borrow.Author.Tests.{lt-ltb, le-ltb}
 use Rattle.record.specs.declared.events.Event.{Event}
 use Rattle.model.specs.Trace.{commit?, stretch}
-use Rattle.model.specs.Machine.{counted}
+use Rattle.model.specs.Search.{any}
+use Rattle.model.specs.Machine.{counted, counting, counts}
 use Rattle.model.specs.Rules.{Accepted}
-use Rattle.model.specs.Choice.{Ruling, robust, broken, finished, ExplainsLoad, Robust, Least}
+use Rattle.model.specs.Choice.{Ruling, robust, broken, finished, Counted, ExplainsLoad, Robust, Least}
 use Rattle.model.specs.Choice.{Pair, Broken, Exact}
 use Rattle.model.specs.Verdict.{pair?, missing?, bad?, closure, loadOf, missingOf, observedOf, rulingOf}
-use Rattle.model.proofs.Searching.{false-true, test, same?, less?, →some, First, first-is}
+use Rattle.model.proofs.Searching.{false-true, test, less?, →some, First, first-is}
 use Rattle.model.proofs.Counting.{stretch-mono, count-mono}
 use Rattle.model.proofs.Acceptance.{prefix}
+use Rattle.model.proofs.CountedLoads.{counted-later, counted-step}
 use Rattle.model.proofs.Closure.{closure-explains, closure-least, pair-leaves-none}
 use Rattle.model.proofs.Pairs.{pair→, →pair, →missing, bad→, →bad}
 
@@ -42,7 +45,7 @@ module _ (ev : ℕ → Event) where
     record {
       fits = λ j t. omega arith;
       closed = λ p q before inside. absurd (omega arith);
-      loads = λ l inside. absurd (omega arith);
+      loads = λ l counts. absurd (omega (arith, counts .inside));
     },
   )
 
@@ -182,13 +185,13 @@ module _ (ev : ℕ → Event) where
 
   -- ---- more events mend nothing
 
-  wider-pair : (N M p q : ℕ) → N ≤ M → Pair ev N p q → Pair ev M p q
+  pub wider-pair : (N M p q : ℕ) → N ≤ M → Pair ev N p q → Pair ev M p q
   wider-pair N M p q within pair =
-      let (l, l-inside, forbids) = pair .missing in
-      let (load, load-inside, observes) = pair .observed in
+      let (l, l-counts, forbids) = pair .missing in
+      let (k, k-counts, observes) = pair .observed in
       record {
-        missing = (l, omega arith, forbids);
-        observed = (load, omega arith, observes);
+        missing = (l, counted-later ev N M l within l-counts, forbids);
+        observed = (k, counted-later ev N M k within k-counts, observes);
         order = pair .order;
       }
 
@@ -212,31 +215,27 @@ module _ (ev : ℕ → Event) where
           rw (lt-ltb j (stretch ev N) done, lt-ltb j (stretch ev (suc N)) still)
           (count-mono ev (commit? ev) N (suc N) j t (omega arith))
 
-  -- a choice serves one event more, if that is no counted load
-  uncounted-adds-nothing : (n : ℕ) → counted ev n ≡ false → Robust ev n → Robust ev (suc n)
-  uncounted-adds-nothing n uncounted (c, explains) = (
+  -- a choice serves one event more, if no load counts as of it
+  uncounted-adds-nothing : (n : ℕ) → counting ev n ≡ [] → Robust ev n → Robust ev (suc n)
+  unfolding any
+  uncounted-adds-nothing n none (c, explains) = (
     c,
     record {
       fits = λ j t. omega (arith, explains .fits j t, finished-mono n j t);
       closed = explains .closed;
-      loads = λ l within. by-last l within (same? l n);
+      loads = λ l counts. by-last l (counted-step ev n l counts);
     },
   )
     where
-      by-last : (l : ℕ) → l < suc n → (l ≡ n) ⊎ (l ≢ n) → ExplainsLoad ev c l
-      by-last l within (inr differs) = explains .loads l (omega arith)
-      by-last l within (inl is-n) = record {
-        observed-in = λ s it. not-counted (it .here);
-        forbidden-out = λ p it inside. not-counted (it .here);
-      }
-        where
-          not-counted : {A : Type 0} → counted ev l ≡ true → A
-          not-counted counts = false-true (sym uncounted ∙ rw is-n at counts)
+      by-last : (l : ℕ) → (counts ev n l ≡ true) ⊎ Counted ev n l → ExplainsLoad ev c l
+      by-last l (inr before) = explains .loads l before
+      by-last l (inl now) = false-true (rw none at now)
 
   pub named-load-counts : {N load missing observed : ℕ} → Broken ev N load missing observed → counted ev load ≡ true
+  unfolding counting
   named-load-counts {N} {load} it = by-test (test (counted ev load))
     where
       by-test : (counted ev load ≡ true) ⊎ (counted ev load ≡ false) → counted ev load ≡ true
       by-test (inl counts) = counts
-      by-test (inr uncounted) =
-          absurd (it .none-yet (uncounted-adds-nothing load uncounted (it .first load (omega arith))))
+      by-test (inr fails) =
+          absurd (it .none-yet (uncounted-adds-nothing load (rw fails) (it .first load (omega arith))))

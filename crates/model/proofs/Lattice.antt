@@ -8,7 +8,7 @@ use mathlib.Core.Logic.{_⊎_, inl, inr, _↔_}
 use Rattle.record.specs.declared.events.Event.{Event}
 use Rattle.model.specs.Trace.{thread, Issue, stretch, place}
 use Rattle.model.specs.HappensBefore.{Before, AtOrBefore}
-use Rattle.model.specs.Choice.{Choice, In, Closed, Forbids, Explains}
+use Rattle.model.specs.Choice.{Choice, In, Closed, Counted, Forbids, Explains}
 use Rattle.model.specs.Clocks.{vc}
 use Rattle.model.proofs.Searching.{less?}
 use Rattle.model.proofs.Ordering.{before-first, before-last, before-stretch}
@@ -59,7 +59,7 @@ module _ (ev : ℕ → Event) where
         closed p q before (inl in-c) = omega (arith, by-c .closed p q before in-c)
         closed p q before (inr in-d) = omega (arith, by-d .closed p q before in-d)
 
-        forbidden-out : (l : ℕ) → l < N → (p : ℕ) → Forbids ev l p → In ev c p ⊎ In ev d p → ⊥
+        forbidden-out : (l : ℕ) → Counted ev N l → (p : ℕ) → Forbids ev l p → In ev c p ⊎ In ev d p → ⊥
         forbidden-out l inside p it (inl in-c) = by-c .loads l inside .forbidden-out p it in-c
         forbidden-out l inside p it (inr in-d) = by-d .loads l inside .forbidden-out p it in-d
 

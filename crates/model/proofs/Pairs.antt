@@ -11,14 +11,16 @@ use lib.Dec.{eqb, ltb}
 use borrow.Author.Tests.{eqb-true, eq-eqb, ltb-true, lt-ltb}
 use Rattle.record.specs.declared.events.Event.{Event}
 use Rattle.model.specs.Trace.{thread, location, source, issue?, stretch, place}
-use Rattle.model.specs.Machine.{counted, commitOf}
+use Rattle.model.specs.Search.{any}
+use Rattle.model.specs.Machine.{counting, commitOf}
 use Rattle.model.specs.Rules.{Accepted}
 use Rattle.model.specs.Choice.{Newer, Forbids, Observed, Forbidden, Pair}
 use Rattle.model.specs.Clocks.{vc}
 use Rattle.model.specs.Verdict.{newer?, forbids?, forbidden?, observed?, pair?, missing?, bad?}
-use Rattle.model.proofs.Searching.{both, parts, or-cases, or-left, or-right, some→, →some}
+use Rattle.model.proofs.Searching.{both, parts, or-cases, or-left, or-right, some→, →some, any→, →any}
 use Rattle.model.proofs.Counting.{earlier-stretch}
 use Rattle.model.proofs.Clocks.{clock-is-happens-before}
+use Rattle.model.proofs.CountedLoads.{counted-early}
 use Rattle.model.proofs.Closure.{same-stretch, observed→, →observed, observed-is-kept}
 
 module _ (ev : ℕ → Event) where
@@ -55,14 +57,12 @@ module _ (ev : ℕ → Event) where
   pub forbids→ : (l p : ℕ) → forbids? ev l p ≡ true → Forbids ev l p
   unfolding forbids?
   forbids→ l p passes =
-      let to-it = counted ev l && issue? ev p && eqb (location ev p) (location ev l) in
+      let to-it = issue? ev p && eqb (location ev p) (location ev l) in
       let with-newer = parts (to-it && ltb (stretch ev p) (stretch ev l)) (newer? ev l p) passes in
       let with-earlier = parts to-it _ (with-newer .0) in
-      let with-location = parts (counted ev l && issue? ev p) _ (with-earlier .0) in
-      let with-store = parts (counted ev l) _ (with-location .0) in
+      let with-location = parts (issue? ev p) _ (with-earlier .0) in
       record {
-        here = with-store .0;
-        store = record { test = with-store .1 };
+        store = record { test = with-location .0 };
         to-it = eqb-true _ _ (with-location .1);
         earlier = ltb-true _ _ (with-earlier .1);
         newer = newer→ l p (with-newer .1);
@@ -70,11 +70,8 @@ module _ (ev : ℕ → Event) where
 
   pub →forbids : (l p : ℕ) → Forbids ev l p → forbids? ev l p ≡ true
   unfolding forbids?
-  →forbids l p it = both _ _ (both _ _ (both _ _ counted-store to-it) earlier) (→newer l p (it .newer))
+  →forbids l p it = both _ _ (both _ _ (both _ _ (it .store .test) to-it) earlier) (→newer l p (it .newer))
     where
-      counted-store : (counted ev l && issue? ev p) ≡ true
-      counted-store = both _ _ (it .here) (it .store .test)
-
       to-it : eqb (location ev p) (location ev l) ≡ true
       to-it = eq-eqb _ _ (it .to-it)
 
@@ -84,12 +81,15 @@ module _ (ev : ℕ → Event) where
   pub forbidden→ : (N p : ℕ) → forbidden? ev N p ≡ true → Forbidden ev N p
   unfolding forbidden?
   forbidden→ N p passes =
-      let found = some→ N (λ l. forbids? ev l p) passes in
-      (found .0, found .1, forbids→ (found .0) p (found .2))
+      let (e, inside, counted) = some→ N (λ e. any (λ l. forbids? ev l p) (counting ev e)) passes in
+      let (l, here, it) = any→ (λ l. forbids? ev l p) (counting ev e) counted in
+      (l, record { as-of = e; inside = inside; here = here }, forbids→ l p it)
 
   pub →forbidden : (N p : ℕ) → Forbidden ev N p → forbidden? ev N p ≡ true
   unfolding forbidden?
-  →forbidden N p (l, inside, it) = →some N (λ l. forbids? ev l p) l inside (→forbids l p it)
+  →forbidden N p (l, counts, it) =
+      →some N (λ e. any (λ l. forbids? ev l p) (counting ev e)) (counts .as-of) (counts .inside)
+      (→any (λ l. forbids? ev l p) (counting ev (counts .as-of)) l (counts .here) (→forbids l p it))
 
   -- ---- pairs, as a test
 
@@ -134,7 +134,8 @@ module _ (ev : ℕ → Event) where
 
     -- a forbidden store is among the first N events
     forbidden-early : (p : ℕ) → Forbidden ev N p → p < N
-    forbidden-early p (l, inside, it) = omega (arith, earlier-stretch ev p l (it .earlier))
+    forbidden-early p (l, counts, it) =
+        omega (arith, counted-early ev N l counts, earlier-stretch ev p l (it .earlier))
 
     pub bad→ : bad? ev N ≡ true → (p : ℕ) × (q : ℕ) × Pair ev N p q
     unfolding bad? missing?

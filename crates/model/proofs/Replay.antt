@@ -13,11 +13,13 @@ use Rattle.model.specs.Trace.{thread, location, source, commit?, Issue, 
 use Rattle.model.specs.Trace.{stretch, commits, place}
 use Rattle.model.specs.Machine.{committed, commitOf, counted}
 use Rattle.model.specs.Rules.{Accepted}
-use Rattle.model.specs.Choice.{Choice, In, finished, Closed, Observes, Forbids, Newer, ExplainsLoad, Explains}
+use Rattle.model.specs.Choice.{Choice, In, finished, Closed, Counted, Observes, Forbids, Newer}
+use Rattle.model.specs.Choice.{ExplainsLoad, Explains}
 use Rattle.model.specs.Memory.{puts?, memory}
 use Rattle.model.proofs.Searching.{false-true, test, same?, less?, both, parts}
 use Rattle.model.proofs.Counting.{stretch-mono, earlier-stretch}
 use Rattle.model.proofs.Acceptance.{counted-source, store-not-0}
+use Rattle.model.proofs.CountedLoads.{counted-early, counted-load}
 use Rattle.model.proofs.Committed.{Committed, CommitOf, commit-of, is-commit-of}
 use Rattle.model.proofs.Effects.{effect, effect-is, effect-commit, commit-effect}
 
@@ -178,13 +180,12 @@ module _ (ev : ℕ → Event) where
     observed-put s is-source some explains =
         let past = rw is-source at (counted-source ev N accepted l inside counts (rw is-source some)) in
         →puts s (past .store) (past .to-it) (past .earlier)
-        (explains .observed-in s (record { here = counts; from = is-source; some-store = some }))
+        (explains .observed-in s (record { from = is-source; some-store = some }))
 
     -- a store that was put later than the source is forbidden
     later-is-forbidden :
         (d p e s : ℕ) → Puts d p → Puts e s → source ev l ≡ s → e < d → Forbids ev l p
     later-is-forbidden d p e s it source-put is-source later = record {
-      here = counts;
       store = it .store;
       to-it = it .to-it;
       earlier = it .earlier;
@@ -224,7 +225,7 @@ module _ (ev : ℕ → Event) where
         by-source (inl none) (inl (d, it)) =
             let put = puts→ d (it .below) (it .puts) in
             let forbidden : Forbids ev l (committed ev d) =
-            record { here = counts; store = put .store; to-it = put .to-it; earlier = put .earlier; newer = inl none }
+            record { store = put .store; to-it = put .to-it; earlier = put .earlier; newer = inl none }
             in
             absurd (explains .forbidden-out (committed ev d) forbidden (put .is-in))
         by-source (inr some) (inr empty) =
@@ -287,27 +288,24 @@ module _ (ev : ℕ → Event) where
   pub record OrderedRun (N : ℕ) (c : Choice) : Type 0 where
     pub fits : (j t : ℕ) → c j t ≤ finished ev N j t
     pub closed : Closed ev c
-    pub reads :
-        (l : ℕ) → l < N → counted ev l ≡ true → memory ev c (stretch ev l) l (location ev l) ≡ source ev l
+    pub reads : (l : ℕ) → Counted ev N l → memory ev c (stretch ev l) l (location ev l) ≡ source ev l
 
   pub explains-is-ordered-run : (N : ℕ) (c : Choice) → Accepted ev N → Explains ev N c ↔ OrderedRun N c
   explains-is-ordered-run N c accepted = (
     λ explains. record {
       fits = explains .fits;
       closed = explains .closed;
-      reads = λ l inside counts.
-          explains-is-replay N accepted c (explains .fits) l inside counts .0 (explains .loads l inside);
+      reads = λ l counts. by-replay (explains .fits) l counts .0 (explains .loads l counts);
     },
-    λ run. record { fits = run .fits; closed = run .closed; loads = loads run },
+    λ run. record {
+      fits = run .fits;
+      closed = run .closed;
+      loads = λ l counts. by-replay (run .fits) l counts .1 (run .reads l counts);
+    },
   )
     where
-      loads : OrderedRun N c → (l : ℕ) → l < N → ExplainsLoad ev c l
-      loads run l inside = by-test (test (counted ev l))
-        where
-          by-test : (counted ev l ≡ true) ⊎ (counted ev l ≡ false) → ExplainsLoad ev c l
-          by-test (inl counts) =
-              explains-is-replay N accepted c (run .fits) l inside counts .1 (run .reads l inside counts)
-          by-test (inr fails) = record {
-            observed-in = λ s observes. false-true (sym fails ∙ observes .here);
-            forbidden-out = λ p forbids. false-true (sym fails ∙ forbids .here);
-          }
+      by-replay :
+          ((j t : ℕ) → c j t ≤ finished ev N j t) → (l : ℕ) → Counted ev N l
+          → ExplainsLoad ev c l ↔ (memory ev c (stretch ev l) l (location ev l) ≡ source ev l)
+      by-replay fits l counts =
+          explains-is-replay N accepted c fits l (counted-early ev N l counts) (counted-load ev N l counts)

@@ -2,7 +2,7 @@
 -- in the closure after one event more; that a pair is a forbidden store in the closure; and that a pair stays one, so
 -- that the ruling of a broken trace is that of its first records.
 -- In order: the steps; hits; the stores that a program marks; pairs, event by event; the ruling.
-use Prim.Native.Nat.{ℕ, zero, suc, _+_, _≤_, _<_, max}
+use Prim.Native.Nat.{ℕ, zero, suc, _≤_, _<_, max}
 use native.Mathlib.Omega.{arith}
 use mathlib.Core.Path.{_≡_, refl, sym, _∙_}
 use mathlib.Core.Bool.{Bool, true, false, cond, _&&_, _||_, not}
@@ -10,37 +10,80 @@ use mathlib.Core.Logic.{_⊎_, inl, inr, _≢_}
 use lib.Dec.{eqb, ltb}
 use borrow.Author.Tests.{eqb-true, eqb-false, eq-eqb, ne-eqb, ltb-true, lt-ltb, not-true}
 use Rattle.record.specs.declared.events.Event.{Event}
-use Rattle.model.specs.Search.{bit, some, most, first}
-use Rattle.model.specs.Trace.{thread, source, commit?, Issue, stretch, count, commits, place}
-use Rattle.model.specs.Machine.{counted}
+use Rattle.model.specs.Search.{some, any, most, first}
+use Rattle.model.specs.Trace.{thread, source, commit?, Issue, stretch, commits, place}
+use Rattle.model.specs.Machine.{counting, counts}
 use Rattle.model.specs.Rules.{Accepted}
-use Rattle.model.specs.Choice.{robust, broken, In, finished, Observes, Pair}
+use Rattle.model.specs.Choice.{robust, broken, In, finished, Counted, Observes}
 use Rattle.model.specs.Clocks.{vc}
 use Rattle.model.specs.Verdict.{forbids?, observes?, forbidden?, observed?, pair?, missing?, bad?, closure}
 use Rattle.model.specs.Verdict.{loadOf, missingOf, observedOf, rulingOf}
 use Rattle.model.specs.Stores.{committed?, marked?}
-use Rattle.model.proofs.Searching.{false-true, test, same?, less?, both, parts, same-test, same-below}
-use Rattle.model.proofs.Searching.{some→, →some, first-is}
+use Rattle.model.proofs.Searching.{false-true, test, less?, both, parts, or-cases, or-fails, same-test}
+use Rattle.model.proofs.Searching.{same-below, some→, →some, any→, greatest, greatest→, →greatest, first-is}
 use Rattle.model.proofs.Counting.{stretch-mono, earlier-stretch}
+use Rattle.model.proofs.Unchanged.{count-away}
 use Rattle.model.proofs.Acceptance.{prefix}
+use Rattle.model.proofs.CountedLoads.{counts-as-of, counted-early, counted-later, counted-now, counted-step}
 use Rattle.model.proofs.Closure.{in-some-clock, clock-in-closure, in-is-reached, reached-is-in, closure-fits}
 use Rattle.model.proofs.Closure.{Reached}
-use Rattle.model.proofs.Pairs.{forbidden→, →forbidden, pair→, →missing, bad→, →bad}
+use Rattle.model.proofs.Exactness.{wider-pair}
+use Rattle.model.proofs.Pairs.{forbids→, forbidden→, →forbidden, pair→, →missing, bad→, →bad}
 
 module _ (ev : ℕ → Event) where
   -- ---- the steps
 
-  pub forbidden-step : (n p : ℕ) → forbidden? ev (suc n) p ≡ (forbids? ev n p || forbidden? ev n p)
+  -- a load that counts as of event n forbids p, observes q
+  abbrev pub forbidsAt : ℕ → ℕ → Bool
+  forbidsAt n p = any (λ l. forbids? ev l p) (counting ev n)
+
+  abbrev pub observesAt : ℕ → ℕ → Bool
+  observesAt n q = any (λ l. observes? ev l q) (counting ev n)
+
+  pub forbidden-step : (n p : ℕ) → forbidden? ev (suc n) p ≡ (forbidsAt n p || forbidden? ev n p)
   unfolding forbidden? some
   forbidden-step n p = refl
 
-  pub observed-step : (n q : ℕ) → observed? ev (suc n) q ≡ (observes? ev n q || observed? ev n q)
+  pub observed-step : (n q : ℕ) → observed? ev (suc n) q ≡ (observesAt n q || observed? ev n q)
   unfolding observed? some
   observed-step n q = refl
 
-  -- event n observes a store of stretch j
+  -- load l observes a store of stretch j
   abbrev pub raises : ℕ → ℕ → Bool
-  raises n j = counted ev n && not (eqb (source ev n) 0) && eqb (stretch ev (source ev n)) j
+  raises l j = not (eqb (source ev l) 0) && eqb (stretch ev (source ev l)) j
+
+  -- what it then asks of thread t there: that store's clock
+  abbrev pub raise : ℕ → ℕ → ℕ → ℕ
+  raise l j t = cond (raises l j) (vc ev (source ev l) t) 0
+
+  -- a load asks for place i
+  pub record Raised (l j t i : ℕ) : Type 0 where
+    pub observes : Observes ev l (source ev l)
+    pub in-j : stretch ev (source ev l) ≡ j
+    pub in-clock : i < vc ev (source ev l) t
+
+  pub raised→ : (l j t i : ℕ) → i < raise l j t → Raised l j t i
+  raised→ l j t i below = by-test (test (raises l j))
+    where
+      by-test : (raises l j ≡ true) ⊎ (raises l j ≡ false) → Raised l j t i
+      by-test (inr fails) = let none : i < 0 = rw fails at below in absurd (omega arith)
+      by-test (inl passes) =
+          let both-hold = parts (not (eqb (source ev l) 0)) _ passes in
+          record {
+            observes = record { from = refl; some-store = eqb-false _ 0 (not-true _ (both-hold .0)) };
+            in-j = eqb-true (stretch ev (source ev l)) j (both-hold .1);
+            in-clock = rw passes at below;
+          }
+
+  →raised : (l q j t i : ℕ) → Observes ev l q → stretch ev q ≡ j → i < vc ev q t → i < raise l j t
+  →raised l q j t i observes in-j in-clock =
+      let from : source ev l ≡ q = observes .from in
+      let some-store : source ev l ≢ 0 = λ is-0. observes .some-store (sym from ∙ is-0) in
+      let passes : raises l j ≡ true =
+      both (not (eqb (source ev l) 0)) _ (rw (ne-eqb (source ev l) 0 some-store))
+      (eq-eqb (stretch ev (source ev l)) j (rw from in-j))
+      in
+      rw passes (rw from in-clock)
 
   some-event : (n j t i : ℕ) → i < closure ev n j t → 0 < n
   unfolding closure most
@@ -54,71 +97,54 @@ module _ (ev : ℕ → Event) where
     still-in : (i : ℕ) → i < closure ev n j t → i < closure ev (suc n) j t
     still-in i below =
         let it = in-some-clock ev n (earlier-part (some-event n j t i below)) j t i below in
-        let (l, inside, observes) = it .observed in
-        rw (it .in-j) at (clock-in-closure ev (suc n) accepted (it .q) t i (l, omega arith, observes) (it .in-clock))
+        let (l, counts, observes) = it .observed in
+        let still = counted-later ev n (suc n) l (omega arith) counts in
+        rw (it .in-j) at (clock-in-closure ev (suc n) accepted (it .q) t i (l, still, observes) (it .in-clock))
 
-    raised-in : raises n j ≡ true → (i : ℕ) → i < vc ev (source ev n) t → i < closure ev (suc n) j t
-    raised-in passes i below =
-        let outer = parts (counted ev n && not (eqb (source ev n) 0)) _ passes in
-        let inner = parts (counted ev n) _ (outer .0) in
-        let some-store : source ev n ≢ 0 = eqb-false _ 0 (not-true _ (inner .1)) in
-        let observes : Observes ev n (source ev n) =
-        record { here = inner .0; from = refl; some-store = some-store }
-        in
-        rw (eqb-true (stretch ev (source ev n)) j (outer .1)) at
-        (clock-in-closure ev (suc n) accepted (source ev n) t i (n, omega arith, observes) below)
+    raised-in : (l i : ℕ) → counts ev n l ≡ true → i < raise l j t → i < closure ev (suc n) j t
+    raised-in l i here below =
+        let it = raised→ l j t i below in
+        rw (it .in-j) at
+        (clock-in-closure ev (suc n) accepted (source ev l) t i (l, counted-now ev n l here, it .observes)
+        (it .in-clock))
 
-    -- what is in with one event more was in, or is in the clock of the store that the event observes
-    abbrev WasOrRaised : ℕ → Type 0
-    WasOrRaised i = (i < closure ev n j t) ⊎ ((raises n j ≡ true) × (i < vc ev (source ev n) t))
+    -- what is in with one event more was in, or a load that counts as of it asks for it
+    abbrev asked : ℕ
+    asked = greatest (λ l. raise l j t) (counting ev n)
 
-    was-or-raised : (i : ℕ) → i < closure ev (suc n) j t → WasOrRaised i
-    was-or-raised i below =
+    was-or-asked : (i : ℕ) → i < closure ev (suc n) j t → (i < closure ev n j t) ⊎ (i < asked)
+    was-or-asked i below =
         let it = in-some-clock ev (suc n) accepted j t i below in
-        let (l, inside, observes) = it .observed in
-        by-load (it .q) l inside observes (it .in-j) (it .in-clock) (same? l n)
+        let (l, counts, observes) = it .observed in
+        by-load (it .q) l observes (it .in-j) (it .in-clock) (counted-step ev n l counts)
       where
         by-load :
-            (q l : ℕ) → l < suc n → Observes ev l q → stretch ev q ≡ j → i < vc ev q t
-            → (l ≡ n) ⊎ (l ≢ n) → WasOrRaised i
-        by-load q l inside observes in-j in-clock (inr differs) =
-            let part = earlier-part (omega arith) in
-            inl (rw in-j at (clock-in-closure ev n part q t i (l, omega arith, observes) in-clock))
-        by-load q l inside observes in-j in-clock (inl is-n) =
-            let from : source ev n ≡ q = rw is-n at (observes .from) in
-            let some-store : source ev n ≢ 0 = λ is-0. observes .some-store (sym from ∙ is-0) in
-            let counts : counted ev n ≡ true = rw is-n at (observes .here) in
-            let to-store : (counted ev n && not (eqb (source ev n) 0)) ≡ true =
-            both _ _ counts (rw (ne-eqb (source ev n) 0 some-store))
-            in
-            inr (both _ _ to-store (eq-eqb (stretch ev (source ev n)) j (rw from in-j)), rw from in-clock)
+            (q l : ℕ) → Observes ev l q → stretch ev q ≡ j → i < vc ev q t
+            → (counts ev n l ≡ true) ⊎ Counted ev n l → (i < closure ev n j t) ⊎ (i < asked)
+        by-load q l observes in-j in-clock (inr before) =
+            let part = earlier-part (omega (arith, before .inside)) in
+            inl (rw in-j at (clock-in-closure ev n part q t i (l, before, observes) in-clock))
+        by-load q l observes in-j in-clock (inl now) =
+            inr
+            (→greatest (λ l. raise l j t) (counting ev n) i l now (→raised l q j t i observes in-j in-clock))
 
+    -- the closure takes in what the loads that count as of the event ask for
     pub closure-step :
-        closure ev (suc n) j t
-        ≡ cond (raises n j) (max (closure ev n j t) (vc ev (source ev n) t)) (closure ev n j t)
-    closure-step = by-test (test (raises n j))
+        closure ev (suc n) j t ≡ max (closure ev n j t) (greatest (λ l. raise l j t) (counting ev n))
+    closure-step = same-below _ _ (λ i below. within i (was-or-asked i below)) from-within
       where
-        by-test :
-            (raises n j ≡ true) ⊎ (raises n j ≡ false)
-            → closure ev (suc n) j t
-            ≡ cond (raises n j) (max (closure ev n j t) (vc ev (source ev n) t)) (closure ev n j t)
-        by-test (inr fails) = rw fails (same-below _ _ (λ i below. was i (was-or-raised i below)) still-in)
-          where
-            was : (i : ℕ) → WasOrRaised i → i < closure ev n j t
-            was i (inl before) = before
-            was i (inr raised) = false-true (sym fails ∙ raised .0)
-        by-test (inl passes) = rw passes (same-below _ _ (λ i below. within i (was-or-raised i below)) from-within)
-          where
-            within : (i : ℕ) → WasOrRaised i → i < max (closure ev n j t) (vc ev (source ev n) t)
-            within i (inl before) = omega arith
-            within i (inr raised) = omega (arith, raised .1)
+        within : (i : ℕ) → (i < closure ev n j t) ⊎ (i < asked) → i < max (closure ev n j t) asked
+        within i (inl before) = omega arith
+        within i (inr now) = omega arith
 
-            from-within : (i : ℕ) → i < max (closure ev n j t) (vc ev (source ev n) t) → i < closure ev (suc n) j t
-            from-within i below = by-order (less? i (closure ev n j t))
-              where
-                by-order : (i < closure ev n j t) ⊎ (closure ev n j t ≤ i) → i < closure ev (suc n) j t
-                by-order (inl before) = still-in i before
-                by-order (inr not-before) = raised-in passes i (omega arith)
+        from-within : (i : ℕ) → i < max (closure ev n j t) asked → i < closure ev (suc n) j t
+        from-within i below = by-order (less? i (closure ev n j t))
+          where
+            by-order : (i < closure ev n j t) ⊎ (closure ev n j t ≤ i) → i < closure ev (suc n) j t
+            by-order (inl before) = still-in i before
+            by-order (inr not-before) =
+                let (l, here, it) = greatest→ (λ l. raise l j t) (counting ev n) i (omega arith) in
+                raised-in l i here it
 
   -- ---- hits
 
@@ -158,7 +184,8 @@ module _ (ev : ℕ → Event) where
 
   forbidden-over : (n p : ℕ) → forbidden? ev n p ≡ true → Over n p
   forbidden-over n p passes =
-      let (l, inside, forbids) = forbidden→ ev n p passes in
+      let (l, counts, forbids) = forbidden→ ev n p passes in
+      let inside : l < n = counted-early ev n l counts in
       record {
         store = forbids .store;
         early = omega (arith, earlier-stretch ev p l (forbids .earlier));
@@ -169,20 +196,11 @@ module _ (ev : ℕ → Event) where
   unfolding marked?
   marked-over n p passes = forbidden-over n p (parts (forbidden? ev n p) _ passes .0)
 
-  count-elsewhere : (f : ℕ → Bool) (n j t : ℕ) → stretch ev n ≢ j → count ev f (suc n) j t ≡ count ev f n j t
-  unfolding count
-  count-elsewhere f n j t elsewhere = by-test (f n)
-    where
-      by-test :
-          (b : Bool)
-          → count ev f n j t + bit (b && eqb (stretch ev n) j && eqb (thread ev n) t) ≡ count ev f n j t
-      by-test true = rw (ne-eqb (stretch ev n) j elsewhere) (omega arith)
-      by-test false = omega arith
-
-  -- an event more marks what it forbids of the committed stores
-  pub marked-step : (n p : ℕ) → marked? ev (suc n) p ≡ (forbids? ev n p && committed? ev (suc n) p || marked? ev n p)
+  -- an event more marks what the loads that count as of it forbid of the committed stores: those are of earlier
+  -- stretches, so that a commit that the event makes is of none of them
+  pub marked-step : (n p : ℕ) → marked? ev (suc n) p ≡ (forbidsAt n p && committed? ev n p || marked? ev n p)
   unfolding marked?
-  marked-step n p = rw (forbidden-step n p) (by-test (test (forbidden? ev n p)))
+  marked-step n p = rw (forbidden-step n p) (by-test (test (forbidsAt n p || forbidden? ev n p)))
     where
       distributes : (a b c : Bool) → ((a || b) && c) ≡ (a && c || b && c)
       distributes true b true = refl
@@ -190,21 +208,27 @@ module _ (ev : ℕ → Event) where
       distributes true false false = refl
       distributes false b c = refl
 
-      nothing-added : (a c d : Bool) → ((a || false) && c) ≡ (a && c || false && d)
-      nothing-added true true d = refl
-      nothing-added true false d = refl
-      nothing-added false c d = refl
+      elsewhere : (forbidsAt n p ≡ true) ⊎ (forbidden? ev n p ≡ true) → stretch ev n ≢ stretch ev p
+      elsewhere (inr before) same = omega (arith, forbidden-over n p before .over)
+      elsewhere (inl now) same =
+          let (l, here, forbids) = any→ (λ l. forbids? ev l p) (counting ev n) now in
+          omega (
+            arith,
+            forbids→ ev l p forbids .earlier,
+            stretch-mono ev l n (counts-as-of ev n l here .not-later),
+          )
 
       by-test :
-          (forbidden? ev n p ≡ true) ⊎ (forbidden? ev n p ≡ false)
-          → ((forbids? ev n p || forbidden? ev n p) && committed? ev (suc n) p)
-          ≡ (forbids? ev n p && committed? ev (suc n) p || forbidden? ev n p && committed? ev n p)
-      by-test (inl before) =
-          let elsewhere : stretch ev n ≢ stretch ev p = λ same. omega (arith, forbidden-over n p before .over) in
-          rw (← count-elsewhere (commit? ev) n (stretch ev p) (thread ev p) elsewhere)
-          (distributes (forbids? ev n p) (forbidden? ev n p) (committed? ev (suc n) p))
-      by-test (inr not-before) =
-          rw not-before (nothing-added (forbids? ev n p) (committed? ev (suc n) p) (committed? ev n p))
+          ((forbidsAt n p || forbidden? ev n p) ≡ true) ⊎ ((forbidsAt n p || forbidden? ev n p) ≡ false)
+          → ((forbidsAt n p || forbidden? ev n p) && committed? ev (suc n) p)
+          ≡ (forbidsAt n p && committed? ev n p || forbidden? ev n p && committed? ev n p)
+      by-test (inl some) =
+          let of-another = elsewhere (or-cases (forbidsAt n p) (forbidden? ev n p) some) in
+          rw (count-away ev (commit? ev) n (stretch ev p) (thread ev p) (λ _ same _. of-another same))
+          (distributes (forbidsAt n p) (forbidden? ev n p) (committed? ev n p))
+      by-test (inr none) =
+          let (not-now, not-before) = or-fails (forbidsAt n p) (forbidden? ev n p) none in
+          rw (not-now, not-before)
 
   module _ (N : ℕ) (accepted : Accepted ev N) where
     -- the closure takes in committed stores only, so a hit is marked
@@ -245,42 +269,10 @@ module _ (ev : ℕ → Event) where
 
   -- ---- pairs, event by event
 
-  -- a pair of the first n events whose loads are all below m is one of the first m
-  fewer-events : (n m p q : ℕ) (pair : Pair ev n p q) → pair .missing .0 < m → pair .observed .0 < m → Pair ev m p q
-  fewer-events n m p q pair missing-early observed-early = record {
-    missing = (pair .missing .0, missing-early, pair .missing .2);
-    observed = (pair .observed .0, observed-early, pair .observed .2);
-    order = pair .order;
-  }
-
   bad-stays : (N n : ℕ) → Accepted ev N → 0 < n → n ≤ N → bad? ev n ≡ true → bad? ev N ≡ true
   bad-stays N n accepted some-record within bad =
       let (p, q, pair) = bad→ ev n (prefix ev N n accepted some-record within) bad in
-      →bad ev N accepted p q
-      (fewer-events n N p q pair (omega (arith, pair .missing .1)) (omega (arith, pair .observed .1)))
-
-  -- only counted loads make pairs
-  pub uncounted-no-worse :
-      (n : ℕ) → Accepted ev (suc n) → counted ev n ≡ false → bad? ev n ≡ false → bad? ev (suc n) ≡ false
-  uncounted-no-worse n accepted uncounted fine = by-test (test (bad? ev (suc n)))
-    where
-      earlier : (l : ℕ) → l < suc n → counted ev l ≡ true → l < n
-      earlier l inside counts = by-equality (same? l n)
-        where
-          by-equality : (l ≡ n) ⊎ (l ≢ n) → l < n
-          by-equality (inl is-n) = false-true (sym uncounted ∙ rw is-n at counts)
-          by-equality (inr differs) = omega arith
-
-      by-test : (bad? ev (suc n) ≡ true) ⊎ (bad? ev (suc n) ≡ false) → bad? ev (suc n) ≡ false
-      by-test (inr still-fine) = still-fine
-      by-test (inl bad) =
-          let (p, q, pair) = bad→ ev (suc n) accepted bad in
-          let (l, forbid-inside, forbids) = pair .missing in
-          let (k, observe-inside, observes) = pair .observed in
-          let l-early = earlier l forbid-inside (forbids .here) in
-          let k-early = earlier k observe-inside (observes .here) in
-          let part = prefix ev (suc n) n accepted (omega arith) (omega arith) in
-          false-true (sym fine ∙ →bad ev n part p q (fewer-events (suc n) n p q pair l-early k-early))
+      →bad ev N accepted p q (wider-pair ev n N p q within pair)
 
   -- ---- the ruling
 

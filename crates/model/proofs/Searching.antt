@@ -1,13 +1,14 @@
 -- Tests and bounded searches: what it means that a test is passed, and what each search of specs/Search.antt finds.
--- In order: tests and their connectives; decisions on numbers; `some`, `most`, `first`, `last`. Assumes nothing.
+-- In order: tests and their connectives; decisions on numbers; `some`, `any`, `most`, `first`, `last`. Assumes nothing.
 use Prim.Native.Nat.{ℕ, zero, suc, _+_, _≤_, _<_, max}
 use native.Mathlib.Omega.{arith}
 use mathlib.Core.Path.{_≡_, refl, sym, _∙_}
 use mathlib.Core.Bool.{Bool, true, false, cond, _&&_, _||_, not}
 use mathlib.Core.Logic.{_⊎_, inl, inr, _≢_}
+use mathlib.Core.List.{List, [], _∷_}
 use lib.Dec.{eqb, ltb}
 use borrow.Author.Tests.{eqb-true, eqb-false, eq-eqb, ltb-true, ltb-false, not-false}
-use Rattle.model.specs.Search.{some, last, most, first, firstFrom}
+use Rattle.model.specs.Search.{some, any, member, last, most, first, firstFrom}
 
 -- ---- tests
 
@@ -54,11 +55,22 @@ pub second-fails : (a b : Bool) → b ≡ false → (a && b) ≡ false
 second-fails true b e = e
 second-fails false b e = refl
 
+-- three tests of which the third fails where the first passes
+pub third-fails : (a b c : Bool) → (a ≡ true → c ≡ false) → (a && b && c) ≡ false
+third-fails true true c fails = fails refl
+third-fails true false c fails = refl
+third-fails false b c fails = refl
+
 -- two tests that pass together are equal
 pub same-test : (a b : Bool) → (a ≡ true → b ≡ true) → (b ≡ true → a ≡ true) → a ≡ b
 same-test true b to from = sym (to refl)
 same-test false true to from = from refl
 same-test false false to from = refl
+
+-- of two tests that exclude each other one passes: the other fails
+pub excluded : (a b : Bool) → (a ≡ true → b ≡ false) → b ≡ true → a ≡ false
+excluded true b excludes passes = false-true (sym (excludes refl) ∙ passes)
+excluded false b excludes passes = refl
 
 -- ---- numbers, decided
 
@@ -114,6 +126,84 @@ unfolding some
     last-or-earlier : (i ≡ n) ⊎ (i ≢ n) → (i < n → f i ≡ true → some n f ≡ true) → (f n || some n f) ≡ true
     last-or-earlier (inl e) earlier = or-left (f n) (some n f) (rw (← e) t)
     last-or-earlier (inr d) earlier = or-right (f n) (some n f) (earlier (omega arith) t)
+
+-- ---- any, and the largest value over a list
+
+pub any→ : (f : ℕ → Bool) (xs : List ℕ) → any f xs ≡ true → (x : ℕ) × (member x xs ≡ true) × (f x ≡ true)
+unfolding any
+any→ f [] passes = false-true passes
+any→ f (x ∷ xs) passes = by-first (or-cases (f x) (any f xs) passes) (any→ f xs)
+  where
+    by-first :
+        (f x ≡ true) ⊎ (any f xs ≡ true)
+        → (any f xs ≡ true → (y : ℕ) × (member y xs ≡ true) × (f y ≡ true))
+        → (y : ℕ) × (member y (x ∷ xs) ≡ true) × (f y ≡ true)
+    by-first (inl first-passes) later = (x, or-left (eqb x x) _ (eqb-same x), first-passes)
+    by-first (inr rest) later =
+        let (y, there, it) = later rest in (y, or-right (eqb y x) _ there, it)
+
+pub →any : (f : ℕ → Bool) (xs : List ℕ) (x : ℕ) → member x xs ≡ true → f x ≡ true → any f xs ≡ true
+unfolding any
+→any f [] x there it = false-true there
+→any f (y ∷ ys) x there it = by-first (or-cases (eqb x y) (member x ys) there) (λ later. →any f ys x later it)
+  where
+    by-first :
+        (eqb x y ≡ true) ⊎ (member x ys ≡ true) → (member x ys ≡ true → any f ys ≡ true) → (f y || any f ys) ≡ true
+    by-first (inl same) later = or-left (f y) _ (rw (eqb-true x y same) at it)
+    by-first (inr further) later = or-right (f y) _ (later further)
+
+-- two tests that agree on the numbers of a list
+pub any-same :
+    (f g : ℕ → Bool) (xs : List ℕ) → ((x : ℕ) → member x xs ≡ true → f x ≡ g x) → any f xs ≡ any g xs
+any-same f g xs same = same-test _ _ to from
+  where
+    to : any f xs ≡ true → any g xs ≡ true
+    to passes = let (x, there, it) = any→ f xs passes in →any g xs x there (sym (same x there) ∙ it)
+
+    from : any g xs ≡ true → any f xs ≡ true
+    from passes = let (x, there, it) = any→ g xs passes in →any f xs x there (same x there ∙ it)
+
+-- what holds beside a test of the list holds beside each of its tests
+pub any-and : (f : ℕ → Bool) (xs : List ℕ) (b : Bool) → (any f xs && b) ≡ any (λ x. f x && b) xs
+unfolding any
+any-and f [] b = refl
+any-and f (x ∷ xs) b = rw (← any-and f xs b) (by-test (f x) (any f xs) b)
+  where
+    by-test : (a r b : Bool) → ((a || r) && b) ≡ (a && b || r && b)
+    by-test true r true = refl
+    by-test true true false = refl
+    by-test true false false = refl
+    by-test false r b = refl
+
+-- the largest value of f in a list, and 0 if there is none
+unfoldable pub greatest : (ℕ → ℕ) → List ℕ → ℕ
+greatest f [] = 0
+greatest f (x ∷ xs) = max (f x) (greatest f xs)
+
+pub greatest→ :
+    (f : ℕ → ℕ) (xs : List ℕ) (k : ℕ) → k < greatest f xs → (x : ℕ) × (member x xs ≡ true) × (k < f x)
+unfolding greatest any
+greatest→ f [] k below = absurd (omega arith)
+greatest→ f (x ∷ xs) k below = by-first (less? k (f x)) (greatest→ f xs k)
+  where
+    by-first :
+        (k < f x) ⊎ (f x ≤ k) → (k < greatest f xs → (y : ℕ) × (member y xs ≡ true) × (k < f y))
+        → (y : ℕ) × (member y (x ∷ xs) ≡ true) × (k < f y)
+    by-first (inl here) later = (x, or-left (eqb x x) _ (eqb-same x), here)
+    by-first (inr not-here) later =
+        let (y, there, it) = later (omega arith) in (y, or-right (eqb y x) _ there, it)
+
+pub →greatest : (f : ℕ → ℕ) (xs : List ℕ) (k x : ℕ) → member x xs ≡ true → k < f x → k < greatest f xs
+unfolding greatest any
+→greatest f [] k x there below = false-true there
+→greatest f (y ∷ ys) k x there below =
+    by-first (or-cases (eqb x y) (member x ys) there) (λ later. →greatest f ys k x later below)
+  where
+    by-first :
+        (eqb x y ≡ true) ⊎ (member x ys ≡ true) → (member x ys ≡ true → k < greatest f ys)
+        → k < max (f y) (greatest f ys)
+    by-first (inl same) later = let here : k < f y = rw (eqb-true x y same) at below in omega arith
+    by-first (inr further) later = omega (arith, later further)
 
 -- ---- most
 

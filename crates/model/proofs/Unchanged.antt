@@ -1,6 +1,7 @@
 -- What an event changes and what it leaves, of all that a program's state holds: the counts of the stretch, the stores
--- by place, skips, the newest stores, what threads have seen, and the committed stores of a location. Each law that
--- says that something is left takes as a premise that the event is not one of those that change it.
+-- by place, switches of a thread (skips), the newest stores, what threads have seen, and the committed stores of a
+-- location. Each law that says that something is left takes as a premise that the event is not one of those that
+-- change it.
 use Prim.Native.Nat.{ℕ, zero, suc, _≤_, _<_, max}
 use native.Mathlib.Omega.{arith}
 use mathlib.Core.Path.{_≡_, refl, sym, _∙_}
@@ -8,17 +9,17 @@ use mathlib.Core.Bool.{Bool, true, false, cond, _&&_, _||_}
 use mathlib.Core.List.{List, [], _∷_}
 use mathlib.Core.Logic.{_⊎_, inl, inr, _≢_}
 use lib.Dec.{eqb}
-use borrow.Author.Tests.{eqb-true, eq-eqb, ne-eqb}
+use borrow.Author.Tests.{eqb-true, eq-eqb}
 use Rattle.record.specs.declared.events.Event.{Event}
-use Rattle.model.specs.Trace.{kind, thread, location, source, is, issue?, commit?, crash?}
+use Rattle.model.specs.Trace.{thread, location, source, issue?, commit?, crash?, skipOn?, skipOff?}
 use Rattle.model.specs.Trace.{Issue, Commit, Load, stretch, count}
-use Rattle.model.specs.Machine.{committed, skipping}
+use Rattle.model.specs.Machine.{committed, switched, skipping}
 use Rattle.model.specs.Rules.{Accepted}
 use Rattle.model.specs.Clocks.{seen, vc}
 use Rattle.model.specs.Stores.{storeAt, madeAt, newestAt, landsAt, landed}
 use Rattle.model.proofs.Searching.{test, both, parts}
 use Rattle.model.proofs.Counting.{stretch-crash, stretch-else, count-it, count-fresh, place-unique}
-use Rattle.model.proofs.Roles.{load-no-crash}
+use Rattle.model.proofs.Roles.{one-kind, load-no-crash}
 use Rattle.model.proofs.ClockSteps.{joins→, →joins, seen-join, seen-keep}
 use Rattle.model.proofs.StorePlaces.{fails, last-here, last-skip, store-at-none, store-at-else}
 use Rattle.model.proofs.StorePlaces.{its-place, committed-store}
@@ -71,49 +72,63 @@ module _ (ev : ℕ → Event) where
   store-at-crash n t i crash =
       store-at-none ev (suc n) (stretch ev (suc n)) t i (omega (arith, live-crash (issue? ev) n t crash))
 
-  -- ---- skips
+  -- ---- switches of a thread
+
+  module _ (on? off? : ℕ → Bool) where
+    pub switched-away :
+        (n t : ℕ) → crash? ev n ≡ false → (on? n ≡ true → thread ev n ≡ t → ⊥)
+        → (off? n ≡ true → thread ev n ≡ t → ⊥) → switched ev on? off? (suc n) t ≡ switched ev on? off? n t
+    unfolding switched
+    switched-away n t no-crash not-on not-off =
+        rw (no-crash, none (on? n) not-on, none (off? n) not-off) (stays (switched ev on? off? n t))
+      where
+        none : (b : Bool) → (b ≡ true → thread ev n ≡ t → ⊥) → (b && eqb (thread ev n) t) ≡ false
+        none b away =
+            fails _
+            (λ passes. let both-pass = parts b _ passes in away (both-pass .0) (eqb-true _ _ (both-pass .1)))
+
+        stays : (b : Bool) → (true && (false || b && true)) ≡ b
+        stays true = refl
+        stays false = refl
+
+    pub switched-on :
+        (n : ℕ) → crash? ev n ≡ false → on? n ≡ true → switched ev on? off? (suc n) (thread ev n) ≡ true
+    unfolding switched
+    switched-on n no-crash on = rw (no-crash, on, eq-eqb (thread ev n) (thread ev n) refl)
+
+    pub switched-off :
+        (n : ℕ) → crash? ev n ≡ false → on? n ≡ false → off? n ≡ true
+        → switched ev on? off? (suc n) (thread ev n) ≡ false
+    unfolding switched
+    switched-off n no-crash not-on off =
+        rw (no-crash, not-on, off, eq-eqb (thread ev n) (thread ev n) refl)
+        (ends (switched ev on? off? n (thread ev n)))
+      where
+        ends : (b : Bool) → (true && (false || b && false)) ≡ false
+        ends true = refl
+        ends false = refl
+
+    pub switched-crash : (n t : ℕ) → crash? ev n ≡ true → switched ev on? off? (suc n) t ≡ false
+    unfolding switched
+    switched-crash n t crash = rw crash
+
+  -- skips
 
   pub skipping-away :
-      (n t : ℕ) → crash? ev n ≡ false → (is ev 10 n ≡ true → thread ev n ≡ t → ⊥)
-      → (is ev 11 n ≡ true → thread ev n ≡ t → ⊥) → skipping ev (suc n) t ≡ skipping ev n t
-  unfolding skipping
-  skipping-away n t no-crash not-on not-off =
-      rw (no-crash, none (is ev 10 n) not-on, none (is ev 11 n) not-off) (stays (skipping ev n t))
-    where
-      none : (b : Bool) → (b ≡ true → thread ev n ≡ t → ⊥) → (b && eqb (thread ev n) t) ≡ false
-      none b away =
-          fails _
-          (λ passes. let both-pass = parts b _ passes in away (both-pass .0) (eqb-true _ _ (both-pass .1)))
+      (n t : ℕ) → crash? ev n ≡ false → (skipOn? ev n ≡ true → thread ev n ≡ t → ⊥)
+      → (skipOff? ev n ≡ true → thread ev n ≡ t → ⊥) → skipping ev (suc n) t ≡ skipping ev n t
+  skipping-away = switched-away (skipOn? ev) (skipOff? ev)
 
-      stays : (b : Bool) → (true && (false || b && true)) ≡ b
-      stays true = refl
-      stays false = refl
+  pub skipping-on : (n : ℕ) → skipOn? ev n ≡ true → skipping ev (suc n) (thread ev n) ≡ true
+  skipping-on n on = switched-on (skipOn? ev) (skipOff? ev) n (one-kind ev n 10 9 (omega arith) on) on
 
-  pub skipping-on : (n : ℕ) → is ev 10 n ≡ true → skipping ev (suc n) (thread ev n) ≡ true
-  unfolding skipping
-  skipping-on n on =
-      let on-kind : kind ev n ≡ 10 = eqb-true (kind ev n) 10 on in
-      rw (ne-eqb (kind ev n) 9 (λ is-9. omega arith), on, eq-eqb (thread ev n) (thread ev n) refl)
-
-  pub skipping-off : (n : ℕ) → is ev 11 n ≡ true → skipping ev (suc n) (thread ev n) ≡ false
-  unfolding skipping
+  pub skipping-off : (n : ℕ) → skipOff? ev n ≡ true → skipping ev (suc n) (thread ev n) ≡ false
   skipping-off n off =
-      let off-kind : kind ev n ≡ 11 = eqb-true (kind ev n) 11 off in
-      rw (
-        ne-eqb (kind ev n) 9 (λ is-9. omega arith),
-        ne-eqb (kind ev n) 10 (λ is-10. omega arith),
-        off,
-        eq-eqb (thread ev n) (thread ev n) refl,
-      )
-      (ends (skipping ev n (thread ev n)))
-    where
-      ends : (b : Bool) → (true && (false || b && false)) ≡ false
-      ends true = refl
-      ends false = refl
+      switched-off (skipOn? ev) (skipOff? ev) n (one-kind ev n 11 9 (omega arith) off)
+      (one-kind ev n 11 10 (omega arith) off) off
 
   pub skipping-crash : (n t : ℕ) → crash? ev n ≡ true → skipping ev (suc n) t ≡ false
-  unfolding skipping
-  skipping-crash n t crash = rw crash
+  skipping-crash = switched-crash (skipOn? ev) (skipOff? ev)
 
   -- ---- the newest store of a thread at a location
 

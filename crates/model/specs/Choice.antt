@@ -6,7 +6,7 @@ use mathlib.Core.Logic.{_⊎_, _≢_}
 use lib.Dec.{ltb}
 use Rattle.record.specs.declared.events.Event.{Event}
 use Rattle.model.specs.Trace.{thread, location, source, Issue, stretch, commits, place}
-use Rattle.model.specs.Machine.{counted, commitOf}
+use Rattle.model.specs.Machine.{counts, commitOf}
 use Rattle.model.specs.HappensBefore.{Before, AtOrBefore}
 
 -- "A choice gives each finished stretch and thread a count (the thread's crash point)": stretch, then thread. The type
@@ -32,9 +32,14 @@ module _ (ev : ℕ → Event) where
   abbrev pub Closed : Choice → Type 0
   Closed c = (p q : ℕ) → Before ev p q → In c q → In c p
 
-  -- "A counted load with source s observes s (unless s is 0)"
+  -- load l counts, as of one of the first N events
+  pub record Counted (N l : ℕ) : Type 0 where
+    pub as-of : ℕ
+    pub inside : as-of < N
+    pub here : counts ev as-of l ≡ true
+
+  -- "A counted load with source s observes s (unless s is 0)"; that it counts is said by `Counted`
   pub record Observes (l s : ℕ) : Type 0 where
-    pub here : counted ev l ≡ true
     pub from : source ev l ≡ s
     pub some-store : s ≢ 0
 
@@ -48,7 +53,6 @@ module _ (ev : ℕ → Event) where
 
   -- "and forbids every store to its location in earlier stretches that is" newer
   pub record Forbids (l p : ℕ) : Type 0 where
-    pub here : counted ev l ≡ true
     pub store : Issue ev p
     pub to-it : location ev p ≡ location ev l
     pub earlier : stretch ev p < stretch ev l
@@ -64,7 +68,7 @@ module _ (ev : ℕ → Event) where
   pub record Explains (N : ℕ) (c : Choice) : Type 0 where
     pub fits : (j t : ℕ) → c j t ≤ finished N j t
     pub closed : Closed c
-    pub loads : (l : ℕ) → l < N → ExplainsLoad c l
+    pub loads : (l : ℕ) → Counted N l → ExplainsLoad c l
 
   -- "Robust: a closed choice explains all counted loads."
   abbrev pub Robust : ℕ → Type 0
@@ -77,10 +81,10 @@ module _ (ev : ℕ → Event) where
 
   -- some counted load of the first N events observes s, forbids p
   abbrev pub Observed : ℕ → ℕ → Type 0
-  Observed N s = (l : ℕ) × (l < N) × Observes l s
+  Observed N s = (l : ℕ) × Counted N l × Observes l s
 
   abbrev pub Forbidden : ℕ → ℕ → Type 0
-  Forbidden N p = (l : ℕ) × (l < N) × Forbids l p
+  Forbidden N p = (l : ℕ) × Counted N l × Forbids l p
 
   -- "Missing is a store that some counted load of those records forbids, observed one that some counted load there
   -- observes, and they are equal or missing happens before observed"

@@ -4,9 +4,10 @@
 -- changed": that state is the code's; here it is what the events before n say.
 use Prim.Native.Nat.{ℕ, zero, suc}
 use mathlib.Core.Bool.{Bool, false, cond, _&&_, _||_, not}
+use mathlib.Core.List.{List, [], _∷_}
 use lib.Dec.{eqb, ltb, leb}
 use Rattle.record.specs.declared.events.Event.{Event}
-use Rattle.model.specs.Search.{last}
+use Rattle.model.specs.Search.{member, last}
 use Rattle.model.specs.Trace.{thread, location, source, issue?, commit?, load?, crash?, skipOn?, skipOff?}
 use Rattle.model.specs.Trace.{stretch, issues, commits, place}
 
@@ -78,17 +79,30 @@ module _ (ev : ℕ → Event) where
   abbrev pub crossing : ℕ → Bool
   crossing n = load? ev n && eqb (waiting n) 0 && eqb (current n) 0
 
-  -- ---- skips
+  -- ---- skips, and which loads count
+
+  -- a switch of each thread: events of the thread that pass `on?` switch it on, those that pass `off?` off; a crash
+  -- switches it off for all threads, and the trace starts with it off. It is on for thread t before event n
+  unfoldable pub switched : (ℕ → Bool) → (ℕ → Bool) → ℕ → ℕ → Bool
+  switched on? off? zero t = false
+  switched on? off? (suc n) t =
+      not (crash? ev n)
+      && (on? n && eqb (thread ev n) t || switched on? off? n t && not (off? n && eqb (thread ev n) t))
 
   -- "A skip [..] is on or off per thread"; a crash "ends skips"; the trace starts with "no skips": thread t is in a
   -- skip before event n
-  unfoldable pub skipping : ℕ → ℕ → Bool
-  skipping zero t = false
-  skipping (suc n) t =
-      not (crash? ev n)
-      && (skipOn? ev n && eqb (thread ev n) t || skipping n t && not (skipOff? ev n && eqb (thread ev n) t))
+  abbrev pub skipping : ℕ → ℕ → Bool
+  skipping n t = switched (skipOn? ev) (skipOff? ev) n t
 
   -- "A crossing load in a skip is checked but not counted; all other crossing loads count." No choice has a say in it:
   -- "a load stays counted even if the choice cuts its own thread short"
   unfoldable pub counted : ℕ → Bool
   counted n = crossing n && not (skipping n (thread ev n))
+
+  -- the loads that count as of event n: a counted load, as of itself
+  unfoldable pub counting : ℕ → List ℕ
+  counting n = cond (counted n) (n ∷ []) []
+
+  -- load l counts as of event e
+  abbrev pub counts : ℕ → ℕ → Bool
+  counts e l = member l (counting e)

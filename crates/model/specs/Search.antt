@@ -2,6 +2,8 @@
 -- is `≡ true`. What each search finds is proved in proofs/Searching.antt.
 use Prim.Native.Nat.{ℕ, zero, suc, max}
 use mathlib.Core.Bool.{Bool, true, false, cond, _||_}
+use mathlib.Core.List.{List, [], _∷_}
+use lib.Dec.{eqb}
 
 -- 1 if the test is passed, for counting
 abbrev pub bit : Bool → ℕ
@@ -12,6 +14,15 @@ bit false = 0
 unfoldable pub some : ℕ → (ℕ → Bool) → Bool
 some zero f = false
 some (suc n) f = f n || some n f
+
+-- some number of the list passes
+unfoldable pub any : (ℕ → Bool) → List ℕ → Bool
+any f [] = false
+any f (x ∷ xs) = f x || any f xs
+
+-- x stands in the list
+abbrev pub member : ℕ → List ℕ → Bool
+member x xs = any (eqb x) xs
 
 -- the largest number below n that passes, and 0 if there is none
 unfoldable pub last : ℕ → (ℕ → Bool) → ℕ

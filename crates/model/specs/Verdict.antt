@@ -5,9 +5,9 @@ use Prim.Native.Nat.{ℕ, suc}
 use mathlib.Core.Bool.{Bool, cond, _&&_, _||_, not}
 use lib.Dec.{eqb, ltb}
 use Rattle.record.specs.declared.events.Event.{Event}
-use Rattle.model.specs.Search.{some, most, first}
+use Rattle.model.specs.Search.{some, any, most, first}
 use Rattle.model.specs.Trace.{thread, location, source, issue?, stretch, place}
-use Rattle.model.specs.Machine.{counted, commitOf}
+use Rattle.model.specs.Machine.{counting, commitOf}
 use Rattle.model.specs.Choice.{Choice, Ruling, robust, broken}
 use Rattle.model.specs.Clocks.{vc}
 
@@ -24,19 +24,19 @@ module _ (ev : ℕ → Event) where
   -- `Forbids`: load l forbids store p
   unfoldable pub forbids? : ℕ → ℕ → Bool
   forbids? l p =
-      counted ev l && issue? ev p && eqb (location ev p) (location ev l) && ltb (stretch ev p) (stretch ev l)
+      issue? ev p && eqb (location ev p) (location ev l) && ltb (stretch ev p) (stretch ev l)
       && newer? l p
 
   -- `Observes`: load l observes store q
   unfoldable pub observes? : ℕ → ℕ → Bool
-  observes? l q = counted ev l && eqb (source ev l) q && not (eqb q 0)
+  observes? l q = eqb (source ev l) q && not (eqb q 0)
 
-  -- `Forbidden`, `Observed`: some load of the first N events forbids p, observes q
+  -- `Forbidden`, `Observed`: some load that counts as of one of the first N events forbids p, observes q
   unfoldable pub forbidden? : ℕ → ℕ → Bool
-  forbidden? N p = some N (λ l. forbids? l p)
+  forbidden? N p = some N (λ e. any (λ l. forbids? l p) (counting ev e))
 
   unfoldable pub observed? : ℕ → ℕ → Bool
-  observed? N q = some N (λ l. observes? l q)
+  observed? N q = some N (λ e. any (λ l. observes? l q) (counting ev e))
 
   -- ---- pairs
 
