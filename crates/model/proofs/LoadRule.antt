@@ -123,7 +123,7 @@ module _ (ev : ℕ → Event) where
 
   -- ---- the head of the committed stores
 
-  committed-zero : committed ev 0 ≡ 0
+  pub committed-zero : committed ev 0 ≡ 0
   unfolding committed last
   committed-zero = refl
 

@@ -1,140 +1,53 @@
 -- Events that play no role, taken out of a list (specs/Flushes.antt): an accepted trace without them is accepted, and a
 -- ruling is exact of it exactly if, with its event numbers carried over, it is exact of the whole trace. What stays of
--- the list and the list are a Renumbering, since an accepted load's source is a store or event 0, and both stay.
--- In order: numbers in the list and in what stays of it; renumbered events; the renumbering and what follows from it.
-use Prim.Native.Nat.{ℕ, zero, suc, _≤_, _<_}
+-- the list is a part of it (specs/Embedding.antt): an accepted load's source is a store or event 0, and both stay.
+-- In order: renumbered events; the embedding; what follows from it.
+use Prim.Native.Nat.{ℕ, _≤_, _<_}
 use mathlib.Core.Path.{_≡_, refl, sym, _∙_, ap}
-use mathlib.Core.Bool.{Bool, true, false, cond}
-use mathlib.Core.List.{List, [], _∷_}
+use mathlib.Core.Bool.{Bool, true, false}
+use mathlib.Core.List.{List}
 use mathlib.Core.Logic.{_⊎_, inl, inr, _≢_, _↔_}
 use lib.Dec.{eqb}
 use lib.ListN.{length, List·getD-eq-default}
 use Rattle.record.specs.declared.events.Event.{Event}
-use Rattle.record.specs.declared.events.Event.the-variants.{Begin, Issue, Commit, Load, Clflush, Clwb}
-use Rattle.record.specs.declared.events.Event.the-variants.{Sfence, Mfence, Crash, SkipOn, SkipOff}
+use Rattle.record.specs.declared.events.Event.the-variants.{Begin, Issue, Commit, Load, Clflush, Clwb, Sfence, Mfence}
+use Rattle.record.specs.declared.events.Event.the-variants.{Crash, SkipOn, SkipOff}
 use Rattle.record.specs.Events.{kindOf}
 use Rattle.record.specs.Fields.{fieldsOf}
-use Rattle.model.specs.Trace.{traceOf, source, is, issue?, load?}
+use Rattle.model.specs.Trace.{traceOf, thread, location, source, issue?, commit?, load?, begin?, skipOn?}
+use Rattle.model.specs.Trace.{skipOff?, threads, locations}
+use Rattle.model.specs.Machine.{committed}
 use Rattle.model.specs.Rules.{Accepted}
-use Rattle.model.specs.Choice.{Ruling, finished, Exact}
-use Rattle.model.specs.Flushes.{moved, carry, kept, number, staying, without}
-use Rattle.model.proofs.Searching.{same?, less?, test, false-true}
+use Rattle.model.specs.Choice.{Ruling, robust, broken, finished, Exact}
+use Rattle.model.specs.Flushes.{moved, carry, kept, number, without}
+use Rattle.model.specs.Embedding.{Numbering, everything, Role, Embedding, Finds, Apart, SameEvent, SameBegin}
+use Rattle.model.specs.Embedding.{Cover, carryBy}
+use Rattle.model.proofs.Searching.{same?, less?, test, false-true, excluded}
+use Rattle.model.proofs.Roles.{Quiet}
 use Rattle.model.proofs.Acceptance.{begins, From, from-own, from-commit, from-past, source-from}
-use Rattle.model.proofs.Renumbering.{excluded, SameEvent, Quiet, Renumbering}
-use Rattle.model.proofs.RenumberedRuling.{finished-kept, exact-both, accepted-thin}
-
-module _ (out? : Event → Bool) where
-  -- ---- numbers in the list and in what stays of it
-
-  kept-none : (es : List Event) → kept out? es 0 ≡ 0
-  unfolding kept
-  kept-none [] = refl
-  kept-none (e ∷ es) = refl
-
-  kept-event : (es : List Event) (n : ℕ) → out? (traceOf es n) ≡ false → kept out? es (suc n) ≡ suc (kept out? es n)
-  unfolding kept
-  kept-event [] n stays = refl
-  kept-event (e ∷ es) zero stays = rw stays (ap suc (kept-none es))
-  kept-event (e ∷ es) (suc n) stays = by-first (out? e) (kept-event es n stays)
-    where
-      by-first :
-          (b : Bool) → kept out? es (suc n) ≡ suc (kept out? es n)
-          → cond b (kept out? es (suc n)) (suc (kept out? es (suc n)))
-          ≡ suc (cond b (kept out? es n) (suc (kept out? es n)))
-      by-first true earlier = earlier
-      by-first false earlier = ap suc earlier
-
-  -- the numbers behind a first event that is taken out
-  number-out : (e : Event) (es : List Event) (n : ℕ) → out? e ≡ true → number out? (e ∷ es) n ≡ suc (number out? es n)
-  unfolding number
-  number-out e es zero out = rw out
-  number-out e es (suc n) out = rw out
-
-  number-kept : (es : List Event) (n : ℕ) → out? (traceOf es n) ≡ false → number out? es (kept out? es n) ≡ n
-  unfolding kept number
-  number-kept [] n stays = refl
-  number-kept (e ∷ es) zero stays = rw stays
-  number-kept (e ∷ es) (suc n) stays = by-first (test (out? e)) (number-kept es n stays)
-    where
-      by-first :
-          (out? e ≡ true) ⊎ (out? e ≡ false) → number out? es (kept out? es n) ≡ n
-          → number out? (e ∷ es) (cond (out? e) (kept out? es n) (suc (kept out? es n))) ≡ suc n
-      by-first (inl out) earlier = rw out (number-out e es (kept out? es n) out ∙ ap suc earlier)
-      by-first (inr stays) earlier = rw (stays, stays) (ap suc earlier)
-
-  kept-number : (es : List Event) (n : ℕ) → kept out? es (number out? es n) ≡ n
-  unfolding kept number
-  kept-number [] n = refl
-  kept-number (e ∷ es) n = by-first (test (out? e)) (λ m. kept-number es m) n
-    where
-      by-first :
-          (out? e ≡ true) ⊎ (out? e ≡ false) → ((m : ℕ) → kept out? es (number out? es m) ≡ m)
-          → (n : ℕ) → kept out? (e ∷ es) (number out? (e ∷ es) n) ≡ n
-      by-first (inl out) rest n = rw (number-out e es n out, out) (rest n)
-      by-first (inr stays) rest zero = rw stays
-      by-first (inr stays) rest (suc n) = rw stays (ap suc (rest n))
-
-  -- what stays is, in each place, the event with that number, its source renumbered
-  event-there :
-      (f : ℕ → ℕ) (es : List Event) (n : ℕ) → traceOf (staying out? f es) n ≡ moved f (traceOf es (number out? es n))
-  unfolding staying number moved
-  event-there f [] n = refl
-  event-there f (e ∷ es) n = by-first (test (out? e)) (λ m. event-there f es m) n
-    where
-      by-first :
-          (out? e ≡ true) ⊎ (out? e ≡ false)
-          → ((m : ℕ) → traceOf (staying out? f es) m ≡ moved f (traceOf es (number out? es m)))
-          → (n : ℕ) → traceOf (staying out? f (e ∷ es)) n ≡ moved f (traceOf (e ∷ es) (number out? (e ∷ es) n))
-      by-first (inl out) rest n = rw (number-out e es n out, out) (rest n)
-      by-first (inr stays) rest zero = rw stays
-      by-first (inr stays) rest (suc n) = rw stays (rest n)
-
-  length-kept : (f : ℕ → ℕ) (es : List Event) → kept out? es (length es) ≡ length (staying out? f es)
-  unfolding kept staying
-  length-kept f [] = refl
-  length-kept f (e ∷ es) = by-first (test (out? e)) (length-kept f es)
-    where
-      by-first :
-          (out? e ≡ true) ⊎ (out? e ≡ false) → kept out? es (length es) ≡ length (staying out? f es)
-          → kept out? (e ∷ es) (length (e ∷ es)) ≡ length (staying out? f (e ∷ es))
-      by-first (inl out) rest = rw out rest
-      by-first (inr stays) rest = rw stays (ap suc rest)
-
-  -- what stands past the end stays
-  module _ (crash-stays : out? Crash ≡ false) where
-    kept-out : (es : List Event) (n : ℕ) → out? (traceOf es n) ≡ true → kept out? es (suc n) ≡ kept out? es n
-    unfolding kept
-    kept-out [] n out = false-true (sym crash-stays ∙ out)
-    kept-out (e ∷ es) zero out = rw out (kept-none es)
-    kept-out (e ∷ es) (suc n) out = rw (kept-out es n out)
-
-    number-stays : (es : List Event) (n : ℕ) → out? (traceOf es (number out? es n)) ≡ false
-    unfolding number
-    number-stays [] n = crash-stays
-    number-stays (e ∷ es) n = by-first (test (out? e)) (λ m. number-stays es m) n
-      where
-        by-first :
-            (out? e ≡ true) ⊎ (out? e ≡ false) → ((m : ℕ) → out? (traceOf es (number out? es m)) ≡ false)
-            → (n : ℕ) → out? (traceOf (e ∷ es) (number out? (e ∷ es) n)) ≡ false
-        by-first (inl out) rest n = rw (number-out e es n out) (rest n)
-        by-first (inr stays) rest zero = rw stays stays
-        by-first (inr stays) rest (suc n) = rw stays (rest n)
+use Rattle.model.proofs.StorePlaces.{committed-store}
+use Rattle.model.proofs.Taking.{kept-none, number-kept, taking, event-there, length-kept}
+use Rattle.model.proofs.Numberings.{number-zero, number-injective}
+use Rattle.model.proofs.EmbeddedMachine.{committed-at}
+use Rattle.model.proofs.EmbeddedRules.{accepted-part}
+use Rattle.model.proofs.EmbeddedChoices.{finished-kept}
+use Rattle.model.proofs.EmbeddedRuling.{exact-both}
 
 -- ---- renumbered events
 
--- what an event and the same event with its source renumbered have in common
-record Moved (f : ℕ → ℕ) (e : Event) : Type 0 where
-  kind-same : kindOf (moved f e) ≡ kindOf e
-  thread-same : fieldsOf (moved f e) .thread ≡ fieldsOf e .thread
-  location-same : fieldsOf (moved f e) .location ≡ fieldsOf e .location
-  source-moved : fieldsOf (moved f e) .source ≡ f (fieldsOf e .source)
-  version-same : fieldsOf (moved f e) .version ≡ fieldsOf e .version
-  threads-same : fieldsOf (moved f e) .threads ≡ fieldsOf e .threads
-  locations-same : fieldsOf (moved f e) .locations ≡ fieldsOf e .locations
+-- event d is event e, but for a renumbered source
+record Renumbered (f : ℕ → ℕ) (e d : Event) : Type 0 where
+  kind-same : kindOf e ≡ kindOf d
+  thread-same : fieldsOf e .thread ≡ fieldsOf d .thread
+  location-same : fieldsOf e .location ≡ fieldsOf d .location
+  source-moved : fieldsOf d .source ≡ f (fieldsOf e .source)
+  version-same : fieldsOf e .version ≡ fieldsOf d .version
+  threads-same : fieldsOf e .threads ≡ fieldsOf d .threads
+  locations-same : fieldsOf e .locations ≡ fieldsOf d .locations
 
 module _ (f : ℕ → ℕ) (none : f 0 ≡ 0) where
   -- an event without a source is left as it is
-  unmoved : (e : Event) → moved f e ≡ e → fieldsOf e .source ≡ 0 → Moved f e
+  unmoved : (e : Event) → moved f e ≡ e → fieldsOf e .source ≡ 0 → Renumbered f e (moved f e)
   unmoved e left no-source = record {
     kind-same = rw left;
     thread-same = rw left;
@@ -145,7 +58,7 @@ module _ (f : ℕ → ℕ) (none : f 0 ≡ 0) where
     locations-same = rw left;
   }
 
-  moved-is : (e : Event) → Moved f e
+  moved-is : (e : Event) → Renumbered f e (moved f e)
   unfolding moved
   moved-is (Begin v n m) = unmoved (Begin v n m) refl refl
   moved-is (Issue t x) = unmoved (Issue t x) refl refl
@@ -172,101 +85,192 @@ no-source : (e : Event) → eqb (kindOf e) 4 ≡ false → fieldsOf e .source �
 unfolding moved
 no-source e other = rw other at (moved-is (λ s. 0) refl e .source-moved)
 
--- ---- the renumbering
+-- ---- rulings whose event numbers are all carried over alike
+
+carry-alike : (f : ℕ → ℕ) (v : Ruling) → carryBy f f v ≡ carry f v
+carry-alike f (robust c) = refl
+carry-alike f (broken load missing observed) = refl
+
+-- ---- the embedding
 
 module _
     (out? : Event → Bool) (quiet : (ev : ℕ → Event) (e : ℕ) → out? (ev e) ≡ true → Quiet ev e)
     (es : List Event) (accepted : Accepted (traceOf es) (length es)) where
+  -- the trace, and the trace without those events
+  abbrev whole : ℕ → Event
+  whole = traceOf es
+
+  abbrev short : ℕ → Event
+  short = traceOf (without out? es)
+
   crash-stays : out? Crash ≡ false
   crash-stays = excluded (out? Crash) true (λ out. quiet (λ n. Crash) 0 out .no-crash) refl
 
-  first-stays : out? (traceOf es 0) ≡ false
+  first-stays : out? (whole 0) ≡ false
   first-stays =
-      excluded (out? (traceOf es 0)) (is (traceOf es) 1 0) (λ out. quiet (traceOf es) 0 out .no-begin)
-      (begins (traceOf es) (length es) accepted)
+      excluded (out? (whole 0)) (begin? whole 0) (λ out. quiet whole 0 out .no-begin)
+      (begins whole (length es) accepted)
+
+  whole-finds : Finds whole
+  whole-finds = record {
+    commit-finds = λ e commits. commit-finds e commits (less? e (length es));
+    source-store = λ e loads some. source-store e loads some (less? e (length es));
+  }
+    where
+      commit-finds :
+          (e : ℕ) → commit? whole e ≡ true → (e < length es) ⊎ (length es ≤ e) → issue? whole (committed whole e) ≡ true
+      commit-finds e commits (inl inside) =
+          committed-store whole (length es) e accepted inside (record { test = commits }) .store .test
+      commit-finds e commits (inr past) = false-true (rw (List·getD-eq-default es Crash past) at commits)
+
+      is-store : {e s : ℕ} → From whole e s → issue? whole s ≡ true
+      is-store (from-own from) = from .own .store .test
+      is-store (from-commit from) = from .of-thread .store .test
+      is-store (from-past from) = from .store .test
+
+      source-store :
+          (e : ℕ) → load? whole e ≡ true → source whole e ≢ 0 → (e < length es) ⊎ (length es ≤ e)
+          → issue? whole (source whole e) ≡ true
+      source-store e loads some (inl inside) =
+          is-store (source-from whole (length es) accepted e inside (record { test = loads }) some)
+      source-store e loads some (inr past) = false-true (rw (List·getD-eq-default es Crash past) at loads)
 
   -- the source of an event stays: it is a store, or event 0
-  source-stays : (n : ℕ) → out? (traceOf es (source (traceOf es) n)) ≡ false
-  source-stays n = by-source (same? s 0) (test (load? (traceOf es) n)) (less? n (length es))
+  source-stays : (n : ℕ) → out? (whole (source whole n)) ≡ false
+  source-stays n = by-source (same? (source whole n) 0) (test (load? whole n))
     where
-      s : ℕ
-      s = source (traceOf es) n
-
-      from-none : s ≡ 0 → out? (traceOf es s) ≡ false
+      from-none : source whole n ≡ 0 → out? (whole (source whole n)) ≡ false
       from-none none = rw none first-stays
 
-      store-stays : issue? (traceOf es) s ≡ true → out? (traceOf es s) ≡ false
-      store-stays = excluded (out? (traceOf es s)) (issue? (traceOf es) s) (λ out. quiet (traceOf es) s out .no-issue)
-
-      from-store : From (traceOf es) n s → out? (traceOf es s) ≡ false
-      from-store (from-own waiting) = store-stays (waiting .own .store .test)
-      from-store (from-commit committed) = store-stays (committed .of-thread .store .test)
-      from-store (from-past earlier) = store-stays (earlier .store .test)
-
       by-source :
-          (s ≡ 0) ⊎ (s ≢ 0) → (load? (traceOf es) n ≡ true) ⊎ (load? (traceOf es) n ≡ false)
-          → (n < length es) ⊎ (length es ≤ n) → out? (traceOf es s) ≡ false
-      by-source (inl none) load inside = from-none none
-      by-source (inr store) (inr other) inside = from-none (no-source (traceOf es n) other)
-      by-source (inr store) (inl load) (inr past) = from-none (rw (List·getD-eq-default es Crash past, source))
-      by-source (inr store) (inl load) (inl inside) =
-          from-store (source-from (traceOf es) (length es) accepted n inside (record { test = load }) store)
+          (source whole n ≡ 0) ⊎ (source whole n ≢ 0) → (load? whole n ≡ true) ⊎ (load? whole n ≡ false)
+          → out? (whole (source whole n)) ≡ false
+      by-source (inl none) load = from-none none
+      by-source (inr some) (inr other) = from-none (no-source (whole n) other)
+      by-source (inr some) (inl loads) =
+          excluded (out? (whole (source whole n))) (issue? whole (source whole n))
+          (λ out. quiet whole (source whole n) out .no-issue) (whole-finds .source-store n loads some)
 
-  same-event :
-      (n : ℕ) → out? (traceOf es n) ≡ false
-      → SameEvent (traceOf (without out? es)) (traceOf es) (number out? es) n (kept out? es n)
-  same-event n stays = record {
-    kind-same = sym (ap kindOf there ∙ event .kind-same);
-    thread-same = sym (ap (λ e. fieldsOf e .thread) there ∙ event .thread-same);
-    location-same = sym (ap (λ e. fieldsOf e .location) there ∙ event .location-same);
-    source-moved = sym (ap (number out? es) source-kept ∙ number-kept out? es (source (traceOf es) n) (source-stays n));
-    version-same = sym (ap (λ e. fieldsOf e .version) there ∙ event .version-same);
-    threads-same = sym (ap (λ e. fieldsOf e .threads) there ∙ event .threads-same);
-    locations-same = sym (ap (λ e. fieldsOf e .locations) there ∙ event .locations-same);
+  abbrev numbering : Numbering
+  numbering = taking out? crash-stays es first-stays
+
+  -- event e of those that stay is the event with its number, renumbered
+  there : (e : ℕ) → Renumbered (kept out? es) (whole (number out? es e)) (short e)
+  there e =
+      rw (event-there out? (kept out? es) es e)
+      (moved-is (kept out? es) (kept-none out? es) (whole (number out? es e)))
+
+  source-there : (e : ℕ) → source whole (number out? es e) ≡ number out? es (source short e)
+  source-there e =
+      sym (ap (number out? es) (there e .source-moved)
+      ∙ number-kept out? es _ (source-stays (number out? es e)))
+
+  role :
+      (plays? : (ℕ → Event) → ℕ → Bool) → ((e : ℕ) → plays? whole (number out? es e) ≡ plays? short e)
+      → ((n : ℕ) → Quiet whole n → plays? whole n ≡ false) → Role plays? numbering everything short whole
+  role plays? same-role none = record {
+    same = same-role;
+    thread-same = λ e plays. there e .thread-same;
+    thread-own = λ e plays. refl;
+    foreign = λ n out plays. false-true (sym (none n (quiet whole n out)) ∙ plays);
   }
+
+  abbrev embedding : Embedding everything everything short whole
+  embedding = record {
+    stores = numbering;
+    loads = numbering;
+    commits = numbering;
+    issuing = role issue? (λ e. rw (there e .kind-same)) (λ n none. none .no-issue);
+    skip-on = role skipOn? (λ e. rw (there e .kind-same)) (λ n none. none .no-skip-on);
+    skip-off = role skipOff? (λ e. rw (there e .kind-same)) (λ n none. none .no-skip-off);
+    loading = role load? (λ e. rw (there e .kind-same)) (λ n none. none .no-load);
+    committing = role commit? (λ e. rw (there e .kind-same)) (λ n none. none .no-commit);
+    crash-same = λ e. rw (there e .kind-same);
+    crash-stays = λ n out. quiet whole n out .no-crash;
+    store-location = λ e store. there e .location-same;
+    load-location = λ e loads. there e .location-same;
+    location-own = λ e loads. refl;
+    source-same = λ e loads. source-there e;
+    stores-at-load = numbering .kept-number;
+    commits-at-load = numbering .kept-number;
+    stores-at-commit = numbering .kept-number;
+    store-near = λ n. inl refl;
+    commit-near = λ n. inl refl;
+  }
+
+  short-finds : Finds short
+  short-finds = record { commit-finds = commit-finds; source-store = source-store }
     where
-      event : Moved (kept out? es) (traceOf es n)
-      event = moved-is (kept out? es) (kept-none out? es) (traceOf es n)
+      store-there : (p : ℕ) → issue? whole (number out? es p) ≡ true → issue? short p ≡ true
+      store-there p store = rw (there p .kind-same) at store
 
-      there : traceOf (without out? es) (kept out? es n) ≡ moved (kept out? es) (traceOf es n)
-      there = event-there out? (kept out? es) es (kept out? es n) ∙ rw (number-kept out? es n stays)
+      commit-finds : (e : ℕ) → commit? short e ≡ true → issue? short (committed short e) ≡ true
+      commit-finds e commits =
+          store-there (committed short e)
+          (rw (committed-at embedding e commits) at
+          (whole-finds .commit-finds (number out? es e) (rw (there e .kind-same) commits)))
 
-      source-kept : source (traceOf (without out? es)) (kept out? es n) ≡ kept out? es (source (traceOf es) n)
-      source-kept = ap (λ e. fieldsOf e .source) there ∙ event .source-moved
+      source-store : (e : ℕ) → load? short e ≡ true → source short e ≢ 0 → issue? short (source short e) ≡ true
+      source-store e loads some =
+          let some-there : source whole (number out? es e) ≢ 0 =
+          λ none. some (number-injective numbering _ 0 (sym (source-there e) ∙ none ∙ sym (number-zero numbering)))
+          in
+          store-there (source short e)
+          (rw (source-there e) at
+          (whole-finds .source-store (number out? es e) (rw (there e .kind-same) loads) some-there))
 
-  renumbering : Renumbering (traceOf (without out? es)) (traceOf es)
-  renumbering = record {
-    gap? = λ n. out? (traceOf es n);
-    number = number out? es;
-    kept = kept out? es;
-    kept-none = kept-none out? es;
-    kept-gap = kept-out out? crash-stays es;
-    kept-event = kept-event out? es;
-    number-kept = number-kept out? es;
-    kept-number = kept-number out? es;
-    number-stays = number-stays out? crash-stays es;
-    first-stays = first-stays;
-    quiet = quiet (traceOf es);
-    same = same-event;
+  apart : Apart embedding
+  apart = record {
+    store-apart = λ n out store. false-true (sym (quiet whole n out .no-issue) ∙ store);
+    commit-apart = λ n out commits. false-true (sym (quiet whole n out .no-commit) ∙ commits);
+    finds = short-finds;
   }
+
+  cover : Cover embedding embedding
+  cover = record {
+    each-store = λ p store. inl (excluded (out? (whole p)) (issue? whole p) (λ out. quiet whole p out .no-issue) store);
+    each-load = λ l loads. inl (excluded (out? (whole l)) (load? whole l) (λ out. quiet whole l out .no-load) loads);
+    each-thread = λ u. inl refl;
+  }
+
+  same-event : (e : ℕ) → SameEvent embedding (number out? es e) e
+  same-event e = record {
+    as-store = refl;
+    as-load = refl;
+    as-commit = refl;
+    kind-same = there e .kind-same;
+    thread-same = λ has. there e .thread-same;
+    thread-own = λ has. refl;
+    location-same = λ has. there e .location-same;
+    location-own = λ has. refl;
+    begin-fits = λ begin. rw (there e .version-same, there e .threads-same, there e .locations-same);
+  }
+
+  same-begin : SameBegin everything everything short whole
+  same-begin = record {
+    thread-fits = λ t own. rw (rw (number-zero numbering) at (there 0 .threads-same));
+    location-fits = λ x own. rw (rw (number-zero numbering) at (there 0 .locations-same));
+  }
+
+  -- ---- what follows from it
+
+  length-short : kept out? es (length es) ≡ length (without out? es)
+  length-short = length-kept out? (kept out? es) es
 
   -- the trace without those events is accepted
   pub removed-accepted : Accepted (traceOf (without out? es)) (length (without out? es))
-  unfolding renumbering
-  removed-accepted = rw (length-kept out? (kept out? es) es) at (accepted-thin renumbering (length es) accepted)
+  removed-accepted = rw length-short at (accepted-part embedding apart same-begin same-event (length es) accepted)
 
   -- and has the same exact ruling, apart from event numbers
   pub removed-exact :
       (v : Ruling)
       → Exact (traceOf (without out? es)) (length (without out? es)) v
       ↔ Exact (traceOf es) (length es) (carry (number out? es) v)
-  unfolding renumbering
-  removed-exact v = rw (length-kept out? (kept out? es) es) at (exact-both renumbering (length es) v)
+  removed-exact v =
+      rw (length-short, carry-alike (number out? es) v) at (exact-both embedding apart cover (length es) v)
 
   -- and in each finished stretch the same commits of each thread
   pub removed-finished :
       (j t : ℕ)
       → finished (traceOf (without out? es)) (length (without out? es)) j t ≡ finished (traceOf es) (length es) j t
-  unfolding renumbering
-  removed-finished j t =
-      sym (rw (length-kept out? (kept out? es) es) at (finished-kept renumbering (length es) j t))
+  removed-finished j t = sym (rw length-short at (finished-kept embedding (length es) j t refl))

@@ -1,19 +1,21 @@
--- Which roles exclude one another, and that an event plays a role or does not. An event has one kind, and each role is
--- a test of it; by these facts, proofs elsewhere need not look at the numbers of kinds.
--- In order: what issues, commits and loads are not; the decisions.
-use Prim.Native.Nat.{ℕ}
+-- Which roles exclude a crash or a begin, which kinds play no role, and that an event plays a role or does not. An
+-- event has one kind, and each role is a test of it; by these facts, proofs elsewhere need not look at the numbers of
+-- kinds.
+-- In order: what issues, commits and loads are not; the kinds that play no role; the decisions.
+use Prim.Native.Nat.{ℕ, _≤_}
 use native.Mathlib.Omega.{arith}
 use mathlib.Core.Path.{_≡_, sym, _∙_}
 use mathlib.Core.Bool.{true, false}
 use mathlib.Core.Logic.{_⊎_, inl, inr, _≢_}
 use borrow.Author.Tests.{eqb-true, ne-eqb}
 use Rattle.record.specs.declared.events.Event.{Event}
-use Rattle.model.specs.Trace.{kind, is, issue?, commit?, load?, crash?, Issue, Commit, Load}
+use Rattle.model.specs.Trace.{kind, is, begin?, issue?, commit?, load?, crash?, skipOn?, skipOff?}
+use Rattle.model.specs.Trace.{Issue, Commit, Load}
 use Rattle.model.proofs.Searching.{false-true, test}
 
 module _ (ev : ℕ → Event) where
   -- an event of one kind is of no other
-  one-kind : (e a b : ℕ) → a ≢ b → is ev a e ≡ true → is ev b e ≡ false
+  pub one-kind : (e a b : ℕ) → a ≢ b → is ev a e ≡ true → is ev b e ≡ false
   one-kind e a b differ is-a = ne-eqb (kind ev e) b (λ is-b. omega (arith, eqb-true (kind ev e) a is-a))
 
   -- ---- what the roles exclude
@@ -27,14 +29,35 @@ module _ (ev : ℕ → Event) where
   pub load-no-crash : {e : ℕ} → Load ev e → crash? ev e ≡ false
   load-no-crash {e} loads = one-kind e 4 9 (omega arith) (loads .test)
 
-  pub load-no-commit : {e : ℕ} → Load ev e → commit? ev e ≡ false
-  load-no-commit {e} loads = one-kind e 4 3 (omega arith) (loads .test)
-
   pub begin-no-issue : {e : ℕ} → is ev 1 e ≡ true → Issue ev e → ⊥
   begin-no-issue {e} begins store = false-true (sym (one-kind e 1 2 (omega arith) begins) ∙ store .test)
 
   pub begin-no-load : (e : ℕ) → is ev 1 e ≡ true → load? ev e ≡ false
   begin-no-load e = one-kind e 1 4 (omega arith)
+
+  -- ---- the kinds that play no role
+
+  -- event e plays no role on which a ruling rests
+  pub record Quiet (e : ℕ) : Type 0 where
+    pub no-begin : begin? ev e ≡ false
+    pub no-issue : issue? ev e ≡ false
+    pub no-commit : commit? ev e ≡ false
+    pub no-load : load? ev e ≡ false
+    pub no-crash : crash? ev e ≡ false
+    pub no-skip-on : skipOn? ev e ≡ false
+    pub no-skip-off : skipOff? ev e ≡ false
+
+  -- so do flushes and fences, kinds 5 to 8
+  pub quiet-kind : (e : ℕ) → 5 ≤ kind ev e → kind ev e ≤ 8 → Quiet e
+  quiet-kind e low high = record {
+    no-begin = ne-eqb (kind ev e) 1 (λ is. omega arith);
+    no-issue = ne-eqb (kind ev e) 2 (λ is. omega arith);
+    no-commit = ne-eqb (kind ev e) 3 (λ is. omega arith);
+    no-load = ne-eqb (kind ev e) 4 (λ is. omega arith);
+    no-crash = ne-eqb (kind ev e) 9 (λ is. omega arith);
+    no-skip-on = ne-eqb (kind ev e) 10 (λ is. omega arith);
+    no-skip-off = ne-eqb (kind ev e) 11 (λ is. omega arith);
+  }
 
   -- ---- the decisions
 

@@ -1,0 +1,231 @@
+-- The machine of specs/Machine.antt, for a part of a trace and the whole (specs/Embedding.antt): each search looks for
+-- stores or commits of the part's threads, or at its locations, and so finds the same event. Searches by thread need
+-- the embedding alone, searches by location also that locations stay apart.
+-- In order: stores and commits that are searched for by thread; by location; the load rule; which loads count.
+use Prim.Native.Nat.{ℕ}
+use mathlib.Core.Path.{_≡_, refl, sym, _∙_}
+use mathlib.Core.Bool.{Bool, true, false, cond, _&&_}
+use mathlib.Core.List.{List, [], _∷_, map}
+use mathlib.Core.Logic.{_⊎_, inl, inr, _≢_}
+use lib.Dec.{eqb, leb}
+use Rattle.record.specs.declared.events.Event.{Event}
+use Rattle.model.specs.Search.{any, member, last}
+use Rattle.model.specs.Trace.{thread, location, source, issue?, commit?, load?, stretch, commits, place}
+use Rattle.model.specs.Machine.{committedBy, committed, commitOf, waiting, commitsHere, current, past, sourceFits}
+use Rattle.model.specs.Machine.{skipping, counted, counting, counts}
+use Rattle.model.specs.Choice.{Counted}
+use Rattle.model.specs.Embedding.{Naming, Embedding, Apart}
+use Rattle.model.proofs.Searching.{third-fails, same?, parts, last-is}
+use Rattle.model.proofs.LoadRule.{committed-zero}
+use Rattle.model.proofs.CountedLoads.{as-of-itself}
+use Rattle.model.proofs.Numberings.{into-eqb, not-own, number-zero, kept-lt, number-below, number-eqb}
+use Rattle.model.proofs.Numberings.{number-eqb-zero, Carried, last-kept}
+use Rattle.model.proofs.EmbeddedTrace.{by-role, stretch-store, stretch-load, stretch-commit, search-kept}
+use Rattle.model.proofs.EmbeddedTrace.{commits-kept, place-at, committedBy-commit, committedBy-load}
+use Rattle.model.proofs.EmbeddedTrace.{skipping-kept}
+
+module _
+    {threadsBy locationsBy : Naming} {part whole : ℕ → Event} (via : Embedding threadsBy locationsBy part whole) where
+  -- ---- by thread
+
+  pub committed-at :
+      (e : ℕ) → commit? part e ≡ true
+      → committed whole (via .commits .number e) ≡ via .stores .number (committed part e)
+  unfolding committed
+  committed-at e commits =
+      let here = via .commits .number e in
+      search-kept via (via .issuing) (via .committing .thread-same e commits) (via .committing .thread-own e commits)
+      (stretch-store via) (stretch-commit via e) (λ b p. b && eqb (place whole p) (committedBy whole here))
+      (λ b p. b && eqb (place part p) (committedBy part e)) (λ p. refl) (λ p. refl)
+      (λ b p store. rw (place-at via p store, committedBy-commit via e commits)) here e (via .stores-at-commit e)
+
+  -- the commit of a store, among those before a load
+  pub commitOf-at :
+      (l p : ℕ) → issue? part p ≡ true
+      → commitOf whole (via .loads .number l) (via .stores .number p) ≡ via .commits .number (commitOf part l p)
+  unfolding commitOf
+  commitOf-at l p store =
+      search-kept via (via .committing) (via .issuing .thread-same p store) (via .issuing .thread-own p store)
+      (stretch-commit via) (stretch-store via p)
+      (λ b c. b && eqb (committedBy whole c) (place whole (via .stores .number p)))
+      (λ b c. b && eqb (committedBy part c) (place part p)) (λ c. refl) (λ c. refl)
+      (λ b c commits. rw (place-at via p store, committedBy-commit via c commits)) (via .loads .number l) l
+      (via .commits-at-load l)
+
+  waiting-at :
+      (l : ℕ) → load? part l ≡ true → waiting whole (via .loads .number l) ≡ via .stores .number (waiting part l)
+  unfolding waiting
+  waiting-at l loads =
+      search-kept via (via .issuing) (via .loading .thread-same l loads) (via .loading .thread-own l loads)
+      (stretch-store via) (stretch-load via l)
+      (λ b p. b && eqb (location whole p) (location whole here) && leb (committedBy whole here) (place whole p))
+      (λ b p. b && eqb (location part p) (location part l) && leb (committedBy part l) (place part p))
+      (λ p. refl) (λ p. refl) more-same here l (via .stores-at-load l)
+    where
+      here : ℕ
+      here = via .loads .number l
+
+      more-same :
+          (b : Bool) (p : ℕ) → issue? part p ≡ true
+          → (b && eqb (location whole (via .stores .number p)) (location whole here)
+          && leb (committedBy whole here) (place whole (via .stores .number p)))
+          ≡ (b && eqb (location part p) (location part l) && leb (committedBy part l) (place part p))
+      more-same b p store =
+          rw (
+            place-at via p store,
+            committedBy-load via l loads,
+            via .store-location p store,
+            via .load-location l loads,
+            into-eqb locationsBy (location part p) (location part l),
+          )
+
+module _
+    {threadsBy locationsBy : Naming} {part whole : ℕ → Event} (via : Embedding threadsBy locationsBy part whole)
+    (apart : Apart via) where
+  -- ---- by location
+
+  module _ (l : ℕ) (loads : load? part l ≡ true) where
+    -- the event of the whole that loads as event l of the part does
+    abbrev here : ℕ
+    here = via .loads .number l
+
+    last-commit-at : last here (commitsHere whole here) ≡ via .commits .number (last l (commitsHere part l))
+    last-commit-at = rw (via .commits-at-load l) at (last-kept (via .commits) carried here)
+      where
+        no-commit : (c : ℕ) → via .commits .gap? c ≡ true → commitsHere whole here c ≡ false
+        no-commit c gap =
+            rw (via .load-location l loads)
+            (third-fails _ _ _
+            (λ commits. not-own locationsBy _ _ (apart .commit-apart c gap commits) (via .location-own l loads)))
+
+        same-commit : (c : ℕ) → commitsHere whole here (via .commits .number c) ≡ commitsHere part l c
+        same-commit c =
+            by-role (commit? part c)
+            (λ commits.
+            rw (
+              committed-at via c commits,
+              via .store-location (committed part c) (apart .finds .commit-finds c commits),
+              via .load-location l loads,
+              into-eqb locationsBy (location part (committed part c)) (location part l),
+              via .committing .same c,
+              stretch-commit via c,
+              stretch-load via l,
+            ))
+            (λ other. rw (via .committing .same c, other))
+
+        carried : Carried (via .commits) (commitsHere whole here) (commitsHere part l)
+        carried = record { gap-fails = no-commit; event-same = same-commit }
+
+    current-at : current whole here ≡ via .stores .number (current part l)
+    unfolding current
+    current-at = rw last-commit-at (by-found (same? found 0))
+      where
+        found : ℕ
+        found = last l (commitsHere part l)
+
+        by-found :
+            (found ≡ 0) ⊎ (found ≢ 0)
+            → committed whole (via .commits .number found) ≡ via .stores .number (committed part found)
+        by-found (inl none) =
+            rw (none, number-zero (via .commits), committed-zero whole, committed-zero part)
+            (sym (number-zero (via .stores)))
+        by-found (inr some) =
+            let passes = last-is l (commitsHere part l) some .1 in
+            let in-stretch = parts (commit? part found && eqb (stretch part found) (stretch part l)) _ passes .0 in
+            committed-at via found (parts (commit? part found) _ in-stretch .0)
+
+    past-at : (s : ℕ) → past whole here (via .stores .number s) ≡ past part l s
+    past-at s =
+        by-role (issue? part s)
+        (λ store.
+        rw (
+          place-at via s store,
+          via .issuing .same s,
+          via .store-location s store,
+          via .load-location l loads,
+          into-eqb locationsBy (location part s) (location part l),
+          via .issuing .thread-same s store,
+          stretch-store via s,
+          stretch-load via l,
+          commits-kept via here (stretch part s) (thread part s) (via .issuing .thread-own s store),
+          via .commits-at-load l,
+        ))
+        (λ other. rw (via .issuing .same s, other))
+
+    -- ---- the load rule
+
+    pub sourceFits-at : sourceFits whole here ≡ sourceFits part l
+    unfolding sourceFits
+    sourceFits-at =
+        let s = source part l in
+        rw (
+          waiting-at via l loads,
+          current-at,
+          via .source-same l loads,
+          number-eqb-zero (via .stores) (waiting part l),
+          number-eqb-zero (via .stores) (current part l),
+          number-eqb-zero (via .stores) s,
+          number-eqb (via .stores) s (waiting part l),
+          number-eqb (via .stores) s (current part l),
+          past-at s,
+        )
+
+    -- ---- which loads count
+
+    skipping-load : skipping whole here (thread whole here) ≡ skipping part l (thread part l)
+    skipping-load =
+        rw (via .loading .thread-same l loads)
+        (skipping-kept via here (thread part l) (via .loading .thread-own l loads) ∙ rw (via .stores-at-load l))
+
+    counted-same : counted whole here ≡ counted part l
+    unfolding counted
+    counted-same =
+        rw (
+          waiting-at via l loads,
+          current-at,
+          via .loading .same l,
+          number-eqb-zero (via .stores) (waiting part l),
+          number-eqb-zero (via .stores) (current part l),
+          skipping-load,
+        )
+
+  -- as of an event count, in the whole, the loads that count as of it in the part
+  counting-at : (e : ℕ) → counting whole (via .loads .number e) ≡ map (via .loads .number) (counting part e)
+  unfolding counting counted
+  counting-at e = rw same-test (by-test (counted part e))
+    where
+      same-test : counted whole (via .loads .number e) ≡ counted part e
+      same-test = by-role (load? part e) (counted-same e) (λ other. rw (via .loading .same e, other))
+
+      by-test :
+          (b : Bool) → cond b (via .loads .number e ∷ []) [] ≡ map (via .loads .number) (cond b (e ∷ []) [])
+      by-test true = refl
+      by-test false = refl
+
+  member-numbered : (l : ℕ) (ls : List ℕ) → member (via .loads .number l) (map (via .loads .number) ls) ≡ member l ls
+  unfolding any
+  member-numbered l [] = refl
+  member-numbered l (k ∷ ks) = rw (number-eqb (via .loads) l k, member-numbered l ks)
+
+  counts-at : (e l : ℕ) → counts whole (via .loads .number e) (via .loads .number l) ≡ counts part e l
+  counts-at e l = rw (counting-at e) (member-numbered l (counting part e))
+
+  pub counted-at : {N l : ℕ} → Counted part (via .loads .kept N) l → Counted whole N (via .loads .number l)
+  counted-at {N} {l} it = record {
+    as-of = via .loads .number (it .as-of);
+    inside = number-below (via .loads) (it .as-of) N (it .inside);
+    here = counts-at (it .as-of) l ∙ it .here;
+  }
+
+  pub counted-kept :
+      {N l : ℕ} → via .loads .gap? l ≡ false → Counted whole N l
+      → Counted part (via .loads .kept N) (via .loads .kept l)
+  counted-kept {N} {l} load it =
+      let event : via .loads .gap? (it .as-of) ≡ false = rw (← as-of-itself whole (it .as-of) l (it .here) .0) load in
+      record {
+        as-of = via .loads .kept (it .as-of);
+        inside = kept-lt (via .loads) (it .as-of) N event (it .inside);
+        here =
+            sym (counts-at (via .loads .kept (it .as-of)) (via .loads .kept l))
+            ∙ rw (via .loads .number-kept (it .as-of) event, via .loads .number-kept l load) (it .here);
+      }
