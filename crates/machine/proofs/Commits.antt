@@ -1,88 +1,91 @@
--- Commits keep `Sim`: the thread's oldest waiting store, `taken`, takes effect. It becomes the head of its location's
--- chain, in which it was not, and the thread's commits of the stretch grow by one; the next store of the thread is then
--- the oldest.
--- In order: chains; the store; the thread; the chains afterwards; the step.
-use mathlib.Core.Path.{_≡_, refl, sym, ap, _∙_}
-use mathlib.Core.Bool.{Bool, true, false, cond}
+-- What a commit does to the components of `Sim` that commits concern, whatever else the event may be: the oldest
+-- waiting store of its thread, `taken`, takes effect. It becomes the head of its location's chain, in which it was not.
+-- And the step of kind 3, which is a commit and nothing else: the next store of the thread is then the oldest.
+-- In order: chains; the store; the chains afterwards; the step.
+use mathlib.Core.Path.{_≡_, refl, sym, _∙_}
+use mathlib.Core.Bool.{true, false, cond}
 use mathlib.Core.List.{List, [], _∷_}
 use mathlib.Core.Logic.{_⊎_, inl, inr, _≢_}
-use Prim.Native.Nat.{ℕ, zero, suc, _+_, _-_, _≤_, _<_}
+use Prim.Native.Nat.{ℕ, zero, suc, _+_, _≤_, _<_}
 use native.Mathlib.Omega.{arith}
-use borrow.Author.Tests.{eqb-true, ne-eqb}
-use lib.ListN.{getD, set, length-set}
+use borrow.Author.Tests.{ne-eqb}
+use lib.ListN.{getD, length-set}
 use Rattle.record.specs.declared.events.Event.{Event}
-use Rattle.record.specs.Table.{rowOf}
-use Rattle.model.specs.Trace.{kind, thread, location, is, issue?, commit?, crash?, Issue, Commit, hasLocation?}
+use Rattle.model.specs.Trace.{kind, thread, location, issue?, commit?, load?, crash?, skipOn?, skipOff?, Commit}
 use Rattle.model.specs.Trace.{stretch, place}
-use Rattle.model.specs.Search.{last}
-use Rattle.model.specs.Machine.{oldest, committed}
+use Rattle.model.specs.Machine.{committed}
 use Rattle.model.specs.Rules.{refusal, Accepted}
 use Rattle.model.specs.Stores.{storeAt, landsAt, landed}
-use Rattle.model.proofs.Searching.{false-true, same?, last-is}
-use Rattle.model.proofs.Counting.{stretch-else}
+use Rattle.model.proofs.Searching.{test, same?, parts}
 use Rattle.model.proofs.Roles.{commit-no-crash}
 use Rattle.model.proofs.Acceptance.{store-not-0}
-use Rattle.model.proofs.Limits.{accepted-next, location-below}
-use Rattle.model.proofs.StorePlaces.{count-most, Store, its-place, committed-at, committed-store}
-use Rattle.model.proofs.Unchanged.{live-away, live-here, store-at-away, skipping-away, landed-away, landed-here}
-use Rattle.model.proofs.Unchanged.{landed-once, Lacks}
-use Rattle.area.specs.Cells.{getRow, putRow, noStore, up}
+use Rattle.model.proofs.Limits.{accepted-next}
+use Rattle.model.proofs.Ranges.{issue-has-location, commit-has-thread, location-bound}
+use Rattle.model.proofs.StorePlaces.{Store, its-place, committed-at, committed-store}
+use Rattle.model.proofs.Unchanged.{live-here, landed-away, landed-here, landed-once, Lacks}
+use Rattle.area.specs.Cells.{getRow, noStore}
 use Rattle.area.specs.Rows.{Linked}
-use Rattle.area.proofs.ReadBack.{rows-apart, put-same, put-row, up-is}
+use Rattle.area.proofs.ReadBack.{rows-apart, put-same, put-row}
 use Rattle.machine.specs.declared.threads.Thread.{Thread}
 use Rattle.machine.specs.Tables.{lastCell, stretchCell}
-use Rattle.machine.specs.Threads.{committedT, putCommitted, threadOf}
-use Rattle.machine.specs.Twin.{World, world, ticked}
+use Rattle.machine.specs.Threads.{committedT, threadOf}
+use Rattle.machine.specs.Twin.{World}
 use Rattle.machine.specs.Effects.{oldestPlace, committedTables, committedWork, commitW}
-use Rattle.machine.specs.Sim.{issued, done, Queue, Chain, Chains, Sim}
+use Rattle.machine.specs.Sim.{done, Queue, Chain, Chains, Sim}
 use Rattle.machine.proofs.Storing.{Same}
 use Rattle.machine.proofs.TableLaws.{committed-replaced, committed-beyond, committed-last}
 use Rattle.machine.proofs.TableLaws.{committed-stretch}
-use Rattle.machine.proofs.RowLaws.{NoStore, no-store-is, no-store-links, link-no-store}
-use Rattle.machine.proofs.Keep.{limits-next, in-time, numbers-next, queues-with, seen-keep, newest-keep}
-use Rattle.machine.proofs.Keep.{commits-keep, sources-keep, rows-keep, links-keep}
+use Rattle.machine.proofs.RowLaws.{no-store-is, no-store-links, link-no-store}
+use Rattle.machine.proofs.Keep.{limits-next, in-time, few-own, numbers-next, spares, counted-up}
+use Rattle.machine.proofs.Keep.{place-stays, issued-stays, newest-stays, skip-stays, queues-with, seen-keep}
+use Rattle.machine.proofs.Keep.{newest-keep, commits-keep, sources-keep, rows-keep, links-keep}
 
 -- ---- chains
 
--- all stores of the list have rows
-abbrev Rowed : List ℕ → Type 0
-Rowed [] = Unit
-Rowed (q ∷ qs) = (q ≤ 2048) × Rowed qs
+-- the stores of the list are events 1 to n - 1
+abbrev Early : ℕ → List ℕ → Type 0
+Early n [] = Unit
+Early n (q ∷ qs) = ((1 ≤ q) × (q < n)) × Early n qs
 
 -- the links spell the same list where they are as they were but for a store that is not in it
 linked-but :
-    (ev : ℕ → Event) (l l′ : List ℕ) (p : ℕ) → ((q : ℕ) → q ≤ 2048 → q ≢ p → getRow l′ q 14 ≡ getRow l q 14)
-    → (h : ℕ) (ps : List ℕ) → Rowed ps → Lacks ev p ps → Linked l h ps → Linked l′ h ps
-linked-but ev l l′ p same h [] rowed lacks linked = linked
-linked-but ev l l′ p same h (q ∷ qs) rowed lacks linked = (
+    (ev : ℕ → Event) (n p : ℕ) (l l′ : List ℕ)
+    → ((q : ℕ) → 1 ≤ q → q < n → q ≢ p → getRow l′ q 14 ≡ getRow l q 14)
+    → (h : ℕ) (ps : List ℕ) → Early n ps → Lacks ev p ps → Linked l h ps → Linked l′ h ps
+linked-but ev n p l l′ same h [] early lacks linked = linked
+linked-but ev n p l l′ same h (q ∷ qs) early lacks linked = (
   linked .0,
-  rw (same q (rowed .0) (lacks .0))
-      (linked-but ev l l′ p same (getRow l q 14) qs (rowed .1) (lacks .1) (linked .1)),
+  rw (same q (early .0 .0) (early .0 .1) (lacks .0))
+      (linked-but ev n p l l′ same (getRow l q 14) qs (early .1) (lacks .1) (linked .1)),
 )
 
 -- what an event commits comes no later than it
-committed-rowed : (ev : ℕ → Event) (c : ℕ) → c ≤ 2048 → committed ev c ≤ 2048
-unfolding committed
-committed-rowed ev c small = by-number (same? (last c (oldest ev c)) 0)
-  where
-    by-number : (last c (oldest ev c) ≡ 0) ⊎ (last c (oldest ev c) ≢ 0) → last c (oldest ev c) ≤ 2048
-    by-number (inl none) = omega arith
-    by-number (inr some) = omega (arith, last-is c (oldest ev c) some .0)
-
-landed-rowed : (ev : ℕ → Event) (n x : ℕ) → n ≤ 2049 → Rowed (landed ev n x)
+landed-early : (ev : ℕ → Event) (n : ℕ) → Accepted ev n → (m x : ℕ) → m ≤ n → Early n (landed ev m x)
 unfolding landed
-landed-rowed ev zero x small = tt
-landed-rowed ev (suc n) x small =
-    by-landing (landsAt ev x n) (committed-rowed ev n (omega arith)) (landed-rowed ev n x (omega arith))
+landed-early ev n accepted zero x within = tt
+landed-early ev n accepted (suc m) x within =
+    by-landing (test (landsAt ev x m)) (landed-early ev n accepted m x (omega arith))
   where
     by-landing :
-        (lands : Bool) → committed ev n ≤ 2048 → Rowed (landed ev n x)
-        → Rowed (cond lands (committed ev n ∷ landed ev n x) (landed ev n x))
-    by-landing true it earlier = (it, earlier)
-    by-landing false it earlier = earlier
+        (landsAt ev x m ≡ true) ⊎ (landsAt ev x m ≡ false) → Early n (landed ev m x)
+        → Early n (cond (landsAt ev x m) (committed ev m ∷ landed ev m x) (landed ev m x))
+    by-landing (inr elsewhere) earlier = rw elsewhere earlier
+    by-landing (inl lands) earlier =
+        let it = committed-store ev n m accepted within (record { test = parts (commit? ev m) _ lands .0 }) in
+        let some : committed ev m ≢ 0 = store-not-0 ev n accepted (it .store) in
+        rw lands ((omega arith, omega (arith, it .early)), earlier)
+
+-- store p heads the chain of location x, by a commit in stretch j, and the chains are else as they were before event n
+record Headed (n p x j : ℕ) (tables tables′ l l′ : List ℕ) : Type 0 where
+  head-is : getD tables′ (lastCell x) 0 ≡ p
+  stretch-is : getD tables′ (stretchCell x) 0 ≡ j
+  link-is : getRow l′ p 14 ≡ getD tables (lastCell x) 0
+  other-heads : (y : ℕ) → y < 256 → x ≢ y → getD tables′ (lastCell y) 0 ≡ getD tables (lastCell y) 0
+  other-stretches : (y : ℕ) → y < 256 → x ≢ y → getD tables′ (stretchCell y) 0 ≡ getD tables (stretchCell y) 0
+  other-links : (q : ℕ) → 1 ≤ q → q < n → q ≢ p → getRow l′ q 14 ≡ getRow l q 14
 
 module _ (ev : ℕ → Event) (n : ℕ) (w : World) (sim : Sim ev n w) (passes : refusal ev n ≡ 0)
-    (is-commit : Commit ev n) (few : thread ev n < 8) where
+    (is-commit : Commit ev n) where
   abbrev t : ℕ
   t = thread ev n
 
@@ -95,6 +98,9 @@ module _ (ev : ℕ → Event) (n : ℕ) (w : World) (sim : Sim ev n w) (passes :
   abbrev tables : List ℕ
   tables = w .tables
 
+  no-crash : crash? ev n ≡ false
+  no-crash = commit-no-crash ev is-commit
+
   -- ---- the store that takes effect
 
   abbrev taken : ℕ
@@ -106,210 +112,164 @@ module _ (ev : ℕ → Event) (n : ℕ) (w : World) (sim : Sim ev n w) (passes :
   taken-store : Store ev n j t (done ev n t) taken
   taken-store = committed-store ev (suc n) n accepted (omega arith) is-commit
 
-  taken-some : 1 ≤ taken
-  taken-some = let some : taken ≢ 0 = store-not-0 ev (suc n) accepted (taken-store .store) in omega arith
-
-  taken-early : taken ≤ 2047
-  taken-early = omega (arith, taken-store .early, in-time ev n (sim .limits) passes)
-
   abbrev x : ℕ
   x = location ev taken
 
   x-small : x < 256
-  unfolding rowOf
   x-small =
-      let is-issue : kind ev taken ≡ 2 = eqb-true (kind ev taken) 2 (taken-store .store .test) in
-      let has : hasLocation? ev taken ≡ true = rw is-issue refl in
-      let below = location-below ev (suc n) accepted taken (omega (arith, taken-store .early)) has in
-      omega (arith, sim .limits .few-locations)
+      location-bound ev (suc n) accepted taken (omega (arith, taken-store .early))
+      (issue-has-location ev (taken-store .store))
 
-  -- ---- the thread
+  -- ---- the chains: that of the store's location has a new head, and no link changes but the store's own
 
-  no-crash : crash? ev n ≡ false
-  no-crash = commit-no-crash ev is-commit
+  chains-next : (tables′ l′ : List ℕ) → Headed n taken x j tables tables′ l l′ → Chains ev (suc n) tables′ l′
+  chains-next tables′ l′ it y small = own-or-other (same? x y)
+    where
+      -- the store is in no chain so far, so that its new link is in none of them
+      stays : (z : ℕ) → z < 256 → Linked l′ (getD tables (lastCell z) 0) (landed ev n z)
+      stays z few-z =
+          linked-but ev n taken l l′ (it .other-links) (getD tables (lastCell z) 0) (landed ev n z)
+          (landed-early ev n (sim .limits .accepted) n z (omega arith))
+          (landed-once ev (suc n) n accepted (omega arith) is-commit n z (omega arith)) (sim .chains z few-z .links)
 
-  kind-is : kind ev n ≡ 3
-  kind-is = eqb-true (kind ev n) 3 (is-commit .test)
-
-  no-issue : issue? ev n ≡ false
-  no-issue = let is-3 = kind-is in ne-eqb (kind ev n) 2 (λ is-2. omega arith)
-
-  commits-next : done ev (suc n) t ≡ suc (done ev n t)
-  commits-next = live-here ev (commit? ev) n no-crash (is-commit .test)
-
-  counted-up : (old : Thread) → Queue ev n t old → up (old .committed) ≡ suc (done ev n t)
-  counted-up old queue =
-      let most = count-most ev (commit? ev) n j t in
-      let in-bound : old .committed ≤ 2049 = omega (arith, queue .committed-is, most, sim .limits .few-events) in
-      up-is (old .committed) in-bound ∙ ap suc (queue .committed-is)
-
-  queue-next :
-      (next : ℕ) (old : Thread) → next ≡ storeAt ev n j t (suc (done ev n t)) → Queue ev n t old
-      → Queue ev (suc n) t (committedT old next)
-  unfolding committedT
-  queue-next next old next-is queue =
-      let is-3 = kind-is in
-      let no-store : Issue ev n → thread ev n ≡ t → ⊥ = λ store _. false-true (sym no-issue ∙ store .test) in
-      let issues-stay = live-away ev (issue? ev) n t no-crash (λ is _. false-true (sym no-issue ∙ is)) in
-      let no-on : is ev 10 n ≡ true → thread ev n ≡ t → ⊥ = λ on _. omega (arith, eqb-true (kind ev n) 10 on) in
-      let no-off : is ev 11 n ≡ true → thread ev n ≡ t → ⊥ = λ off _. omega (arith, eqb-true (kind ev n) 11 off) in
-      record {
-        issued-is = queue .issued-is ∙ sym issues-stay;
-        committed-is = counted-up old queue ∙ sym commits-next;
-        skip-is = queue .skip-is ∙ sym (skipping-away ev n t no-crash no-on no-off);
-        oldest-is =
-            rw (commits-next, stretch-else ev n no-crash, store-at-away ev n j t (suc (done ev n t)) no-store) next-is;
-        newest-is =
-            rw (issues-stay, stretch-else ev n no-crash, store-at-away ev n j t (issued ev n t - 1) no-store)
-            (queue .newest-is);
+      own-or-other : (x ≡ y) ⊎ (x ≢ y) → Chain ev (suc n) y tables′ l′
+      own-or-other (inl own) =
+          let some = store-not-0 ev (suc n) accepted (taken-store .store) in
+          record {
+            links = rw (← own, landed-here ev n is-commit, it .head-is) (refl, rw (it .link-is) (stays x x-small));
+            stretch-is =
+                rw (← own, it .head-is, it .stretch-is, ne-eqb taken 0 some) (sym (taken-store .in-j));
+          }
+      own-or-other (inr other) = record {
+        links = rw (landed-away ev n y (λ _ same. other same), it .other-heads y small other) (stays y small);
+        stretch-is =
+            rw (it .other-heads y small other, it .other-stretches y small other) (sim .chains y small .stretch-is);
       }
 
-  -- ---- the chains
+  -- ---- the step of kind 3, which is no issue, no load and no skip
 
-  abbrev without : List ℕ
-  without = noStore l (w .state .row)
+  module _ (kind-is : kind ev n ≡ 3) where
+    abbrev row : ℕ
+    row = w .state .row
 
-  -- the head of the location's chain before
-  abbrev link : ℕ
-  link = getD tables (lastCell x) 0
+    abbrev old : Thread
+    old = threadOf tables t
 
-  abbrev after : List ℕ
-  after = putRow without taken 14 link
+    no-issue : issue? ev n ≡ false
+    no-issue = rw kind-is refl
 
-  n-small : n ≤ 2048
-  n-small = in-time ev n (sim .limits) passes
+    few : t < 8
+    few = few-own ev n (sim .limits) passes (commit-has-thread ev is-commit)
 
-  links-before : (q : ℕ) → getRow without q 14 ≡ getRow l q 14
-  links-before = no-store-links (w .state .row) n (sim .numbers .row-is) n-small l
+    n-small : n ≤ 2048
+    n-small = in-time ev n (sim .limits) passes
 
-  no-store : NoStore n l after
-  no-store =
-      link-no-store n taken link l without
-      (no-store-is (w .state .row) n (sim .numbers .row-is) n-small l (sim .rows .room))
+    -- what the machine's state and rows say is what the store has
+    oldest-is : old .oldest ≡ taken
+    oldest-is = sim .queues t few .oldest-is ∙ sym (committed-at ev n)
 
-  link-other : (q : ℕ) → q ≤ 2048 → q ≢ taken → getRow after q 14 ≡ getRow l q 14
-  link-other q rowed other =
-      put-row without taken 14 link q 14 (omega arith) (omega arith)
-      (λ same. rows-apart q taken rowed taken-some taken-early other (sym same))
-      ∙ links-before q
+    place-is : oldestPlace tables l t ≡ x
+    place-is =
+        rw (oldest-is, sim .rows .stores taken (taken-store .early) (taken-store .store) .location-is)
+        (omega (arith, x-small))
 
-  -- the chain of a location as it was
-  chain-stays : (y : ℕ) → y < 256 → Linked after (getD tables (lastCell y) 0) (landed ev n y)
-  chain-stays y small =
-      linked-but ev l after taken link-other (getD tables (lastCell y) 0) (landed ev n y)
-      (landed-rowed ev n y (sim .limits .few-events))
-      (landed-once ev (suc n) n accepted (omega arith) is-commit n y (omega arith)) (sim .chains y small .links)
+    next-is : getRow l (old .oldest) 11 ≡ storeAt ev n j t (suc (done ev n t))
+    next-is =
+        rw oldest-is
+        (sim .links taken (taken-store .early) (taken-store .store)
+        ∙ at-next (place ev taken) (taken-store .in-j) (taken-store .by-t) (its-place ev taken-store))
+      where
+        at-next :
+            (i : ℕ) → stretch ev taken ≡ j → thread ev taken ≡ t → i ≡ done ev n t
+            → storeAt ev n (stretch ev taken) (thread ev taken) (suc i) ≡ storeAt ev n j t (suc (done ev n t))
+        at-next i in-j by-t at-i = rw (in-j, by-t, at-i)
 
-  -- ---- the tables afterwards, where `next` is the thread's store after it
-
-  module _ (next : ℕ) (next-is : next ≡ storeAt ev n j t (suc (done ev n t))) where
-    abbrev new : Thread
-    new = committedT (threadOf tables t) next
+    queue-next : Queue ev (suc n) t (committedT old (getRow l (old .oldest) 11))
+    unfolding committedT
+    queue-next =
+        let queue = sim .queues t few in
+        let no-issue-here = spares ev n (issue? ev) no-issue t in
+        record {
+          issued-is = issued-stays ev n no-crash t old queue no-issue-here;
+          committed-is =
+              counted-up ev n no-crash (commit? ev) (old .committed) (sim .limits) (is-commit .test)
+              (queue .committed-is);
+          skip-is =
+              skip-stays ev n no-crash t old queue (spares ev n (skipOn? ev) (rw kind-is refl) t)
+              (spares ev n (skipOff? ev) (rw kind-is refl) t);
+          oldest-is =
+              rw (
+                live-here ev (commit? ev) n no-crash (is-commit .test),
+                place-stays ev n no-crash t no-issue-here (suc (done ev n t)),
+              )
+              next-is;
+          newest-is = newest-stays ev n no-crash t old queue no-issue-here;
+        }
 
     abbrev tables′ : List ℕ
-    tables′ = putCommitted (set (set tables (lastCell x) taken) (stretchCell x) j) t new
+    tables′ = committedTables tables l t (w .state .stretch)
 
-    beyond : (i : ℕ) → 128 ≤ i → lastCell x ≢ i → stretchCell x ≢ i → getD tables′ i 0 ≡ getD tables i 0
-    beyond = committed-beyond tables t few (sim .size) taken x j next x-small
+    abbrev l′ : List ℕ
+    l′ = committedWork tables l row t
 
-    -- the numbers between the two tables of chains
-    between : Same 384 2752 tables tables′
-    between i low high = beyond i (omega arith) (λ same. omega (arith, x-small)) (λ same. omega arith)
+    beyond :
+        (i : ℕ) → 128 ≤ i → lastCell (oldestPlace tables l t) ≢ i → stretchCell (oldestPlace tables l t) ≢ i
+        → getD tables′ i 0 ≡ getD tables i 0
+    unfolding committedTables
+    beyond = committed-beyond tables t few (sim .size) (old .oldest) (oldestPlace tables l t) _ _ (omega arith)
 
-    chains-next : Chains ev (suc n) tables′ after
-    chains-next y small = own-or-other (same? x y)
-      where
-        own-or-other : (x ≡ y) ⊎ (x ≢ y) → Chain ev (suc n) y tables′ after
-        own-or-other (inl own) =
-            let head = committed-last tables t few (sim .size) taken x j next x-small in
-            let before = put-same without taken 14 link (rw (length-set l (w .state .row + 10) 0) (sim .rows .room)) in
-            record {
-              links = rw (← own, landed-here ev n is-commit, head) (refl, rw before (chain-stays x x-small));
-              stretch-is =
-                  rw (
-                    ← own,
-                    head,
-                    committed-stretch tables t few (sim .size) taken x j next x-small,
-                    ne-eqb taken 0 (λ is-0. omega (arith, taken-some)),
-                  )
-                  (sym (taken-store .in-j));
-            }
-        own-or-other (inr other) =
-            let head : getD tables′ (lastCell y) 0 ≡ getD tables (lastCell y) 0 =
-            beyond (lastCell y) (omega arith) (λ same. other (omega arith)) (λ same. omega (arith, x-small))
-            in
-            let stretch-stays : getD tables′ (stretchCell y) 0 ≡ getD tables (stretchCell y) 0 =
-            beyond (stretchCell y) (omega arith) (λ same. omega (arith, x-small)) (λ same. other (omega arith))
-            in
-            record {
-              links = rw (landed-away ev n y (λ _ same. other same), head) (chain-stays y small);
-              stretch-is = rw (head, stretch-stays) (sim .chains y small .stretch-is);
-            }
+    headed : Headed n taken x j tables tables′ l l′
+    unfolding committedTables committedWork
+    headed =
+        let p = old .oldest in
+        let y = oldestPlace tables l t in
+        let link = getD tables (lastCell y) 0 in
+        rw (← place-is, ← oldest-is, ← sim .numbers .stretch-is)
+        (record {
+          head-is = committed-last tables t few (sim .size) p y _ _ (omega arith);
+          stretch-is = committed-stretch tables t few (sim .size) p y _ _ (omega arith);
+          link-is = put-same (noStore l row) p 14 link (rw (length-set l (row + 10) 0) (sim .rows .room));
+          other-heads = λ z few-z other.
+              beyond (lastCell z) (omega arith) (λ same. other (omega arith)) (λ same. omega arith);
+          other-stretches = λ z few-z other.
+              beyond (stretchCell z) (omega arith) (λ same. omega arith) (λ same. other (omega arith));
+          other-links = λ q from-one early other.
+              put-row (noStore l row) p 14 link q 14 (omega arith) (omega arith)
+              (rows-apart p q (omega (arith, oldest-is, taken-store .early, n-small)) from-one
+              (omega (arith, n-small)) (λ same. other (sym same)))
+              ∙ no-store-links row n (sim .numbers .row-is) n-small l q;
+        })
 
-    -- ---- the step
-
-    step-taken : Sim ev (suc n) (world (ticked (w .state)) tables′ after)
-    step-taken =
-        let is-3 = kind-is in
-        let no-load = ne-eqb (kind ev n) 4 (λ is-4. omega arith) in
-        let replaced = committed-replaced tables t few (sim .size) taken x j next x-small in
+    pub commit-next : Sim ev (suc n) (commitW w t)
+    unfolding commitW committedTables committedWork
+    commit-next =
+        let no-load : load? ev n ≡ false = rw kind-is refl in
+        let replaced =
+        committed-replaced tables t few (sim .size) (old .oldest) (oldestPlace tables l t) (w .state .stretch)
+        (getRow l (old .oldest) 11) (omega arith)
+        in
+        let no-store =
+        link-no-store n (old .oldest) (getD tables (lastCell (oldestPlace tables l t)) 0) l (noStore l row)
+        (no-store-is row n (sim .numbers .row-is) n-small l (sim .rows .room))
+        in
+        let between : Same 384 2752 tables tables′ =
+        λ i low high. beyond i (omega arith) (λ same. omega arith) (λ same. omega arith)
+        in
         record {
           numbers = numbers-next ev n (w .state) (sim .numbers) no-crash;
           limits = limits-next ev n (sim .limits) passes;
           size = replaced .size ∙ sim .size;
           queues =
-              queues-with ev n tables tables′ no-crash new replaced
-              (queue-next next (threadOf tables t) next-is (sim .queues t few)) (sim .queues);
+              queues-with ev n tables tables′ no-crash (replaced .others) (rw (replaced .own) queue-next)
+              (sim .queues);
           seen-are = seen-keep ev n tables tables′ no-crash no-load (replaced .seen-same) (sim .seen-are);
           newest-are =
               newest-keep ev n tables tables′ no-issue (λ i low high. between i (omega arith) high) (sim .newest-are);
           commits-are =
               commits-keep ev n tables tables′ no-crash (λ i low high. between i (omega arith) (omega arith))
               (sim .commits-are);
-          sources =
-              sources-keep ev n tables tables′ (λ i low high. between i low (omega arith)) (sim .sources);
-          chains = chains-next;
-          rows = rows-keep ev n l after (sim .limits) no-issue no-store (sim .rows);
-          links = links-keep ev n l after (sim .limits) no-issue no-store (sim .links);
+          sources = sources-keep ev n tables tables′ (λ i low high. between i low (omega arith)) (sim .sources);
+          chains = chains-next tables′ l′ headed;
+          rows = rows-keep ev n l l′ (sim .limits) no-issue no-store (sim .rows);
+          links = links-keep ev n l l′ (sim .limits) no-issue no-store (sim .links);
         }
-
-  -- for values equal to these
-  with-values :
-      (p y i next : ℕ) → p ≡ taken → y ≡ x → i ≡ j → next ≡ storeAt ev n j t (suc (done ev n t))
-      → Sim ev (suc n)
-      (world (ticked (w .state))
-      (putCommitted (set (set tables (lastCell y) p) (stretchCell y) i) t (committedT (threadOf tables t) next))
-      (putRow without p 14 (getD tables (lastCell y) 0)))
-  with-values p y i next p-is y-is i-is next-is = rw (p-is, y-is, i-is) (step-taken next next-is)
-
-  -- what the machine's state and rows say is what the store has
-  record Values : Type 0 where
-    oldest-is : threadOf tables t .oldest ≡ taken
-    location-is : oldestPlace tables l t ≡ x
-    next-is : getRow l (threadOf tables t .oldest) 11 ≡ storeAt ev n j t (suc (done ev n t))
-
-  values : Values
-  values =
-      let queue = sim .queues t few in
-      let is-taken : threadOf tables t .oldest ≡ taken = queue .oldest-is ∙ sym (committed-at ev n) in
-      let row = sim .rows .stores taken (taken-store .early) (taken-store .store) in
-      let its = its-place ev taken-store in
-      record {
-        oldest-is = is-taken;
-        location-is = rw (is-taken, row .location-is) (omega (arith, x-small));
-        next-is =
-            rw is-taken
-            (sim .links taken (taken-store .early) (taken-store .store)
-            ∙ at-next (place ev taken) (taken-store .in-j) (taken-store .by-t) its);
-      }
-    where
-      at-next :
-          (i : ℕ) → stretch ev taken ≡ j → thread ev taken ≡ t → i ≡ done ev n t
-          → storeAt ev n (stretch ev taken) (thread ev taken) (suc i) ≡ storeAt ev n j t (suc (done ev n t))
-      at-next i in-j by-t at-i = rw (in-j, by-t, at-i)
-
-  pub commit-next : Sim ev (suc n) (commitW w t)
-  unfolding commitW committedTables committedWork
-  commit-next =
-      with-values (threadOf tables t .oldest) (oldestPlace tables l t) (w .state .stretch) _ (values .oldest-is)
-      (values .location-is) (sim .numbers .stretch-is) (values .next-is)

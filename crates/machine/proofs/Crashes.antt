@@ -6,7 +6,7 @@ use mathlib.Core.List.{List}
 use mathlib.Core.Logic.{_⊎_, inl, inr, _≢_}
 use Prim.Native.Nat.{ℕ, suc, _-_, _≤_, _<_}
 use native.Mathlib.Omega.{arith}
-use borrow.Author.Tests.{eqb-true, ne-eqb, lt-ltb, le-ltb}
+use borrow.Author.Tests.{eqb-true, lt-ltb, le-ltb}
 use lib.Dec.{ltb}
 use lib.ListN.{getD}
 use Rattle.record.specs.declared.events.Event.{Event}
@@ -34,10 +34,10 @@ module _ (ev : ℕ → Event) (n : ℕ) (crash : crash? ev n ≡ true) where
   crash-kind = eqb-true (kind ev n) 9 crash
 
   no-issue : issue? ev n ≡ false
-  no-issue = let is-9 = crash-kind in ne-eqb (kind ev n) 2 (λ is-2. omega arith)
+  no-issue = rw crash-kind refl
 
   no-commit : commit? ev n ≡ false
-  no-commit = let is-9 = crash-kind in ne-eqb (kind ev n) 3 (λ is-3. omega arith)
+  no-commit = rw crash-kind refl
 
   -- ---- the commits of the stretch, which is finished now, and of any other
 

@@ -1,33 +1,33 @@
 -- How the parts of `Sim` pass from event n to the next where the event does not concern them: the definitions stay, and
--- so do the numbers that hold them.
+-- so do the numbers that hold them. Each law asks only that the event does not play the roles that the part depends on.
 -- In order: limits and numbers; threads; the tables of locations and of finished stretches; rows, links and chains.
-use mathlib.Core.Path.{_≡_, refl, sym, _∙_}
-use mathlib.Core.Bool.{Bool, true, false, cond, not}
+use mathlib.Core.Path.{_≡_, refl, sym, ap, _∙_}
+use mathlib.Core.Bool.{Bool, true, false, cond}
 use mathlib.Core.List.{List, [], _∷_}
 use mathlib.Core.Logic.{_⊎_, inl, inr, _≢_}
 use Prim.Native.Nat.{ℕ, suc, _+_, _-_, _*_, _≤_, _<_}
 use native.Mathlib.Omega.{arith}
 use borrow.Author.Tests.{ltb-true}
-use lib.Dec.{eqb, ltb}
+use lib.Dec.{ltb}
 use lib.ListN.{getD}
 use Rattle.record.specs.declared.events.Event.{Event}
-use Rattle.record.specs.Fields.{threadIn, locationIn}
-use Rattle.record.specs.Table.{rowOf}
-use Rattle.model.specs.Trace.{kind, thread, location, is, issue?, commit?, load?, crash?, Issue}
-use Rattle.model.specs.Trace.{stretch, commits, place}
+use Rattle.model.specs.Trace.{thread, location, hasThread?, hasLocation?, issue?, commit?, load?, crash?, skipOn?}
+use Rattle.model.specs.Trace.{skipOff?, Issue, stretch, commits, place}
 use Rattle.model.specs.Machine.{skipping}
 use Rattle.model.specs.Rules.{refusal}
 use Rattle.model.specs.Choice.{finished}
-use Rattle.model.specs.Stores.{landed}
+use Rattle.model.specs.Stores.{storeAt, landed}
 use Rattle.model.proofs.Searching.{false-true, same?}
 use Rattle.model.proofs.Counting.{stretch-else}
 use Rattle.model.proofs.Acceptance.{event-bound, store-not-0}
-use Rattle.model.proofs.Limits.{accepted-next, few-threads, few-locations, few-crashes, thread-below}
-use Rattle.model.proofs.Limits.{location-below}
-use Rattle.model.proofs.Unchanged.{count-away, live-away, store-at-away, skipping-away, newest-away, seen-away}
-use Rattle.model.proofs.Unchanged.{landed-away}
-use Rattle.area.specs.Cells.{getRow}
+use Rattle.model.proofs.Limits.{accepted-next, few-threads, few-locations, few-crashes}
+use Rattle.model.proofs.Ranges.{thread-bound, location-bound}
+use Rattle.model.proofs.StorePlaces.{count-most}
+use Rattle.model.proofs.Unchanged.{count-away, live, live-away, live-here, store-at-away, skipping-away, newest-away}
+use Rattle.model.proofs.Unchanged.{seen-away, landed-away}
+use Rattle.area.specs.Cells.{getRow, up}
 use Rattle.area.specs.Rows.{Linked, StoreRow, Rows}
+use Rattle.area.proofs.ReadBack.{up-is}
 use Rattle.machine.specs.declared.threads.Thread.{Thread}
 use Rattle.machine.specs.Tables.{lastCell, sourceCell, commitsCell, newestCell, stretchCell}
 use Rattle.machine.specs.Threads.{skippedT, threadOf}
@@ -35,7 +35,7 @@ use Rattle.machine.specs.Twin.{State, ticked}
 use Rattle.machine.specs.Sim.{issued, done, Numbers, Limits, Queue, Queues, Seen, Newest, Commits, PastAt}
 use Rattle.machine.specs.Sim.{Sources, Chains, Links}
 use Rattle.machine.proofs.Storing.{Same}
-use Rattle.machine.proofs.TableLaws.{Replaced, thread-same}
+use Rattle.machine.proofs.TableLaws.{thread-same}
 use Rattle.machine.proofs.RowLaws.{NoStore}
 
 -- the links spell the same list where they are as they were
@@ -64,20 +64,12 @@ module _ (ev : ℕ → Event) (n : ℕ) where
   pub in-time : Limits ev n → refusal ev n ≡ 0 → n ≤ 2048
   in-time limits passes = omega (arith, limits-next limits passes .few-events)
 
-  -- the thread and the location of an event that passes, by the table's row of its kind
-  pub few-own :
-      Limits ev n → refusal ev n ≡ 0 → (k : ℕ) → kind ev n ≡ k → not (eqb (threadIn (rowOf k)) 0) ≡ true
-      → thread ev n < 8
-  few-own limits passes k kind-is has =
-      let next = limits-next limits passes in
-      omega (arith, thread-below ev (suc n) (next .accepted) n (omega arith) (rw kind-is has), next .few-threads)
+  -- the thread and the location of an event that passes
+  pub few-own : Limits ev n → refusal ev n ≡ 0 → hasThread? ev n ≡ true → thread ev n < 8
+  few-own limits passes = thread-bound ev (suc n) (limits-next limits passes .accepted) n (omega arith)
 
-  pub small-own :
-      Limits ev n → refusal ev n ≡ 0 → (k : ℕ) → kind ev n ≡ k → not (eqb (locationIn (rowOf k)) 0) ≡ true
-      → location ev n < 256
-  small-own limits passes k kind-is has =
-      let next = limits-next limits passes in
-      omega (arith, location-below ev (suc n) (next .accepted) n (omega arith) (rw kind-is has), next .few-locations)
+  pub small-own : Limits ev n → refusal ev n ≡ 0 → hasLocation? ev n ≡ true → location ev n < 256
+  small-own limits passes = location-bound ev (suc n) (limits-next limits passes .accepted) n (omega arith)
 
   pub numbers-next : (st : State) → Numbers ev n st → crash? ev n ≡ false → Numbers ev (suc n) (ticked st)
   unfolding ticked
@@ -88,79 +80,95 @@ module _ (ev : ℕ → Event) (n : ℕ) where
     locations-is = numbers .locations-is;
   }
 
-  -- ---- threads
+  -- ---- threads, by the roles: issues, commits and skips each have their own numbers of a thread's state
 
-  -- the event does nothing to thread t
-  record Leaves (t : ℕ) : Type 0 where
-    no-issue : issue? ev n ≡ true → thread ev n ≡ t → ⊥
-    no-commit : commit? ev n ≡ true → thread ev n ≡ t → ⊥
-    no-on : is ev 10 n ≡ true → thread ev n ≡ t → ⊥
-    no-off : is ev 11 n ≡ true → thread ev n ≡ t → ⊥
+  -- the event does not play the role for thread t
+  abbrev pub Spares : (ℕ → Bool) → ℕ → Type 0
+  Spares role t = role n ≡ true → thread ev n ≡ t → ⊥
 
-  -- an event that is at most a skip on or off of thread t
-  pub queue-skip :
-      (t : ℕ) (s : Thread) (on : Bool) → crash? ev n ≡ false → (issue? ev n ≡ true → thread ev n ≡ t → ⊥)
-      → (commit? ev n ≡ true → thread ev n ≡ t → ⊥) → skipping ev (suc n) t ≡ on → Queue ev n t s
-      → Queue ev (suc n) t (skippedT s on)
-  unfolding skippedT
-  queue-skip t s on no-crash no-issue no-commit is-on queue =
-      let issues-stay = live-away ev (issue? ev) n t no-crash no-issue in
-      let commits-stay = live-away ev (commit? ev) n t no-crash no-commit in
-      let no-store : Issue ev n → thread ev n ≡ t → ⊥ = λ store same. no-issue (store .test) same in
-      let j = stretch ev n in
-      record {
-        issued-is = queue .issued-is ∙ sym issues-stay;
-        committed-is = queue .committed-is ∙ sym commits-stay;
-        skip-is = sym is-on;
-        oldest-is =
-            rw (commits-stay, stretch-else ev n no-crash, store-at-away ev n j t (done ev n t) no-store)
-            (queue .oldest-is);
-        newest-is =
-            rw (issues-stay, stretch-else ev n no-crash, store-at-away ev n j t (issued ev n t - 1) no-store)
-            (queue .newest-is);
-      }
+  pub spares : (role : ℕ → Bool) → role n ≡ false → (t : ℕ) → Spares role t
+  spares role never t plays _ = false-true (sym never ∙ plays)
 
-  queue-keep : (t : ℕ) (s : Thread) → crash? ev n ≡ false → Leaves t → Queue ev n t s → Queue ev (suc n) t s
-  unfolding skippedT
-  queue-keep t s no-crash leaves queue =
-      queue-skip t s (s .skip) no-crash (leaves .no-issue) (leaves .no-commit)
-      (skipping-away ev n t no-crash (leaves .no-on) (leaves .no-off) ∙ sym (queue .skip-is)) queue
+  module _ (no-crash : crash? ev n ≡ false) where
+    -- a number that follows a count of the event's own thread and goes up with it
+    pub counted-up :
+        (role : ℕ → Bool) (c : ℕ) → Limits ev n → role n ≡ true → c ≡ live ev role n (thread ev n)
+        → up c ≡ live ev role (suc n) (thread ev n)
+    counted-up role c limits plays c-is =
+        let most = count-most ev role n (stretch ev n) (thread ev n) in
+        up-is c (omega (arith, limits .few-events)) ∙ ap suc c-is ∙ sym (live-here ev role n no-crash plays)
+
+    module _ (t : ℕ) where
+      pub place-stays :
+          Spares (issue? ev) t → (i : ℕ)
+          → storeAt ev (suc n) (stretch ev (suc n)) t i ≡ storeAt ev n (stretch ev n) t i
+      place-stays no-issue i =
+          rw (stretch-else ev n no-crash)
+          (store-at-away ev n (stretch ev n) t i (λ store same. no-issue (store .test) same))
+
+      module _ (s : Thread) (queue : Queue ev n t s) where
+        pub issued-stays : Spares (issue? ev) t → s .issued ≡ issued ev (suc n) t
+        issued-stays no-issue = queue .issued-is ∙ sym (live-away ev (issue? ev) n t no-crash no-issue)
+
+        pub newest-stays :
+            Spares (issue? ev) t → s .newest ≡ storeAt ev (suc n) (stretch ev (suc n)) t (issued ev (suc n) t - 1)
+        newest-stays no-issue =
+            rw (live-away ev (issue? ev) n t no-crash no-issue, place-stays no-issue (issued ev n t - 1))
+            (queue .newest-is)
+
+        pub committed-stays : Spares (commit? ev) t → s .committed ≡ done ev (suc n) t
+        committed-stays no-commit = queue .committed-is ∙ sym (live-away ev (commit? ev) n t no-crash no-commit)
+
+        pub skip-stays : Spares (skipOn? ev) t → Spares (skipOff? ev) t → s .skip ≡ skipping ev (suc n) t
+        skip-stays no-on no-off = queue .skip-is ∙ sym (skipping-away ev n t no-crash no-on no-off)
+
+        -- an event that is at most a skip on or off of the thread
+        pub queue-skip :
+            (on : Bool) → Spares (issue? ev) t → Spares (commit? ev) t → on ≡ skipping ev (suc n) t
+            → Queue ev (suc n) t (skippedT s on)
+        unfolding skippedT
+        queue-skip on no-issue no-commit on-is = record {
+          issued-is = issued-stays no-issue;
+          committed-is = committed-stays no-commit;
+          skip-is = on-is;
+          oldest-is =
+              rw (live-away ev (commit? ev) n t no-crash no-commit, place-stays no-issue (done ev n t))
+              (queue .oldest-is);
+          newest-is = newest-stays no-issue;
+        }
+
+        -- an event that is nothing of these
+        queue-keep :
+            Spares (issue? ev) t → Spares (commit? ev) t → Spares (skipOn? ev) t → Spares (skipOff? ev) t
+            → Queue ev (suc n) t s
+        unfolding skippedT
+        queue-keep no-issue no-commit no-on no-off =
+            queue-skip (s .skip) no-issue no-commit (skip-stays no-on no-off)
 
   module _ (tables tables′ : List ℕ) (no-crash : crash? ev n ≡ false) where
     -- no thread's state changed, by an event that is neither an issue, a commit nor a skip
     pub queues-keep :
-        issue? ev n ≡ false → commit? ev n ≡ false → is ev 10 n ≡ false → is ev 11 n ≡ false
+        issue? ev n ≡ false → commit? ev n ≡ false → skipOn? ev n ≡ false → skipOff? ev n ≡ false
         → ((t : ℕ) → t < 8 → Same (16 * t + 8) (16 * t + 13) tables tables′) → Queues ev n tables
         → Queues ev (suc n) tables′
     queues-keep no-issue no-commit no-on no-off same queues t few =
         rw (thread-same tables tables′ t (same t few))
-        (queue-keep t (threadOf tables t) no-crash
-        (record {
-          no-issue = λ is-it _. false-true (sym no-issue ∙ is-it);
-          no-commit = λ is-it _. false-true (sym no-commit ∙ is-it);
-          no-on = λ is-it _. false-true (sym no-on ∙ is-it);
-          no-off = λ is-it _. false-true (sym no-off ∙ is-it);
-        })
-        (queues t few))
+        (queue-keep no-crash t (threadOf tables t) (queues t few) (spares (issue? ev) no-issue t)
+        (spares (commit? ev) no-commit t) (spares (skipOn? ev) no-on t) (spares (skipOff? ev) no-off t))
 
-    -- the event's own thread changed
+    -- at most the state of the event's own thread changed
     pub queues-with :
-        (s : Thread) → Replaced tables tables′ (thread ev n) s → Queue ev (suc n) (thread ev n) s → Queues ev n tables
+        ((t : ℕ) → t < 8 → thread ev n ≢ t → Same (16 * t + 8) (16 * t + 13) tables tables′)
+        → Queue ev (suc n) (thread ev n) (threadOf tables′ (thread ev n)) → Queues ev n tables
         → Queues ev (suc n) tables′
-    queues-with s replaced new queues t few = own-or-other (same? (thread ev n) t)
+    queues-with same own queues t few = own-or-other (same? (thread ev n) t)
       where
         own-or-other : (thread ev n ≡ t) ⊎ (thread ev n ≢ t) → Queue ev (suc n) t (threadOf tables′ t)
-        own-or-other (inl same) = rw (← same, replaced .own) new
+        own-or-other (inl is-own) = rw (← is-own) own
         own-or-other (inr other) =
-            rw (thread-same tables tables′ t (replaced .others t few other))
-            (queue-keep t (threadOf tables t) no-crash
-            (record {
-              no-issue = λ _ same. other same;
-              no-commit = λ _ same. other same;
-              no-on = λ _ same. other same;
-              no-off = λ _ same. other same;
-            })
-            (queues t few))
+            rw (thread-same tables tables′ t (same t few other))
+            (queue-keep no-crash t (threadOf tables t) (queues t few) (λ _. other) (λ _. other) (λ _. other)
+            (λ _. other))
 
     -- an event that is no load and no crash leaves what the threads have seen
     pub seen-keep :

@@ -10,8 +10,9 @@ use native.Mathlib.Omega.{arith}
 use borrow.Author.Tests.{ne-eqb, lt-ltb, le-leb}
 use lib.Dec.{eqb, leb}
 use lib.ListN.{length, getD, length-set}
-use Rattle.area.specs.Cells.{rowStart, getRow, putRow, noStore}
-use Rattle.area.proofs.ReadBack.{start-is, length-put, put-column, set-here, set-column, set-elsewhere}
+use Rattle.area.specs.Cells.{rowStart, getRow, putRow, eventAt, noStore}
+use Rattle.area.proofs.ReadBack.{start-is, rows-apart, length-put, put-same, put-row, put-column}
+use Rattle.area.proofs.ReadBack.{set-here, set-column, set-elsewhere}
 use Rattle.machine.specs.Threads.{ofThread}
 use Rattle.machine.specs.Effects.{clocked, written}
 use Rattle.machine.proofs.Storing.{Elsewhere, set-leaves, column-after, run, run-size, run-leaves, run-in}
@@ -31,13 +32,18 @@ link-no-store n p v l l′ it = record {
       put-column l′ p 14 v q k (omega arith) (omega arith) (λ same. omega arith) ∙ it .earlier q k from-one early low;
 }
 
--- the row of store n as it is written: c is the count of its thread t, x its location, j its stretch
-pub record Written (l : List ℕ) (n t c x j : ℕ) (seen-by : ℕ → ℕ) : Type 0 where
-  pub clock-is : (u : ℕ) → u < 8 → getRow l n u ≡ cond (eqb t u) c (seen-by u)
-  pub thread-is : getRow l n 8 ≡ t
-  pub location-is : getRow l n 9 ≡ x
-  pub stretch-is : getRow l n 10 ≡ j
-  pub link-is : getRow l n 11 ≡ 0
+-- event n is a store: c is the count of its thread t, x its location, j its stretch. It is linked from store g, if
+-- there is one, and all else that the rows of earlier stores hold, but for the links of chains, is as it was
+pub record Stored (n g t c x j : ℕ) (seen-by : ℕ → ℕ) (l l′ : List ℕ) : Type 0 where
+  pub size : length l′ ≡ length l
+  pub clock-is : (u : ℕ) → u < 8 → getRow l′ n u ≡ cond (eqb t u) c (seen-by u)
+  pub thread-is : getRow l′ n 8 ≡ t
+  pub location-is : getRow l′ n 9 ≡ x
+  pub stretch-is : getRow l′ n 10 ≡ j
+  pub no-next : getRow l′ n 11 ≡ 0
+  pub linked : 1 ≤ g → g < n → getRow l′ g 11 ≡ n
+  pub other-links : (p : ℕ) → 1 ≤ p → p < n → g ≢ p → getRow l′ p 11 ≡ getRow l p 11
+  pub earlier : (p k : ℕ) → 1 ≤ p → p < n → k < 11 → getRow l′ p k ≡ getRow l p k
 
 module _ (row n : ℕ) (begins : row + 16 ≡ 16 * n) (to-last : n ≤ 2048) where
   -- ---- an event that is no store
@@ -58,6 +64,9 @@ module _ (row n : ℕ) (begins : row + 16 ≡ 16 * n) (to-last : n ≤ 2048) whe
 
   -- ---- a store's row
 
+  pub event-is : eventAt row ≡ n
+  event-is = omega arith
+
   -- a column of row n, by its position
   at-row : (l : List ℕ) (k : ℕ) → k < 16 → getRow l n k ≡ getD l (row + k) 0
   unfolding getRow
@@ -65,27 +74,26 @@ module _ (row n : ℕ) (begins : row + 16 ≡ 16 * n) (to-last : n ≤ 2048) whe
       let there : rowStart n + k % 16 ≡ row + k = omega (arith, start-is n (omega arith) to-last) in
       rw there refl
 
-  module _ (tables : List ℕ) (t c x j : ℕ) (l : List ℕ) (few : t < 8) where
+  module _ (tables : List ℕ) (t c x j g : ℕ) (l : List ℕ) (few : t < 8) where
+    abbrev linked : List ℕ
+    linked = putRow l g 11 (eventAt row)
+
     abbrev after : List ℕ
-    after = written tables t row c x j l
+    after = written tables t row c x j linked
 
     -- what the thread has seen is a run of numbers
     abbrev seen-by : ℕ → ℕ
     seen-by u = ofThread tables t u
 
     abbrev with-seen : List ℕ
-    with-seen = run row 8 seen-by l
+    with-seen = run row 8 seen-by linked
 
-    clocked-is : clocked 8 tables t row l ≡ with-seen
+    clocked-is : clocked 8 tables t row linked ≡ with-seen
     unfolding clocked run
     clocked-is = refl
 
-    pub written-size : length after ≡ length l
-    unfolding written
-    written-size = rw clocked-is (simp (length-set, run-size row seen-by l 8))
-
     -- the positions of the row's columns 0 to 11 are written
-    written-leaves : Elsewhere row (row + 12) l after
+    written-leaves : Elsewhere row (row + 12) linked after
     unfolding written
     written-leaves i apart =
         let not-at : (k : ℕ) → k < 12 → row + k ≢ i = λ k low same. apart (omega arith) (omega arith) in
@@ -98,42 +106,57 @@ module _ (row n : ℕ) (begins : row + 16 ≡ 16 * n) (to-last : n ≤ 2048) whe
           not-at 10 (omega arith),
           not-at 11 (omega arith),
         )
-        (run-leaves row seen-by l 8 i (λ low high. apart low (omega arith))))
+        (run-leaves row seen-by linked 8 i (λ low high. apart low (omega arith))))
 
-    -- not the rows of other events, nor the other columns
-    pub written-elsewhere : (p k : ℕ) → 1 ≤ p → p ≤ 2048 → n ≢ p → getRow after p k ≡ getRow l p k
+    -- not the rows of earlier events, which are as the link left them
+    written-earlier : (p k : ℕ) → 1 ≤ p → p < n → getRow after p k ≡ getRow linked p k
     unfolding getRow
-    written-elsewhere p k from-one p-to-last differs =
-        written-leaves (rowStart p + k % 16)
-        (λ low high. differs (omega (arith, start-is p from-one p-to-last)))
+    written-earlier p k from-one early =
+        written-leaves (rowStart p + k % 16) (λ low high. omega (arith, start-is p from-one (omega arith)))
 
-    pub written-far : (p k : ℕ) → 12 ≤ k → k < 16 → getRow after p k ≡ getRow l p k
+    -- nor the links of chains
+    pub written-links : (p : ℕ) → getRow after p 14 ≡ getRow l p 14
     unfolding getRow rowStart
-    written-far p k high low = written-leaves (rowStart p + k % 16) (λ from below. omega arith)
+    written-links p =
+        written-leaves (rowStart p + 14) (λ from below. omega arith)
+        ∙ put-column l g 11 (eventAt row) p 14 (omega arith) (omega arith) (λ same. omega arith)
 
-    module _ (room : 32768 ≤ length l) where
-      row-inside : leb (row + 16) (length with-seen) ≡ true
-      row-inside = le-leb (row + 16) (length with-seen) (omega (arith, run-size row seen-by l 8))
+    pub stored-is : 32768 ≤ length l → g ≤ 2048 → Stored n g t c x j seen-by l after
+    unfolding written
+    stored-is room g-to-last = record {
+      size = rw clocked-is (simp (length-set, run-size row seen-by linked 8)) ∙ linked-size;
+      no-next = at-row after 11 (omega arith) ∙ rw clocked-is (simp (column-after, length-set, inside));
+      stretch-is = at-row after 10 (omega arith) ∙ rw clocked-is (simp (column-after, length-set, inside));
+      location-is = at-row after 9 (omega arith) ∙ rw clocked-is (simp (column-after, length-set, inside));
+      thread-is = at-row after 8 (omega arith) ∙ rw clocked-is (simp (column-after, length-set, inside));
+      clock-is = λ u low.
+          at-row after u (omega arith)
+          ∙ rw clocked-is
+          (simp (
+            column-after,
+            length-set,
+            inside,
+            lt-ltb t 16 (omega arith),
+            ne-eqb 8 u (λ same. omega arith),
+            ne-eqb 9 u (λ same. omega arith),
+            ne-eqb 10 u (λ same. omega arith),
+            ne-eqb 11 u (λ same. omega arith),
+            run-in row seen-by linked 8 u (omega (arith, linked-size)) low,
+          ));
+      linked = λ some early.
+          written-earlier g 11 some early ∙ put-same l g 11 (eventAt row) room ∙ event-is;
+      other-links = λ p from-one early differs.
+          written-earlier p 11 from-one early
+          ∙ put-row l g 11 (eventAt row) p 11 (omega arith) (omega arith)
+          (rows-apart g p g-to-last from-one (omega arith) differs);
+      earlier = λ p k from-one early low.
+          written-earlier p k from-one early
+          ∙ put-column l g 11 (eventAt row) p k (omega arith) (omega arith) (λ same. omega arith);
+    }
+      where
+        linked-size : length linked ≡ length l
+        linked-size = length-put l g 11 (eventAt row)
 
-      pub written-row : Written after n t c x j seen-by
-      unfolding written
-      written-row = record {
-        link-is = at-row after 11 (omega arith) ∙ rw clocked-is (simp (column-after, length-set, row-inside));
-        stretch-is = at-row after 10 (omega arith) ∙ rw clocked-is (simp (column-after, length-set, row-inside));
-        location-is = at-row after 9 (omega arith) ∙ rw clocked-is (simp (column-after, length-set, row-inside));
-        thread-is = at-row after 8 (omega arith) ∙ rw clocked-is (simp (column-after, length-set, row-inside));
-        clock-is = λ u low.
-            at-row after u (omega arith)
-            ∙ rw clocked-is
-            (simp (
-              column-after,
-              length-set,
-              row-inside,
-              lt-ltb t 16 (omega arith),
-              ne-eqb 8 u (λ same. omega arith),
-              ne-eqb 9 u (λ same. omega arith),
-              ne-eqb 10 u (λ same. omega arith),
-              ne-eqb 11 u (λ same. omega arith),
-              run-in row seen-by l 8 u (omega arith) low,
-            ));
-      }
+        inside : leb (row + 16) (length with-seen) ≡ true
+        inside =
+            le-leb (row + 16) (length with-seen) (omega (arith, run-size row seen-by linked 8, linked-size))

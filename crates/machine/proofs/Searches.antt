@@ -8,14 +8,12 @@ use mathlib.Core.List.{List}
 use mathlib.Core.Logic.{_⊎_, inl, inr, _≢_}
 use Prim.Native.Nat.{ℕ, suc, _*_, _≤_, _<_}
 use native.Mathlib.Omega.{arith}
-use borrow.Author.Tests.{eqb-true, eqb-false, eq-eqb, ne-eqb, lt-ltb, le-ltb, le-leb, lt-leb}
+use borrow.Author.Tests.{eqb-false, eq-eqb, ne-eqb, lt-ltb, le-ltb, le-leb, lt-leb}
 use lib.Dec.{eqb, ltb, leb}
 use lib.ListN.{getD}
 use Rattle.record.specs.declared.events.Event.{Event}
 use Rattle.record.specs.Tests.{_gives_else_}
-use Rattle.record.specs.Table.{rowOf}
-use Rattle.model.specs.Trace.{kind, thread, location, source, issue?, commit?, hasThread?, Issue, stretch, issues}
-use Rattle.model.specs.Trace.{commits, place}
+use Rattle.model.specs.Trace.{thread, location, source, issue?, commit?, Issue, stretch, issues, commits, place}
 use Rattle.model.specs.Machine.{committedBy, waiting, current, past, sourceFits}
 use Rattle.model.specs.Choice.{finished}
 use Rattle.model.specs.Stores.{headOf, storeAt, newestAt, landed}
@@ -23,8 +21,8 @@ use Rattle.model.proofs.Searching.{test, same?, less?, both}
 use Rattle.model.proofs.Counting.{stretch-mono, earlier-stretch, count-mono, count-lt}
 use Rattle.model.proofs.Roles.{issue-or-not}
 use Rattle.model.proofs.ClockSteps.{vc-own}
-use Rattle.model.proofs.Limits.{thread-below}
 use Rattle.model.proofs.Acceptance.{store-not-0, FromPast, past-is}
+use Rattle.model.proofs.Ranges.{issue-has-thread, thread-bound}
 use Rattle.model.proofs.StorePlaces.{fails, stretch-some, Store, store-at-is, store-at-none}
 use Rattle.model.proofs.LoadRule.{Made, newest-made, Waits, waiting-newest, waiting-none}
 use Rattle.model.proofs.LoadRule.{current-head, current-none}
@@ -74,14 +72,6 @@ module _ (ev : ℕ → Event) (n : ℕ) (w : World) (sim : Sim ev n w) where
 
   abbrev l : List ℕ
   l = w .work
-
-  -- the thread of a store is one of the eight
-  pub store-thread : (p : ℕ) → p < n → Issue ev p → thread ev p < 8
-  unfolding rowOf
-  store-thread p early store =
-      let is-issue : kind ev p ≡ 2 = eqb-true (kind ev p) 2 (store .test) in
-      let has : hasThread? ev p ≡ true = rw is-issue refl in
-      omega (arith, thread-below ev n (sim .limits .accepted) p early has, sim .limits .few-threads)
 
   -- ---- waiting
 
@@ -247,7 +237,7 @@ module _ (ev : ℕ → Event) (n : ℕ) (w : World) (sim : Sim ev n w) where
       )
       refl
   past-of-store p early store row (inl earlier) (inl here) =
-      let few = store-thread p early store in
+      let few = thread-bound ev n (sim .limits .accepted) p early (issue-has-thread ev store) in
       rw (
         ne-eqb (stretch ev p) 0 (λ is-0. omega (arith, stretch-some ev p)),
         lt-leb _ _ earlier,

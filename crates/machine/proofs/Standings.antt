@@ -18,12 +18,13 @@ use Rattle.model.proofs.Searching.{same?, less?, both, parts, second-fails, eqb
 use Rattle.model.proofs.Roles.{issue-or-not}
 use Rattle.model.proofs.ClockSteps.{vc-own}
 use Rattle.model.proofs.Acceptance.{store-not-0}
+use Rattle.model.proofs.Ranges.{issue-has-thread, thread-bound}
 use Rattle.model.proofs.StorePlaces.{stretch-some}
 use Rattle.area.specs.Cells.{getRow}
 use Rattle.machine.specs.Twin.{World}
 use Rattle.machine.specs.Orders.{storeW, orderW}
 use Rattle.machine.specs.Sim.{Sim}
-use Rattle.machine.proofs.Searches.{leb-suc, store-thread}
+use Rattle.machine.proofs.Searches.{leb-suc}
 
 -- the machine's tests and the definitions', in their orders
 standing-by-tests :
@@ -81,7 +82,7 @@ module _ (ev : ℕ → Event) (n : ℕ) (w : World) (sim : Sim ev n w) where
       → leb (getRow (w .work) p (thread ev p)) (getRow (w .work) q (thread ev p))
       ≡ ltb (place ev p) (vc ev q (thread ev p))
   covered p q p-early p-store q-early q-store =
-      let few = store-thread ev n w sim p p-early p-store in
+      let few = thread-bound ev n (sim .limits .accepted) p p-early (issue-has-thread ev p-store) in
       rw (
         sim .rows .stores p p-early p-store .clock-is (thread ev p) few,
         vc-own ev p (thread ev p) p-store refl,

@@ -3,15 +3,15 @@
 use mathlib.Core.Path.{_≡_, refl, sym, _∙_}
 use mathlib.Core.Bool.{Bool, false}
 use mathlib.Core.List.{List, []}
-use mathlib.Core.Logic.{_≢_}
 use Prim.Native.Nat.{ℕ, _+_, _-_, _*_, _≤_, _<_}
 use native.Mathlib.Omega.{arith}
-use borrow.Author.Tests.{eqb-true, ne-eqb, le-ltb}
+use borrow.Author.Tests.{eqb-true, le-ltb}
 use lib.ListN.{length, getD, replicate, length-replicate}
 use Rattle.record.specs.declared.events.Event.{Event}
 use Rattle.model.specs.Search.{last}
-use Rattle.model.specs.Trace.{kind, is, crash?, Issue, threads, locations, stretch, count}
-use Rattle.model.specs.Machine.{skipping}
+use Rattle.model.specs.Trace.{kind, issue?, commit?, load?, crash?, skipOn?, skipOff?, Issue, threads, locations}
+use Rattle.model.specs.Trace.{stretch, count}
+use Rattle.model.specs.Machine.{switched, skipping}
 use Rattle.model.specs.Rules.{refusal, Accepted}
 use Rattle.model.specs.Choice.{finished}
 use Rattle.model.specs.Stores.{newestAt, landed}
@@ -22,13 +22,14 @@ use Rattle.model.proofs.ClockSteps.{seen-zero}
 use Rattle.model.proofs.Acceptance.{begins}
 use Rattle.model.proofs.Limits.{few-threads, few-locations}
 use Rattle.model.proofs.StorePlaces.{store-at-none}
-use Rattle.model.proofs.Unchanged.{live-away, skipping-away, newest-away, seen-away, landed-away}
+use Rattle.model.proofs.Unchanged.{live, live-away, skipping-away, newest-away, seen-away, landed-away}
 use Rattle.area.proofs.ReadBack.{cleared-at}
 use Rattle.machine.specs.Tables.{lastCell, sourceCell, commitsCell, newestCell, stretchCell}
 use Rattle.machine.specs.Threads.{fresh}
 use Rattle.machine.specs.Twin.{world, started}
 use Rattle.machine.specs.Sim.{issued, done, Queue, Seen, Newest, Commits, Chains, Sim}
 use Rattle.machine.proofs.TableLaws.{thread-fresh}
+use Rattle.machine.proofs.Keep.{spares}
 
 module _ (ev : ℕ → Event) (passes : refusal ev 0 ≡ 0) where
   accepted : Accepted ev 1
@@ -40,12 +41,11 @@ module _ (ev : ℕ → Event) (passes : refusal ev 0 ≡ 0) where
   kind-is : kind ev 0 ≡ 1
   kind-is = eqb-true (kind ev 0) 1 (begins ev 1 accepted)
 
-  -- a begin is of no other kind
-  no-other : (k : ℕ) → k ≢ 1 → is ev k 0 ≡ false
-  no-other k not-1 = let is-1 = kind-is in ne-eqb (kind ev 0) k (λ is-k. not-1 (omega arith))
-
   no-crash : crash? ev 0 ≡ false
-  no-crash = no-other 9 (λ is-1. omega arith)
+  no-crash = rw kind-is refl
+
+  no-commit : commit? ev 0 ≡ false
+  no-commit = rw kind-is refl
 
   -- ---- nothing yet
 
@@ -59,7 +59,7 @@ module _ (ev : ℕ → Event) (passes : refusal ev 0 ≡ 0) where
   count-0 f j t = refl
 
   skipping-0 : (t : ℕ) → skipping ev 0 t ≡ false
-  unfolding skipping
+  unfolding switched
   skipping-0 t = refl
 
   newest-0 : (x t : ℕ) → newestAt ev 0 x t ≡ 0
@@ -74,24 +74,22 @@ module _ (ev : ℕ → Event) (passes : refusal ev 0 ≡ 0) where
   stretch-1 = stretch-else ev 0 no-crash ∙ stretch-0
 
   -- and after it
-  live-1 : (k t : ℕ) → k ≢ 1 → count ev (is ev k) 1 (stretch ev 1) t ≡ 0
-  live-1 k t not-1 =
-      live-away ev (is ev k) 0 t no-crash (λ is-k _. false-true (sym (no-other k not-1) ∙ is-k))
-      ∙ count-0 (is ev k) (stretch ev 0) t
+  live-1 : (role : ℕ → Bool) (t : ℕ) → role 0 ≡ false → live ev role 1 t ≡ 0
+  live-1 role t never =
+      live-away ev role 0 t no-crash (spares ev 0 role never t) ∙ count-0 role (stretch ev 0) t
 
   skipping-1 : (t : ℕ) → skipping ev 1 t ≡ false
   skipping-1 t =
-      skipping-away ev 0 t no-crash
-      (λ on _. false-true (sym (no-other 10 (λ is-1. omega arith)) ∙ on))
-      (λ off _. false-true (sym (no-other 11 (λ is-1. omega arith)) ∙ off))
+      skipping-away ev 0 t no-crash (spares ev 0 (skipOn? ev) (rw kind-is refl) t)
+      (spares ev 0 (skipOff? ev) (rw kind-is refl) t)
       ∙ skipping-0 t
 
   fresh-queue : (t : ℕ) → Queue ev 1 t fresh
   fresh-queue t =
-      let none = live-1 2 t (λ is-1. omega arith) in
+      let none = live-1 (issue? ev) t (rw kind-is refl) in
       record {
         issued-is = sym none;
-        committed-is = sym (live-1 3 t (λ is-1. omega arith));
+        committed-is = sym (live-1 (commit? ev) t no-commit);
         skip-is = sym (skipping-1 t);
         oldest-is = sym (store-at-none ev 1 (stretch ev 1) t (done ev 1 t) (omega arith));
         newest-is = sym (store-at-none ev 1 (stretch ev 1) t (issued ev 1 t - 1) (omega arith));
@@ -109,7 +107,7 @@ module _ (ev : ℕ → Event) (passes : refusal ev 0 ≡ 0) where
     seen-start t u _ _ =
         clear (16 * t + u)
         ∙ sym
-        (seen-away ev 0 t u no-crash (λ loads _. false-true (sym (no-other 4 (λ is-1. omega arith)) ∙ loads .test))
+        (seen-away ev 0 t u no-crash (λ loads. spares ev 0 (load? ev) (rw kind-is refl) t (loads .test))
         ∙ seen-zero ev t u)
 
     newest-start : Newest ev 1 tables
@@ -126,7 +124,7 @@ module _ (ev : ℕ → Event) (passes : refusal ev 0 ≡ 0) where
     chains-start x _ = record {
       links =
           rw (
-            landed-away ev 0 x (λ commits _. false-true (sym (no-other 3 (λ is-1. omega arith)) ∙ commits .test)),
+            landed-away ev 0 x (λ commits _. false-true (sym no-commit ∙ commits .test)),
             landed-0 x,
           )
           (clear (lastCell x));
