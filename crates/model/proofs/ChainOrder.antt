@@ -206,7 +206,7 @@ module _ (ev : ℕ → Event) where
     -- ---- the stores of a crossing load's chain
 
     -- the load rule's second case fails: no commit of the stretch is at the location
-    pub none-here :
+    none-here :
         (n c p : ℕ) → n ≤ N → current ev n ≡ 0 → c < n → Commit ev c → Effect ev c p
         → location ev p ≡ location ev n → stretch ev p ≢ stretch ev n
     unfolding current

@@ -40,7 +40,7 @@ module _ (ev : ℕ → Event) where
   abbrev pub observesAt : ℕ → ℕ → Bool
   observesAt n q = any (λ l. observes? ev l q) (counting ev n)
 
-  pub forbidden-step : (n p : ℕ) → forbidden? ev (suc n) p ≡ (forbidsAt n p || forbidden? ev n p)
+  forbidden-step : (n p : ℕ) → forbidden? ev (suc n) p ≡ (forbidsAt n p || forbidden? ev n p)
   unfolding forbidden? some
   forbidden-step n p = refl
 

@@ -75,7 +75,7 @@ module _ (ev : ℕ → Event) where
   -- ---- switches of a thread
 
   module _ (on? off? : ℕ → Bool) where
-    pub switched-away :
+    switched-away :
         (n t : ℕ) → crash? ev n ≡ false → (on? n ≡ true → thread ev n ≡ t → ⊥)
         → (off? n ≡ true → thread ev n ≡ t → ⊥) → switched ev on? off? (suc n) t ≡ switched ev on? off? n t
     unfolding switched
@@ -91,12 +91,12 @@ module _ (ev : ℕ → Event) where
         stays true = refl
         stays false = refl
 
-    pub switched-on :
+    switched-on :
         (n : ℕ) → crash? ev n ≡ false → on? n ≡ true → switched ev on? off? (suc n) (thread ev n) ≡ true
     unfolding switched
     switched-on n no-crash on = rw (no-crash, on, eq-eqb (thread ev n) (thread ev n) refl)
 
-    pub switched-off :
+    switched-off :
         (n : ℕ) → crash? ev n ≡ false → on? n ≡ false → off? n ≡ true
         → switched ev on? off? (suc n) (thread ev n) ≡ false
     unfolding switched
@@ -108,7 +108,7 @@ module _ (ev : ℕ → Event) where
         ends true = refl
         ends false = refl
 
-    pub switched-crash : (n t : ℕ) → crash? ev n ≡ true → switched ev on? off? (suc n) t ≡ false
+    switched-crash : (n t : ℕ) → crash? ev n ≡ true → switched ev on? off? (suc n) t ≡ false
     unfolding switched
     switched-crash n t crash = rw crash
 
