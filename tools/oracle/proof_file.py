@@ -50,21 +50,21 @@ use Rattle.model.specs.Verdict.{loadOf, missingOf, observedOf, rulingOf}
 use Rattle.model.specs.Answers.{refused, robust, broken, contradiction, flush}
 use Rattle.model.specs.Answers.{tabulate, cutOf, sum, shareOf}
 use Rattle.model.proofs.Encoding.{encode, readingEvents}
-use Rattle.model.proofs.Sessions.{lent, zeros, Judged, judged, judgedEvents, judged-all}"""
+use Rattle.model.proofs.Sessions.{lent, zeros, Outcome, outcomeOf, outcomeOfEvents, outcome-all}"""
 
-THEOREM = """written : map encode traces ≡ sessions
+THEOREM = """encoded : map encode traces ≡ sessions
 unfolding traces sessions encode recordOf rowOf
-written = refl
+encoded = refl
 
-computed : map judgedEvents traces ≡ answers
+computed : map outcomeOfEvents traces ≡ answers
 unfolding traces answers readingEvents some last first firstFrom most stretch count committed commitOf waiting current
     sourceFits skipping counted answer rules finished seen clock vc forbids? observes? forbidden? observed? pair?
     missing? bad? closure loadOf missingOf observedOf rulingOf tabulate cutOf sum shareOf rowOf
 computed = refl
 
-pub %s : map judged sessions ≡ answers
+pub %s : map outcomeOf sessions ≡ answers
 unfolding traces
-%s = ap (map judged) (sym written) ∙ (judged-all traces refl ∙ computed)"""
+%s = ap (map outcomeOf) (sym encoded) ∙ (outcome-all traces refl ∙ computed)"""
 
 
 def events_of(data: bytes) -> list[Event]:
@@ -145,7 +145,7 @@ def proof_file(which: str, listed: list[tuple[str, bytes, list[str]]]) -> str:
         HEADERS[which] + "\n" + IMPORTS % used,
         "-- the bytes\n" + "pub " + table("sessions", "(List ℕ)", bytes_),
         "-- the events that they are the records of\n" + table("traces", "(List Event)", events),
-        "-- the answers, and the cut buffers afterwards\n" + "pub " + table("answers", "Judged", answers),
+        "-- the answers, and the cut buffers afterwards\n" + "pub " + table("answers", "Outcome", answers),
         THEOREM % (name, name)]) + "\n"
 
 

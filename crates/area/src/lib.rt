@@ -7,12 +7,14 @@ ghost use Rattle.area.specs.Cells.{rowStart, getRow, putRow, eventAt, no
 
 pub mod numbers;
 
+// The number at position i; 0 past the end.
 fn get(work: &[u16], i: usize) -> u16
     ensures { λ r. ⌜ r ≡ getD (now (work .entry)) i 0 ⌝ }
 {
     if i < work.len() { work[i] } else { 0 }
 }
 
+// The number at position i becomes v; past the end nothing changes.
 fn put(work: &mut [u16], i: usize, v: u16)
     ensures { λ _. ⌜ now (work .exit) ≡ set (now (work .entry)) i v ⌝ }
 {
@@ -63,6 +65,7 @@ pub fn row_get(work: &[u16], e: u16, k: u16) -> u16
     get(work, row_of(e) + ((k % 16) as usize))
 }
 
+// Column k of event e's row becomes v.
 pub fn row_put(work: &mut [u16], e: u16, k: u16, v: u16)
     ensures { λ _. ⌜ now (work .exit) ≡ putRow (now (work .entry)) e k v ⌝ }
 {

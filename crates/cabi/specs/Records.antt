@@ -49,8 +49,8 @@ fieldsIn numbers =
     }
 
 -- the event that the numbers name, if there is such a kind
-unfoldable pub eventIn : List ℕ → Event
-eventIn numbers = eventOf (getD numbers 1 0) (fieldsIn numbers)
+unfoldable pub eventNamed : List ℕ → Event
+eventNamed numbers = eventOf (getD numbers 1 0) (fieldsIn numbers)
 
 -- "Kinds and their lengths are one fixed table": a kind is a number that has a length there
 abbrev pub isKind : ℕ → Bool
@@ -59,11 +59,11 @@ isKind k = not (eqb (lengthOf k) 0)
 -- 3, "unknown kind"; else as the record layer writes
 unfoldable pub writingNumbers : List ℕ → List ℕ → Answer
 writingNumbers numbers out =
-    isKind (getD numbers 1 0) gives writing (eventIn numbers) out else refused 3 0
+    isKind (getD numbers 1 0) gives writing (eventNamed numbers) out else refused 3 0
 
 -- the output afterwards
 unfoldable pub writtenNumbers : List ℕ → List ℕ → List ℕ
-writtenNumbers numbers out = isKind (getD numbers 1 0) gives written (eventIn numbers) out else out
+writtenNumbers numbers out = isKind (getD numbers 1 0) gives written (eventNamed numbers) out else out
 
 -- ---- framing
 

@@ -69,7 +69,7 @@ fn outcome_of(w: Written) -> Outcome
 }
 
 // The event that the numbers name, if there is such a kind.
-fn event_in(numbers: [u16; 8]) -> Named
+fn event_named(numbers: [u16; 8]) -> Named
     ensures { λ r. ⌜ r ≡ named (getD numbers 1 0) (fieldsIn numbers) ⌝ }
 {
     let f = Fields {
@@ -88,7 +88,7 @@ pub(crate) fn write(numbers: [u16; 8], output: &mut [u8]) -> Outcome
         × (r .size ≡ sizeIn (writingNumbers numbers (now (output .entry)))) ⌝ }
     ensures { λ _. ⌜ now (output .exit) ≡ writtenNumbers numbers (now (output .entry)) ⌝ }
 {
-    let n = event_in(numbers);
+    let n = event_named(numbers);
     let Named::Known(e) = n else {
         return Outcome {
             refusal: 3,

@@ -31,9 +31,9 @@ use Rattle.machine.proofs.Standings.{store-is, order-is}
 use Rattle.machine.proofs.Closing.{committed-is}
 use Rattle.marks.specs.Marks.{Marks, brokenIn}
 use Rattle.marks.specs.Testing.{missingBy}
-use Rattle.marks.proofs.Held.{broke-ruling, good-robust}
+use Rattle.marks.proofs.Matched.{broken-at-ruling, unbroken-robust}
 use Rattle.judge.specs.declared.verdict.End.{End}
-use Rattle.judge.specs.Runs.{worldOf, AllRead, Stopped, Ran}
+use Rattle.judge.specs.Runs.{worldOf, AllRead, Stopped, AnswersAsDefined}
 use Rattle.judge.specs.Judging.{evidenceAt}
 use Rattle.judge.specs.Standings.{standBy, standingAfter}
 use Rattle.judge.specs.Verdicts.{kindBy, verdictAfter, cutFrom}
@@ -71,8 +71,8 @@ recordsIn (turnedAway k e) = 0
 
 module _ (bytes : List ℕ) where
   -- what is answered, and what becomes of the cut buffer
-  abbrev pub Judged : Verdict → List ℕ → List ℕ → Type 0
-  Judged v cut cut' =
+  abbrev pub AnsweredWithCut : Verdict → List ℕ → List ℕ → Type 0
+  AnsweredWithCut v cut cut' =
       (answers.verdictAnswer v ≡ readingAnswer bytes (readingOf bytes))
       × (cut' ≡ readingCut bytes cut (readingOf bytes))
 
@@ -82,12 +82,12 @@ module _ (bytes : List ℕ) where
     is-turned-away : readingOf bytes ≡ turnedAway k e
     is-turned-away = turned-away-exactly bytes k e .1 away
 
-    pub refused-judged : (cut : List ℕ) → Judged (Refused k e) cut cut
-    refused-judged cut = (rw is-turned-away refl, rw is-turned-away refl)
+    pub refused-with-cut : (cut : List ℕ) → AnsweredWithCut (Refused k e) cut cut
+    refused-with-cut cut = (rw is-turned-away refl, rw is-turned-away refl)
 
     -- such a trace is not accepted
-    pub refused-ran : (work : List ℕ) → Ran bytes (Refused k e) work
-    refused-ran work = record {
+    pub refused-answers : (work : List ℕ) → AnswersAsDefined bytes (Refused k e) work
+    refused-answers work = record {
       answer = rw is-turned-away refl;
       rows = λ N whole.
           absurd (no-records N (sym (accepted-exactly bytes N .1 whole) ∙ is-turned-away) (whole .some-record));
@@ -112,7 +112,7 @@ module _ (bytes : List ℕ) where
 
     -- the rows after a run that answers v
     rows-there :
-        (v : Verdict) → answers.verdictAnswer v ≡ readingAnswer bytes (readingOf bytes) → Ran bytes v work
+        (v : Verdict) → answers.verdictAnswer v ≡ readingAnswer bytes (readingOf bytes) → AnswersAsDefined bytes v work
     rows-there v answer-is = record {
       answer = answer-is;
       rows = λ M also.
@@ -131,37 +131,37 @@ module _ (bytes : List ℕ) where
       abbrev cut' : List ℕ
       cut' = cutFrom endAt (m .counts) cut
 
-      broken-judged : load ≢ 0 → Judged (verdictAfter endAt tables m work) cut cut'
+      broken-with-cut : load ≢ 0 → AnsweredWithCut (verdictAfter endAt tables m work) cut cut'
       unfolding verdictAfter cutFrom evidenceAt
-      broken-judged some-load =
+      broken-with-cut some-load =
           let some = ne-eqb load 0 some-load in
           let early = all .loads .early some-load in
           let few : load ≤ 2049 = omega (arith, all .state .limits .few-events) in
-          let ruling = broke-ruling (events bytes) N work m whole (all .state .rows) (all .loads) some-load in (
+          let ruling = broken-at-ruling (events bytes) N work m whole (all .state .rows) (all .loads) some-load in (
             rw (some, is-accepted, up-is load few, ruling, kind-is (missingBy work m (suc load)) _) refl,
             rw (some, is-accepted, ruling) refl,
           )
 
-      robust-judged : load ≡ 0 → Judged (verdictAfter endAt tables m work) cut cut'
+      robust-with-cut : load ≡ 0 → AnsweredWithCut (verdictAfter endAt tables m work) cut cut'
       unfolding verdictAfter cutFrom
-      robust-judged none-found =
+      robust-with-cut none-found =
           let none = eq-eqb load 0 none-found in
-          let end = good-robust (events bytes) N m whole (all .loads .none-yet none-found) in
+          let end = unbroken-robust (events bytes) N m whole (all .loads .none-yet none-found) in
           let total = committed-is (events bytes) N w (all .state) in (
-            rw (none, is-accepted, end .ruling, end .kept, total, end .share) refl,
+            rw (none, is-accepted, end .ruling, end .stores-in, total, end .share) refl,
             rw (none, is-accepted, end .ruling, end .cut cut right-size) refl,
           )
 
       -- THE VERDICT AFTER ALL RECORDS, AND THE CUT BUFFER, ARE THE DEFINITIONS'
-      all-judged : Judged (verdictAfter endAt tables m work) cut cut'
-      all-judged = by-load (same? load 0)
+      all-with-cut : AnsweredWithCut (verdictAfter endAt tables m work) cut cut'
+      all-with-cut = by-load (same? load 0)
         where
-          by-load : (load ≡ 0) ⊎ (load ≢ 0) → Judged (verdictAfter endAt tables m work) cut cut'
-          by-load (inl none-found) = robust-judged none-found
-          by-load (inr some-load) = broken-judged some-load
+          by-load : (load ≡ 0) ⊎ (load ≢ 0) → AnsweredWithCut (verdictAfter endAt tables m work) cut cut'
+          by-load (inl none-found) = robust-with-cut none-found
+          by-load (inr some-load) = broken-with-cut some-load
 
-      all-ran : Ran bytes (verdictAfter endAt tables m work) work
-      all-ran = rows-there (verdictAfter endAt tables m work) (all-judged .0)
+      all-answers : AnswersAsDefined bytes (verdictAfter endAt tables m work) work
+      all-answers = rows-there (verdictAfter endAt tables m work) (all-with-cut .0)
 
   -- ---- a run that is over before record n, by number k
 
@@ -174,33 +174,33 @@ module _ (bytes : List ℕ) where
       endBy = record { number = k; event = n }
 
       abbrev Over : Verdict → List ℕ → Type 0
-      Over v cut' = Judged v cut cut' × Ran bytes v work
+      Over v cut' = AnsweredWithCut v cut cut' × AnswersAsDefined bytes v work
 
       over : (k ≡ 1) ⊎ (k ≢ 1) → Over (verdictAfter endBy tables m work) (cutFrom endBy (m .counts) cut)
       unfolding verdictAfter cutFrom
       over (inl is-1) =
           let all = stopped .all-read is-1 in
           rw is-1 (
-            all-judged threads locations n tables m work all cut right-size,
-            all-ran threads locations n tables m work all cut right-size,
+            all-with-cut threads locations n tables m work all cut right-size,
+            all-answers threads locations n tables m work all cut right-size,
           )
       over (inr not-1) =
           let away = stopped .turned-away not-1 in
-          rw (ne-eqb k 1 not-1) (refused-judged k n away cut, refused-ran k n away work)
+          rw (ne-eqb k 1 not-1) (refused-with-cut k n away cut, refused-answers k n away work)
 
-      pub stopped-judged : Judged (verdictAfter endBy tables m work) cut (cutFrom endBy (m .counts) cut)
-      stopped-judged = over (same? k 1) .0
+      pub stopped-with-cut : AnsweredWithCut (verdictAfter endBy tables m work) cut (cutFrom endBy (m .counts) cut)
+      stopped-with-cut = over (same? k 1) .0
 
-      pub stopped-ran : Ran bytes (verdictAfter endBy tables m work) work
-      stopped-ran = over (same? k 1) .1
+      pub stopped-answers : AnswersAsDefined bytes (verdictAfter endBy tables m work) work
+      stopped-answers = over (same? k 1) .1
 
   -- ---- the order query
 
-  module _ (v : Verdict) (work : List ℕ) (ran : Ran bytes v work) (p q : ℕ) where
+  module _ (v : Verdict) (work : List ℕ) (answers-it : AnswersAsDefined bytes v work) (p q : ℕ) where
     -- of an accepted trace of N records: 16, or what the rows say
     module _ (N : ℕ) (is : readingOf bytes ≡ accepted N) where
       there : (w : World) × ((w .work ≡ work) × Sim (events bytes) N w)
-      there = ran .rows N (accepted-exactly bytes N .0 is)
+      there = answers-it .rows N (accepted-exactly bytes N .0 is)
 
       by-stores :
           (p-store q-store : Bool) → store? (events bytes) N p ≡ p-store → store? (events bytes) N q ≡ q-store
@@ -253,7 +253,7 @@ module _ (bytes : List ℕ) where
 
     -- THE ANSWER AFTER A RUN IS THE DEFINITIONS'
     pub standing-is : answers.orderAnswer (standingAfter v work p q) ≡ readingStanding bytes p q (readingOf bytes)
-    standing-is = by-reading (readingOf bytes) refl (ran .answer)
+    standing-is = by-reading (readingOf bytes) refl (answers-it .answer)
       where
         by-reading :
             (r : Reading) → readingOf bytes ≡ r → answers.verdictAnswer v ≡ readingAnswer bytes r

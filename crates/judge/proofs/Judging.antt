@@ -28,10 +28,10 @@ use Rattle.machine.specs.Sim.{Sim}
 use Rattle.machine.proofs.Simulation.{step-next, counts-is}
 use Rattle.machine.proofs.Closing.{last-head}
 use Rattle.marks.specs.Marks.{Marks}
-use Rattle.marks.specs.Good.{Held}
+use Rattle.marks.specs.Matching.{MarksMatch}
 use Rattle.marks.proofs.Stepping.{chain}
 use Rattle.marks.proofs.EachLoad.{judgedAs}
-use Rattle.marks.proofs.Held.{held-event, judged-none, judged-load}
+use Rattle.marks.proofs.Matched.{match-event, judged-none, judged-load}
 use Rattle.judge.specs.Judging.{judgedBy}
 
 module _ (ev : ℕ → Event) (n : ℕ) (w : World) (sim : Sim ev n w) where
@@ -39,7 +39,7 @@ module _ (ev : ℕ → Event) (n : ℕ) (w : World) (sim : Sim ev n w) where
   pub event-here : eventAt (w .state .row) ≡ n
   event-here = omega (arith, sim .numbers .row-is, sim .limits .accepted .some-record)
 
-  module _ (passes : refusal ev n ≡ 0) (m : Marks) (held : Held ev n m) where
+  module _ (passes : refusal ev n ≡ 0) (m : Marks) (matching : MarksMatch ev n m) where
     next : Sim ev (suc n) (stepW w (ev n))
     next = step-next ev n w sim passes
 
@@ -60,8 +60,8 @@ module _ (ev : ℕ → Event) (n : ℕ) (w : World) (sim : Sim ev n w) where
         linked-earlier ev (stepW w (ev n) .work) (location ev k) k (suc n) _ (omega (arith, it .not-later))
         (next .chains (location ev k) x-small .links)
 
-    held-after : Held ev (suc n) (judgedAs ev (stepW w (ev n) .work) n (counting ev n) m)
-    held-after = held-event ev n (stepW w (ev n) .work) accepted (λ k here. (next .rows, found k here)) m held
+    match-after : MarksMatch ev (suc n) (judgedAs ev (stepW w (ev n) .work) n (counting ev n) m)
+    match-after = match-event ev n (stepW w (ev n) .work) accepted (λ k here. (next .rows, found k here)) m matching
 
     -- a counted load finds the head that the step leaves: an event of kind 4 commits nothing
     module _ (counts : counted ev n ≡ true) where
@@ -84,14 +84,14 @@ module _ (ev : ℕ → Event) (n : ℕ) (w : World) (sim : Sim ev n w) where
           no-commit = one-kind ev n 4 3 (omega arith) (load .test)
 
     -- THE MARKS AFTER THE EVENT
-    pub held-next : Held ev (suc n) judgedNext
+    pub match-next : MarksMatch ev (suc n) judgedNext
     unfolding judgedBy counting
-    held-next = by-count (test (counted ev n))
+    match-next = by-count (test (counted ev n))
       where
-        by-count : (counted ev n ≡ true) ⊎ (counted ev n ≡ false) → Held ev (suc n) judgedNext
+        by-count : (counted ev n ≡ true) ⊎ (counted ev n ≡ false) → MarksMatch ev (suc n) judgedNext
         by-count (inr uncounted) =
             rw (counts-is ev n w sim passes, uncounted)
-            (rw (uncounted, judged-none ev (stepW w (ev n) .work) n m) at held-after)
+            (rw (uncounted, judged-none ev (stepW w (ev n) .work) n m) at match-after)
         by-count (inl counts) =
             let load-is = judged-load ev (stepW w (ev n) .work) n m in
-            rw (counts-is ev n w sim passes, counts, event-here, head-is counts, load-is) (rw counts at held-after)
+            rw (counts-is ev n w sim passes, counts, event-here, head-is counts, load-is) (rw counts at match-after)

@@ -45,17 +45,17 @@ use Rattle.machine.proofs.Simulation.{step-next}
 use Rattle.machine.proofs.Taken.{refusal-told, counted-told, after-told}
 use Rattle.machine.proofs.Start.{sim-start}
 use Rattle.marks.specs.Marks.{Marks}
-use Rattle.marks.specs.Good.{Held}
-use Rattle.marks.proofs.Held.{held-start}
+use Rattle.marks.specs.Matching.{MarksMatch}
+use Rattle.marks.proofs.Matched.{match-start}
 use Rattle.judge.specs.declared.run.Begun.{Begun}
-use Rattle.judge.specs.declared.run.Turn.{Turn}
+use Rattle.judge.specs.declared.run.Cursor.{Cursor}
 use Rattle.judge.specs.Judging.{judgedBy}
 use Rattle.judge.specs.Runs.{beginEnded, noTables, machineIn, worldOf, Reached, AllRead, Stopped, Began}
-use Rattle.judge.proofs.Judging.{event-here, held-next}
+use Rattle.judge.proofs.Judging.{event-here, match-next}
 
--- the turn before the next record
-abbrev pub turn : ℕ → ℕ → ℕ → Turn
-turn j row at = record { stretch = j; row = row; at = at }
+-- the cursor before the next record
+abbrev pub cursor : ℕ → ℕ → ℕ → Cursor
+cursor j row at = record { stretch = j; row = row; at = at }
 
 -- ---- no rule of a later event has number 1
 
@@ -145,17 +145,17 @@ module _ (bytes : List ℕ) where
     -- ---- a record that is turned away, behind records that pass, whatever the begin said
 
     module _ (all-pass : (e : ℕ) → e < n → refusalAt bytes e ≡ 0) (no-end : endsAt bytes n ≡ false) where
-      turned-by : (k : ℕ) → refusalAt bytes n ≡ k → k ≢ 0 → TurnedAwayWith bytes k n
-      turned-by k is some-number =
+      away-by : (k : ℕ) → refusalAt bytes n ≡ k → k ≢ 0 → TurnedAwayWith bytes k n
+      away-by k is some-number =
           record { earlier-pass = all-pass; number = is; some-number = some-number; no-end = no-end }
 
-      unread-turn : (k e : ℕ) → readAt bytes (start bytes n) ≡ refused k e → TurnedAwayWith bytes k n
-      unread-turn k e is = turned-by k (unread-number k e is) (unread-some k e is)
+      unread-away : (k e : ℕ) → readAt bytes (start bytes n) ≡ refused k e → TurnedAwayWith bytes k n
+      unread-away k e is = away-by k (unread-number k e is) (unread-some k e is)
 
-      forbidden-turn :
+      forbidden-away :
           (k : ℕ) (x : Event) (past : ℕ) → readAt bytes (start bytes n) ≡ event x past
           → refusal (events bytes) n ≡ k → k ≢ 0 → TurnedAwayWith bytes k n
-      forbidden-turn k x past is-read is some-number = turned-by k (read-number x past is-read ∙ is) some-number
+      forbidden-away k x past is-read is some-number = away-by k (read-number x past is-read ∙ is) some-number
 
     -- ---- a record that passes
 
@@ -180,7 +180,7 @@ module _ (bytes : List ℕ) where
 
   pub first-unread : (k e : ℕ) → readAt bytes 0 ≡ refused k e → Began bytes (beginEnded k)
   unfolding start
-  first-unread k e is = began-ended k (unread-some 0 k e is) (unread-turn 0 none-earlier refl k e is)
+  first-unread k e is = began-ended k (unread-some 0 k e is) (unread-away 0 none-earlier refl k e is)
 
   pub first-forbidden :
       (k : ℕ) (x : Event) (past : ℕ) → readAt bytes 0 ≡ event x past → beginRefusal x ≡ k → k ≢ 0
@@ -188,7 +188,7 @@ module _ (bytes : List ℕ) where
   unfolding start
   first-forbidden k x past is-read is some-number =
       began-ended k some-number
-      (forbidden-turn 0 none-earlier refl k x past is-read
+      (forbidden-away 0 none-earlier refl k x past is-read
       (sym (begin-refusals (events bytes)) ∙ (ap beginRefusal (event-is 0 x past is-read) ∙ is)) some-number)
 
   -- what an accepted begin says
@@ -206,7 +206,7 @@ module _ (bytes : List ℕ) where
           position = read-next bytes 0 x past is-read;
           all-pass = passing-on 0 x past none-earlier is-read passes;
           state = state;
-          loads = held-start (events bytes) (state .limits .accepted);
+          loads = match-start (events bytes) (state .limits .accepted);
         };
     turned-away = λ some-number. absurd (some-number refl);
   }
@@ -225,7 +225,7 @@ module _ (bytes : List ℕ) where
   -- ---- a later record
 
   module _
-      (threads locations n : ℕ) (t : Turn) (tables : List ℕ) (m : Marks) (work : List ℕ)
+      (threads locations n : ℕ) (t : Cursor) (tables : List ℕ) (m : Marks) (work : List ℕ)
       (reached : Reached bytes threads locations n t tables m work) where
     abbrev at : ℕ
     at = t .at
@@ -269,7 +269,7 @@ module _ (bytes : List ℕ) where
     later-unread k is = record {
       all-read = λ is-1. all-read (one-past-end bytes at 0 (is ∙ ap (λ (i : ℕ). refused i 0) is-1));
       turned-away = λ not-1.
-          unread-turn n (reached .all-pass)
+          unread-away n (reached .all-pass)
           (still-inside (λ is-1. not-1 (ap refusalIn (sym is ∙ is-1)))) k 0 (read-there (refused k 0) is);
     }
 
@@ -280,7 +280,7 @@ module _ (bytes : List ℕ) where
     later-forbidden k tables' m' work' x past is-read is some-number = record {
       all-read = λ is-1. absurd (rule-not-1 w x (is ∙ is-1));
       turned-away = λ _.
-          forbidden-turn n (reached .all-pass) (still-inside (λ is-1. no-refusal (sym is-1 ∙ is-read))) k x past
+          forbidden-away n (reached .all-pass) (still-inside (λ is-1. no-refusal (sym is-1 ∙ is-read))) k x past
           (read-there (event x past) is-read) (rule-is x past is-read ∙ is) some-number;
     }
       where
@@ -294,7 +294,7 @@ module _ (bytes : List ℕ) where
         → counted' ≡ countsW w x
         → worldOf bytes threads locations j' row' tables' work' ≡ stepW w x
         → m' ≡ judgedBy counted' tables' work' m (t .row) (fieldsOf x)
-        → Reached bytes threads locations (suc n) (turn j' row' past) tables' m' work'
+        → Reached bytes threads locations (suc n) (cursor j' row' past) tables' m' work'
     later-passes x past is-read is j' row' counted' tables' m' work' counted-is step-is marks-are = record {
       position = read-next bytes n x past (read-there (event x past) is-read);
       all-pass = passing-on n x past (reached .all-pass) (read-there (event x past) is-read) passes;
@@ -303,8 +303,8 @@ module _ (bytes : List ℕ) where
           rw (marks-are, counted-is, sym event-n)
           (subst
           (λ (v : World).
-          Held ev (suc n) (judgedBy (countsW w (ev n)) (v .tables) (v .work) m (t .row) (fieldsOf (ev n))))
-          (sym after-is) (held-next ev n w (reached .state) passes m (reached .loads)));
+          MarksMatch ev (suc n) (judgedBy (countsW w (ev n)) (v .tables) (v .work) m (t .row) (fieldsOf (ev n))))
+          (sym after-is) (match-next ev n w (reached .state) passes m (reached .loads)));
     }
       where
         ev : ℕ → Event
@@ -345,7 +345,7 @@ module _ (bytes : List ℕ) where
 
         pub scanned-passes :
             s .refusal ≡ 0 → (m' : Marks) → m' ≡ judgedBy (s .counted) tables' work' m (t .row) (r .fields)
-            → Reached bytes threads locations (suc n) (turn (s .stretch) (t .row + 16) (r .next)) tables' m' work'
+            → Reached bytes threads locations (suc n) (cursor (s .stretch) (t .row + 16) (r .next)) tables' m' work'
         scanned-passes passes m' marks-are =
             let (x, (read-is, kind-is, fields-are)) = scan-read bytes at r is in
             let told : given ≡ stepO w (kindOf x) (fieldsOf x) = rw (← kind-is, ← fields-are) step-is in
@@ -359,7 +359,7 @@ module _ (bytes : List ℕ) where
 
     -- ---- what is left of the run
 
-    -- the turn knows the record's number
+    -- the cursor knows the record's number
     pub reached-here : Reached bytes threads locations (eventAt (t .row)) t tables m work
     reached-here =
         subst (λ (e : ℕ). Reached bytes threads locations e t tables m work)
@@ -367,7 +367,7 @@ module _ (bytes : List ℕ) where
 
     -- the next record lies further on
     pub less-left :
-        (t' : Turn) (tables' : List ℕ) (m' : Marks) (work' : List ℕ)
+        (t' : Cursor) (tables' : List ℕ) (m' : Marks) (work' : List ℕ)
         → Reached bytes threads locations (suc n) t' tables' m' work' → length bytes - t' .at < length bytes - at
     less-left t' tables' m' work' next =
         let p = passed→ bytes n (next .all-pass n (omega arith)) in

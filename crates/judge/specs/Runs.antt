@@ -15,22 +15,22 @@ use Rattle.machine.specs.declared.state.Machine.{Machine}
 use Rattle.machine.specs.Twin.{World, stateOf, world}
 use Rattle.machine.specs.Sim.{Sim}
 use Rattle.marks.specs.Marks.{Marks, marksOf}
-use Rattle.marks.specs.Good.{Held}
+use Rattle.marks.specs.Matching.{MarksMatch}
 use Rattle.judge.specs.declared.run.Begun.{Begun}
-use Rattle.judge.specs.declared.run.Turn.{Turn}
-use Rattle.judge.specs.declared.run.Turned.{Turned}
-use Rattle.judge.specs.declared.run.Turned.the-variants.{On, Ended}
+use Rattle.judge.specs.declared.run.Cursor.{Cursor}
+use Rattle.judge.specs.declared.run.Next.{Next}
+use Rattle.judge.specs.declared.run.Next.the-variants.{On, Ended}
 
 -- a begin that is turned away
 abbrev pub beginEnded : ℕ → Begun
 beginEnded refusal = record { threads = 0; locations = 0; at = 0; refusal = refusal }
 
--- the turn after an accepted begin, which ends at `past`
-abbrev pub startedAt : ℕ → Turn
+-- the cursor after an accepted begin, which ends at `past`
+abbrev pub startedAt : ℕ → Cursor
 startedAt past = record { stretch = 1; row = 0; at = past }
 
 -- the number of what ends a run, 0 if it goes on
-abbrev pub numberIn : Turned → ℕ
+abbrev pub numberIn : Next → ℕ
 numberIn (On t) = 0
 numberIn (Ended k) = k
 
@@ -52,12 +52,12 @@ module _ (bytes : List ℕ) where
     abbrev pub worldOf : ℕ → ℕ → List ℕ → List ℕ → World
     worldOf j row tables work = world (stateOf (machineIn j) row) tables work
 
-    -- before record n, which starts at the turn's position
-    pub record Reached (n : ℕ) (t : Turn) (tables : List ℕ) (m : Marks) (work : List ℕ) : Type 0 where
+    -- before record n, which starts at the cursor's position
+    pub record Reached (n : ℕ) (t : Cursor) (tables : List ℕ) (m : Marks) (work : List ℕ) : Type 0 where
       pub position : t .at ≡ start bytes n
       pub all-pass : (e : ℕ) → e < n → refusalAt bytes e ≡ 0
       pub state : Sim (events bytes) n (worldOf (t .stretch) (t .row) tables work)
-      pub loads : Held (events bytes) n m
+      pub loads : MarksMatch (events bytes) n m
 
     -- behind all N records
     pub record AllRead (N : ℕ) (tables : List ℕ) (m : Marks) (work : List ℕ) : Type 0 where
@@ -65,7 +65,7 @@ module _ (bytes : List ℕ) where
       pub stretch : ℕ
       pub row : ℕ
       pub state : Sim (events bytes) N (worldOf stretch row tables work)
-      pub loads : Held (events bytes) N m
+      pub loads : MarksMatch (events bytes) N m
 
     -- the run is over before record n: number 1 where no record is left, else that of what turns the record away
     pub record Stopped (n k : ℕ) (tables : List ℕ) (m : Marks) (work : List ℕ) : Type 0 where
@@ -73,7 +73,7 @@ module _ (bytes : List ℕ) where
       pub turned-away : k ≢ 1 → TurnedAwayWith bytes k n
 
     -- after record n, or where there is none
-    abbrev pub After : ℕ → Turned → List ℕ → Marks → List ℕ → Type 0
+    abbrev pub After : ℕ → Next → List ℕ → Marks → List ℕ → Type 0
     After n (On t) tables m work = Reached (suc n) t tables m work
     After n (Ended k) tables m work = Stopped n k tables m work
 
@@ -85,6 +85,6 @@ module _ (bytes : List ℕ) where
     pub turned-away : b .refusal ≢ 0 → TurnedAwayWith bytes (b .refusal) 0
 
   -- at the end: the verdict is the definitions', and of an accepted trace the work area has the rows of its stores
-  pub record Ran (v : Verdict) (work : List ℕ) : Type 0 where
+  pub record AnswersAsDefined (v : Verdict) (work : List ℕ) : Type 0 where
     pub answer : verdictAnswer v ≡ readingAnswer bytes (readingOf bytes)
     pub rows : (N : ℕ) → AcceptedWith bytes N → (w : World) × ((w .work ≡ work) × Sim (events bytes) N w)

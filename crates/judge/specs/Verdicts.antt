@@ -12,7 +12,7 @@ use Rattle.model.specs.declared.Verdict.{Verdict}
 use Rattle.model.specs.declared.Verdict.the-variants.{Refused, Robust, Broken}
 use Rattle.machine.specs.Tables.{committedIn}
 use Rattle.marks.specs.Marks.{Marks, brokenIn}
-use Rattle.marks.specs.Ending.{copied, keptIn}
+use Rattle.marks.specs.Ending.{copied, storesIn}
 use Rattle.judge.specs.declared.loads.Evidence.{Evidence}
 use Rattle.judge.specs.declared.verdict.End.{End}
 use Rattle.judge.specs.Judging.{evidenceAt}
@@ -24,7 +24,7 @@ abbrev pub brokenBy : ℕ → Evidence → Verdict
 brokenBy events f = Broken events (f .load) (f .missing) (f .observed) (kindBy (f .missing) (f .observed))
 
 abbrev pub shareBy : List ℕ → List ℕ → ℕ
-shareBy counts tables = min (percent (keptIn counts) (committedIn tables)) 65535
+shareBy counts tables = min (percent (storesIn counts) (committedIn tables)) 65535
 
 unfoldable pub verdictAfter : End → List ℕ → Marks → List ℕ → Verdict
 verdictAfter t tables m work =

@@ -6,7 +6,7 @@ ghost use Rattle.area.specs.Cells.{eventAt};
 ghost use Rattle.model.specs.Reading.{refusalIn, readingOf};
 ghost use Rattle.model.specs.Judge.{readingCut};
 ghost use Rattle.marks.specs.Marks.{marksOf};
-ghost use Rattle.judge.specs.Runs.{beginEnded, startedAt, numberIn, Began, Reached, After, Ran};
+ghost use Rattle.judge.specs.Runs.{beginEnded, startedAt, numberIn, Began, Reached, After, AnswersAsDefined};
 use crate::loads;
 use crate::verdict;
 use crate::verdict::End;
@@ -40,18 +40,18 @@ impl Begun {
 }
 
 // Between two records: the stretch, where the row of the next event begins, and the position of the next record.
-pub struct Turn {
+pub struct Cursor {
     pub stretch: u16,
     pub row: usize,
     pub at: usize,
 }
 
-impl Turn {
+impl Cursor {
     // After an accepted begin, which ends at `at`.
-    fn start(at: usize) -> Turn
+    fn start(at: usize) -> Cursor
         ensures { λ r. ⌜ r ≡ startedAt at ⌝ }
     {
-        Turn {
+        Cursor {
             stretch: 1,
             row: 0,
             at,
@@ -60,18 +60,18 @@ impl Turn {
 }
 
 // After a record: what the next one meets; or the number of what ends the run, which is 1 where no record is left.
-pub enum Turned {
-    On(Turn),
+pub enum Next {
+    On(Cursor),
     Ended(u16),
 }
 
 // The number of what ends the run, 0 if it goes on.
-fn number_in(t: Turned) -> u16
+fn number_in(t: Next) -> u16
     ensures { λ r. ⌜ r ≡ numberIn t ⌝ }
 {
     match t {
-        Turned::On(_) => 0,
-        Turned::Ended(k) => k,
+        Next::On(_) => 0,
+        Next::Ended(k) => k,
     }
 }
 
@@ -114,12 +114,12 @@ fn judge_record(
     trace: &[u8],
     threads: u16,
     locations: u16,
-    t: Turn,
+    t: Cursor,
     tables: &mut Tables,
     marks: &mut Marks,
     flags: &mut Flags,
     work: &mut [u16],
-) -> Turned
+) -> Next
     requires { ⌜ (Reached (now trace) threads locations (eventAt (t .row)) t
         (now tables) (marksOf (now marks) (now flags)) (now work)) ⌝ }
     ensures { λ r. ⌜ (After (now (trace .entry)) threads locations (eventAt (t .row)) r
@@ -128,7 +128,7 @@ fn judge_record(
     let row = t.row;
     let d = record::scan_at(trace, t.at);
     let Scanned::Record(e) = d else {
-        return Turned::Ended(record::refusal_of(d));
+        return Next::Ended(record::refusal_of(d));
     };
     let f = e.fields;
     let m = Machine {
@@ -138,10 +138,10 @@ fn judge_record(
     };
     let s = machine::step(m, row, tables, work, e.kind, f);
     if s.refusal != 0 {
-        return Turned::Ended(s.refusal);
+        return Next::Ended(s.refusal);
     }
     loads::judge_event(tables, marks, flags, s.counted, work, row, f);
-    Turned::On(Turn {
+    Next::On(Cursor {
         stretch: s.stretch,
         row: row + 16,
         at: e.next,
@@ -153,7 +153,7 @@ fn judge_record(
 // length from every read and store.
 pub(crate) fn run(trace: &[u8], work: &mut [u16], cut: &mut [u16]) -> Verdict
     requires { ⌜ (length (now work) ≡ 32768) × (length (now cut) ≡ 56) ⌝ }
-    ensures { λ r. ⌜ Ran (now (trace .entry)) r (now (work .exit)) ⌝ }
+    ensures { λ r. ⌜ AnswersAsDefined (now (trace .entry)) r (now (work .exit)) ⌝ }
     ensures { λ _. ⌜ (now (cut .exit)
         ≡ readingCut (now (trace .entry)) (now (cut .entry)) (readingOf (now (trace .entry)))) ⌝ }
 {
@@ -168,7 +168,7 @@ pub(crate) fn run(trace: &[u8], work: &mut [u16], cut: &mut [u16]) -> Verdict
     let mut tables: Tables = [0; 3008];
     let mut marks: Marks = [0; 648];
     let mut flags: Flags = [0; 2048];
-    let mut t = Turn::start(b.at);
+    let mut t = Cursor::start(b.at);
     loop {
         let r = judge_record(
             trace,
@@ -180,7 +180,7 @@ pub(crate) fn run(trace: &[u8], work: &mut [u16], cut: &mut [u16]) -> Verdict
             &mut flags,
             &mut work[..size],
         );
-        let Turned::On(next) = r else {
+        let Next::On(next) = r else {
             let end = End {
                 number: number_in(r),
                 event: area::event_at(t.row),

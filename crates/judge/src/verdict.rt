@@ -27,6 +27,7 @@ fn preceding(x: u16) -> u16
     if x == 0 { 0 } else { x - 1 }
 }
 
+// "contradiction" if they are equal, else "flush".
 fn kind_of(missing: u16, observed: u16) -> Kind
     ensures { λ r. ⌜ r ≡ kindBy missing observed ⌝ }
 {
@@ -37,6 +38,7 @@ fn kind_of(missing: u16, observed: u16) -> Kind
     }
 }
 
+// The answer of a broken trace, with its evidence.
 fn broken(events: u16, f: Evidence) -> Verdict
     ensures { λ r. ⌜ r ≡ brokenBy events f ⌝ }
 {
@@ -54,7 +56,7 @@ fn broken(events: u16, f: Evidence) -> Verdict
 fn share(marks: &Marks, tables: &Tables) -> u16
     ensures { λ r. ⌜ r ≡ shareBy (now (marks .entry)) (now (tables .entry)) ⌝ }
 {
-    end::percentage(end::kept(marks), machine::all_committed(tables))
+    end::percentage(end::stores_in(marks), machine::all_committed(tables))
 }
 
 // Only a robust trace changes the cut buffer.

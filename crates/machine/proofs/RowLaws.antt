@@ -14,7 +14,7 @@ use Rattle.area.specs.Cells.{rowStart, getRow, putRow, eventAt, noStore}
 use Rattle.area.proofs.ReadBack.{start-is, rows-apart, length-put, put-same, put-row, put-column}
 use Rattle.area.proofs.ReadBack.{set-here, set-column, set-elsewhere}
 use Rattle.machine.specs.Threads.{ofThread}
-use Rattle.machine.specs.Effects.{clocked, written}
+use Rattle.machine.specs.Effects.{clocked, withStore}
 use Rattle.machine.proofs.Storing.{Elsewhere, set-leaves, column-after, run, run-size, run-leaves, run-in}
 
 -- event n is no store, and all else that the rows of stores hold, but for the links of chains, is as it was
@@ -79,7 +79,7 @@ module _ (row n : ℕ) (begins : row + 16 ≡ 16 * n) (to-last : n ≤ 2048) whe
     linked = putRow l g 11 (eventAt row)
 
     abbrev after : List ℕ
-    after = written tables t row c x j linked
+    after = withStore tables t row c x j linked
 
     -- what the thread has seen is a run of numbers
     abbrev seen-by : ℕ → ℕ
@@ -94,7 +94,7 @@ module _ (row n : ℕ) (begins : row + 16 ≡ 16 * n) (to-last : n ≤ 2048) whe
 
     -- the positions of the row's columns 0 to 11 are written
     written-leaves : Elsewhere row (row + 12) linked after
-    unfolding written
+    unfolding withStore
     written-leaves i apart =
         let not-at : (k : ℕ) → k < 12 → row + k ≢ i = λ k low same. apart (omega arith) (omega arith) in
         rw clocked-is
@@ -122,7 +122,7 @@ module _ (row n : ℕ) (begins : row + 16 ≡ 16 * n) (to-last : n ≤ 2048) whe
         ∙ put-column l g 11 (eventAt row) p 14 (omega arith) (omega arith) (λ same. omega arith)
 
     pub stored-is : 32768 ≤ length l → g ≤ 2048 → Stored n g t c x j seen-by l after
-    unfolding written
+    unfolding withStore
     stored-is room g-to-last = record {
       size = rw clocked-is (simp (length-set, run-size row seen-by linked 8)) ∙ linked-size;
       no-next = at-row after 11 (omega arith) ∙ rw clocked-is (simp (column-after, length-set, inside));

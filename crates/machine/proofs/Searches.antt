@@ -14,7 +14,7 @@ use lib.ListN.{getD}
 use Rattle.record.specs.declared.events.Event.{Event}
 use Rattle.record.specs.Tests.{_gives_else_}
 use Rattle.model.specs.Trace.{thread, location, source, issue?, commit?, Issue, stretch, issues, commits, place}
-use Rattle.model.specs.Machine.{committedBy, waiting, current, past, sourceFits}
+use Rattle.model.specs.Machine.{commitsBefore, waiting, current, past, sourceFits}
 use Rattle.model.specs.Choice.{finished}
 use Rattle.model.specs.Stores.{headOf, storeAt, newestAt, landed}
 use Rattle.model.proofs.Searching.{test, same?, less?, both}
@@ -47,7 +47,7 @@ pub →past : (ev : ℕ → Event) (n s : ℕ) → FromPast ev n s → past ev n
 →past ev n s from =
     both _ _
     (both _ _ (both _ _ (from .store .test) (eq-eqb _ _ (from .to-it))) (lt-ltb _ _ (from .earlier)))
-    (lt-ltb _ _ (from .kept))
+    (lt-ltb _ _ (from .committed))
 
 -- it has at every later event of its location too
 past-later :
@@ -59,8 +59,8 @@ past-later ev l n s later at-it is-past =
       store = from .store;
       to-it = from .to-it ∙ at-it;
       earlier = omega (arith, from .earlier, stretch-mono ev l n later);
-      kept =
-          omega (arith, from .kept, count-mono ev (commit? ev) l n (stretch ev s) (thread ev s) later);
+      committed =
+          omega (arith, from .committed, count-mono ev (commit? ev) l n (stretch ev s) (thread ev s) later);
     })
 
 module _ (ev : ℕ → Event) (n : ℕ) (w : World) (sim : Sim ev n w) where
@@ -84,7 +84,7 @@ module _ (ev : ℕ → Event) (n : ℕ) (w : World) (sim : Sim ev n w) where
     none-waits = waiting-none ev n n p (sim .limits .accepted) newest
 
     -- no store waits in an empty queue
-    none-queued : issued ev n t ≤ committedBy ev n → Waits ev n p → ⊥
+    none-queued : issued ev n t ≤ commitsBefore ev n → Waits ev n p → ⊥
     none-queued empty waits =
         omega (
           arith,
@@ -94,7 +94,7 @@ module _ (ev : ℕ → Event) (n : ℕ) (w : World) (sim : Sim ev n w) where
         )
 
     -- places grow, so of a thread's stores in the stretch those from the oldest waiting one on wait
-    module _ (o : ℕ) (oldest : Store ev n (stretch ev n) t (committedBy ev n) o) where
+    module _ (o : ℕ) (oldest : Store ev n (stretch ev n) t (commitsBefore ev n) o) where
       none-earlier : p < o → Waits ev n p → ⊥
       none-earlier earlier waits =
           omega (
@@ -138,19 +138,19 @@ module _ (ev : ℕ → Event) (n : ℕ) (w : World) (sim : Sim ev n w) where
           rw (ne-eqb o 0 some-store, le-leb o p later) (sym (waiting-newest ev n p newest (all-later later)))
 
     waiting-by-queue :
-        (committedBy ev n < issued ev n t) ⊎ (issued ev n t ≤ committedBy ev n)
-        → waiting-in (storeAt ev n (stretch ev n) t (committedBy ev n)) p ≡ waiting ev n
+        (commitsBefore ev n < issued ev n t) ⊎ (issued ev n t ≤ commitsBefore ev n)
+        → waiting-in (storeAt ev n (stretch ev n) t (commitsBefore ev n)) p ≡ waiting ev n
     unfolding waiting-in
     waiting-by-queue (inl some) =
-        waiting-queued _ (store-at-is ev n (stretch ev n) t (committedBy ev n) some) (less? p _)
+        waiting-queued _ (store-at-is ev n (stretch ev n) t (commitsBefore ev n) some) (less? p _)
     waiting-by-queue (inr empty) =
-        rw (store-at-none ev n (stretch ev n) t (committedBy ev n) empty) (sym (none-waits (λ _. none-queued empty)))
+        rw (store-at-none ev n (stretch ev n) t (commitsBefore ev n) empty) (sym (none-waits (λ _. none-queued empty)))
 
   waiting-is : t < 8 → x < 256 → waitingW w t x ≡ waiting ev n
   unfolding waitingIn waiting-in
   waiting-is few-t few-x =
       rw (sim .newest-are x t few-x few-t, sim .queues t few-t .oldest-is)
-      (waiting-by-queue (newestAt ev n x t) refl (less? (committedBy ev n) (issued ev n t)))
+      (waiting-by-queue (newestAt ev n x t) refl (less? (commitsBefore ev n) (issued ev n t)))
 
   -- ---- current
 

@@ -15,7 +15,8 @@ use Rattle.model.proofs.Searching.{same?}
 use Rattle.area.specs.Cells.{eventAt}
 use Rattle.machine.specs.declared.threads.Thread.{Thread}
 use Rattle.machine.specs.Tables.{lastCell, commitsCell, newestCell, stretchCell}
-use Rattle.machine.specs.Threads.{fresh, bit, issuedT, committedT, skippedT, threadOf, ofThread}
+use Rattle.model.specs.Search.{bit}
+use Rattle.machine.specs.Threads.{fresh, issuedT, committedT, skippedT, threadOf, ofThread}
 use Rattle.machine.specs.Threads.{putIssued, putCommitted, putSkip, unseen, restarted}
 use Rattle.machine.specs.Effects.{issuedTables, finishedThread, finished}
 use Rattle.machine.proofs.Storing.{Same, Elsewhere, set-leaves, column-after, run, run-size, run-leaves, run-in}

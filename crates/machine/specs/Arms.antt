@@ -1,11 +1,8 @@
 -- The code's match on the kind of an event, with ranges for flushes, fences and skips: what each kind chooses.
 use Prim.Native.Nat.{ℕ}
-use mathlib.Core.Bool.{Bool, _&&_}
-use lib.Dec.{eqb, leb}
+use lib.Dec.{eqb}
 use Rattle.record.specs.Tests.{_gives_else_}
-
-abbrev pub within : ℕ → ℕ → ℕ → Bool
-within low high k = leb low k && leb k high
+use Rattle.model.specs.Rules.{within}
 
 unfoldable pub byKind : {A : Type 0} → ℕ → A → A → A → A → A → A → A → A → A
 byKind k issue commit load flush fence crash skip other =

@@ -26,8 +26,8 @@ clocked (suc u) tables t row l = set (clocked u tables t row l) (row + u) (ofThr
 
 -- a store's row: its clock, which is what thread t has seen, with c for t itself; its thread, location and stretch; and
 -- no next store
-unfoldable pub written : List ℕ → ℕ → ℕ → ℕ → ℕ → ℕ → List ℕ → List ℕ
-written tables t row c x j l =
+unfoldable pub withStore : List ℕ → ℕ → ℕ → ℕ → ℕ → ℕ → List ℕ → List ℕ
+withStore tables t row c x j l =
     let with-clock = set (clocked 8 tables t row l) (row + t) c in
     let with-thread = set with-clock (row + 8) t in
     let with-location = set with-thread (row + 9) x in
@@ -43,7 +43,7 @@ issuedTables tables row t x =
 unfoldable pub issuedWork : List ℕ → List ℕ → ℕ → ℕ → ℕ → ℕ → List ℕ
 issuedWork tables l row t x j =
     let old = threadOf tables t in
-    written tables t row (up (old .issued)) x j (putRow l (old .newest) 11 (eventAt row))
+    withStore tables t row (up (old .issued)) x j (putRow l (old .newest) 11 (eventAt row))
 
 unfoldable pub issueW : World → ℕ → ℕ → World
 issueW w t x =

@@ -7,6 +7,7 @@ use mathlib.Core.Logic.{_≢_}
 use lib.Dec.{eqb}
 use lib.ListN.{getD, set}
 use Rattle.record.specs.Tests.{_gives_else_}
+use Rattle.model.specs.Search.{bit}
 use Rattle.area.specs.Cells.{up}
 use Rattle.machine.specs.declared.threads.Thread.{Thread}
 use Rattle.machine.specs.Tables.{threadCell}
@@ -59,9 +60,6 @@ abbrev pub crashedT : Thread → Thread
 crashedT t = fresh
 
 -- ---- in the tables
-
-abbrev pub bit : Bool → ℕ
-bit b = b gives 1 else 0
 
 -- number k of thread t's row
 abbrev pub ofThread : List ℕ → ℕ → ℕ → ℕ

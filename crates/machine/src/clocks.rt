@@ -2,7 +2,7 @@
 ghost use mathlib.Core.Path.{_≡_};
 ghost use Prim.Native.Nat.{_+_, _≤_, _<_};
 ghost use lib.ListN.{length};
-ghost use Rattle.machine.specs.Effects.{written};
+ghost use Rattle.machine.specs.Effects.{withStore};
 use crate::tables;
 use crate::tables::Tables;
 
@@ -18,7 +18,7 @@ pub(crate) fn write_row(
     j: u16,
 )
     requires { ⌜ (t < 8) × (row + 16 ≤ length (now work)) ⌝ }
-    ensures { λ _. ⌜ now (work .exit) ≡ written (now (tables .entry)) t row own x j (now (work .entry)) ⌝ }
+    ensures { λ _. ⌜ now (work .exit) ≡ withStore (now (tables .entry)) t row own x j (now (work .entry)) ⌝ }
 {
     let from = tables::thread(t, 0);
     let mut u: usize = 0;

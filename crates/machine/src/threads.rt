@@ -2,7 +2,8 @@
 // methods hand the thread's new state back. The queue's stores are linked in the work area; here are its ends.
 ghost use mathlib.Core.Path.{_≡_};
 ghost use Prim.Native.Nat.{_<_};
-ghost use Rattle.machine.specs.Threads.{firstOf, bit, issuedT, committedT, skippedT, crashedT, threadOf};
+ghost use Rattle.model.specs.Search.{bit};
+ghost use Rattle.machine.specs.Threads.{firstOf, issuedT, committedT, skippedT, crashedT, threadOf};
 ghost use Rattle.machine.specs.Threads.{KeepsOldest, putIssued, putCommitted, putSkip, putOldest};
 ghost use Rattle.machine.specs.Threads.{unseen, restarted};
 use crate::tables;
@@ -84,7 +85,8 @@ pub(crate) fn thread_of(tables: &Tables, t: u16) -> Thread
     }
 }
 
-// The oldest waiting store becomes this one. That of a queue that is not empty is this one already, and stays.
+// The oldest waiting store of thread t becomes `oldest`. Where a store waits already that is `oldest` (`KeepsOldest`), so
+// only an empty queue's number is stored: most issues then do without a store there.
 fn put_oldest(tables: &mut Tables, t: u16, oldest: u16)
     requires { ⌜ (t < 8) × KeepsOldest (now tables) t oldest ⌝ }
     ensures { λ _. ⌜ now (tables .exit) ≡ putOldest (now (tables .entry)) t oldest ⌝ }

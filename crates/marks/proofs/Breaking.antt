@@ -23,7 +23,7 @@ use Rattle.area.specs.Cells.{getRow}
 use Rattle.marks.specs.Marks.{Marks, cutCell, lowCell, countIn}
 use Rattle.marks.specs.Marking.{walked, loaded}
 use Rattle.marks.specs.Testing.{walkHits, hit, hits, loadHits}
-use Rattle.marks.specs.Good.{PlaceOf, AtMost, Says}
+use Rattle.marks.specs.Matching.{PlaceOf, AtMost, Says}
 use Rattle.marks.proofs.Says.{Fit, fits, row}
 use Rattle.marks.proofs.Walking.{Walked}
 use Rattle.marks.proofs.Stepping.{chain, chained, alsoMarks, alsoSees, alsoAsks, Found, source-fits}

@@ -15,8 +15,8 @@ use Rattle.model.specs.Answers.{tabulate, sum, percent, cutOf, shareOf}
 use Rattle.model.proofs.Tabulating.{sum-mono, tabulate-same, tabulate-length}
 use Rattle.model.proofs.Closure.{closure-fits}
 use Rattle.marks.specs.Marks.{Marks, cutCell, countIn}
-use Rattle.marks.specs.Ending.{copied, keptIn}
-use Rattle.marks.specs.Good.{Judging}
+use Rattle.marks.specs.Ending.{copied, storesIn}
+use Rattle.marks.specs.Matching.{Judging}
 
 -- ---- the buffer
 
@@ -55,8 +55,8 @@ module _ (ev : ℕ → Event) (N : ℕ) where
     pub cut-is : (out : List ℕ) → length out ≡ 56 → copied 56 (m .counts) out ≡ cutOf (closure ev N)
     cut-is out size = copied-all (m .counts) 56 out size ∙ least-table
 
-    pub kept-is : keptIn (m .counts) ≡ sum (cutOf (closure ev N))
-    kept-is = ap sum least-table
+    pub stores-in-is : storesIn (m .counts) ≡ sum (cutOf (closure ev N))
+    stores-in-is = ap sum least-table
 
   -- ---- the share
 

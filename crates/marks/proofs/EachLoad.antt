@@ -29,7 +29,7 @@ use Rattle.marks.specs.Marks.{Marks, marksOf, brokenCell, brokenIn}
 use Rattle.marks.specs.Marking.{loaded}
 use Rattle.marks.specs.Testing.{loadHits}
 use Rattle.marks.specs.Judged.{repeated, noted}
-use Rattle.marks.specs.Good.{Says, Loads}
+use Rattle.marks.specs.Matching.{Says, Loads}
 use Rattle.marks.proofs.Counts.{loaded-leaves, noted-size, noted-leaves, noted-broken}
 use Rattle.marks.proofs.Says.{says-same}
 use Rattle.marks.proofs.Stepping.{chain, chained, alsoMarks, alsoSees, alsoAsks, Due, due-next}
@@ -37,14 +37,14 @@ use Rattle.marks.proofs.Stepping.{marked-so-far, Found, load-says}
 use Rattle.marks.proofs.Breaking.{Hit, hit-stays, load-hits→, →load-hits}
 use Rattle.marks.proofs.Noting.{says-there, loads-later, Again, repeats-noted, noted-loads}
 
--- event e is kept if it breaks the trace
-abbrev pub keptBy : ℕ → Bool → Marks → Marks
-keptBy e breaks m = cond breaks (marksOf (set (m .counts) brokenCell e) (m .flags)) m
+-- event e is recorded if it breaks the trace
+abbrev pub withBreaking : ℕ → Bool → Marks → Marks
+withBreaking e breaks m = cond breaks (marksOf (set (m .counts) brokenCell e) (m .flags)) m
 
 module _ (ev : ℕ → Event) where
   -- ---- the loads that count as of an event, one after the other
 
-  -- the loads ks are due yet, none of those before has been kept as breaking, and b says whether there is a pair so far
+  -- the loads ks are due yet, none of those before has been recorded as breaking, and b says whether there is a pair so far
   pub record Part (n : ℕ) (ks : List ℕ) (b : Bool) (m : Marks) : Type 0 where
     pub F : ℕ → Bool
     pub O : ℕ → Bool
@@ -85,7 +85,7 @@ module _ (ev : ℕ → Event) where
 
     -- THE MARKS AFTER EVENT e, as of which the loads ks count
     unfoldable pub judgedAs : ℕ → List ℕ → Marks → Marks
-    judgedAs e ks m = cond (eqb (brokenIn (m .counts)) 0) (keptBy e (breaksAll ks false m) (judgedAll ks m)) m
+    judgedAs e ks m = cond (eqb (brokenIn (m .counts)) 0) (withBreaking e (breaksAll ks false m) (judgedAll ks m)) m
 
   -- ---- one load
 
@@ -189,7 +189,7 @@ module _ (ev : ℕ → Event) where
           (λ same. omega arith))
           says-walked;
       loads =
-          noted-loads ev n k accepted (found .not-later) x-there (part .F) (part .O) walked-over kept-loads 0
+          noted-loads ev n k accepted (found .not-later) x-there (part .F) (part .O) walked-over same-loads 0
           (says-walked .counts-size);
       unbroken =
           noted-broken (walked-over .counts) h x s 0 false (says-walked .counts-size)
@@ -209,8 +209,8 @@ module _ (ev : ℕ → Event) where
         s : ℕ
         s = source ev k
 
-        kept-loads : Loads ev (suc n) (part .F) (part .O) walked-over
-        kept-loads =
+        same-loads : Loads ev (suc n) (part .F) (part .O) walked-over
+        same-loads =
             loads-later ev (suc n) (suc n) (part .F) (part .F) (part .O) (part .O) (omega arith) (λ p in-f. in-f)
             (λ q in-o. in-o) m walked-over (λ i from-128 below. loaded-leaves l m h s i from-128) (part .loads)
 

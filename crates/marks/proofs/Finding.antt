@@ -17,13 +17,13 @@ use Rattle.model.specs.Verdict.{forbidden?, observed?, pair?, missing?, bad?, c
 use Rattle.model.proofs.Searching.{false-true, test, parts, first-is, eqb-turned}
 use Rattle.model.proofs.Acceptance.{event-bound}
 use Rattle.model.proofs.StorePlaces.{fails}
-use Rattle.model.proofs.Closure.{observed→, observed-is-kept}
+use Rattle.model.proofs.Closure.{observed→, observed-is-committed}
 use Rattle.model.proofs.RulingSteps.{marked-over, hit?, hit→, hit-is-missing}
 use Rattle.area.specs.Cells.{getRow}
 use Rattle.area.specs.Rows.{StoreRow, Rows}
 use Rattle.marks.specs.Marks.{Marks, flagIn}
 use Rattle.marks.specs.Testing.{inCut, isForbidden, isObserved, missingIn, observedIn, missingBy, observedBy}
-use Rattle.marks.specs.Good.{Judging}
+use Rattle.marks.specs.Matching.{Judging}
 use Rattle.marks.proofs.Says.{Fit, fits, row, own-is, in-cut}
 
 -- searches by tests that agree find the same
@@ -111,8 +111,8 @@ module _
             ≡ (observed? ev N q && eqb (stretch ev p) (stretch ev q) && ltb (place ev p) (vc ev q (thread ev p)))
         by-test (inr not-observed) = rw not-observed
         by-test (inl observed) =
-            let kept = observed-is-kept ev N accepted q (observed→ ev N q observed) in
-            let q-row = rows .stores q (kept .early) (kept .store) in
+            let settled = observed-is-committed ev N accepted q (observed→ ev N q observed) in
+            let q-row = rows .stores q (settled .early) (settled .store) in
             rw (
               its-row .thread-is,
               its-row .stretch-is,

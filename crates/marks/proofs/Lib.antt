@@ -1,6 +1,6 @@
--- Laws of the code's loops (Turns), and what the functions of specs/ mean for a trace: the invariant of judging, its
--- steps and its ends, which the judge cites, are in Held.
-pub mod Turns
+-- Laws of the code's loops (Loops), and what the functions of specs/ mean for a trace: the invariant of judging, its
+-- steps and its ends, which the judge cites, are in Matched.
+pub mod Loops
 pub mod Counts
 pub mod Says
 pub mod Walking
@@ -10,4 +10,4 @@ pub mod Finding
 pub mod Closing
 pub mod Noting
 pub mod EachLoad
-pub mod Held
+pub mod Matched

@@ -22,7 +22,7 @@ use Rattle.model.proofs.Closure.{→observes}
 use Rattle.model.proofs.ChainOrder.{same-chain}
 use Rattle.marks.specs.Marks.{Marks, marksOf, cutCell, lowCell, lastCell, sourceCell, countIn}
 use Rattle.marks.specs.Judged.{repeated, noted}
-use Rattle.marks.specs.Good.{Says, Noted, Loads}
+use Rattle.marks.specs.Matching.{Says, Noted, Loads}
 use Rattle.marks.proofs.Counts.{noted-leaves, noted-last, noted-source}
 use Rattle.marks.proofs.Stepping.{chain, chained, alsoMarks, alsoSees}
 
@@ -51,8 +51,8 @@ module _ (ev : ℕ → Event) where
     flags = says .flags;
     cuts = λ j t from-1 to-7 there. leaves (cutCell j t) (omega arith) ∙ says .cuts j t from-1 to-7 there;
     lows = λ j t from-1 to-7 there some.
-        let kept = leaves (lowCell j t) (omega arith) in
-        rw kept (says .lows j t from-1 to-7 there (rw kept at some));
+        let same = leaves (lowCell j t) (omega arith) in
+        rw same (says .lows j t from-1 to-7 there (rw same at some));
     lowest = λ j t from-1 to-7 there p in-f in-j by-t.
         rw (leaves (lowCell j t) (omega arith)) (says .lowest j t from-1 to-7 there p in-f in-j by-t);
   }

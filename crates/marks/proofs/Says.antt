@@ -33,7 +33,7 @@ use Rattle.area.proofs.Joins.{joined-size, joined-leaves, joined-there}
 use Rattle.marks.specs.Marks.{Marks, marksOf, cutCell, lowCell, flagCell, countIn, flagIn}
 use Rattle.marks.specs.Marking.{forbid, observe, lower, ownIn, marked, seenFrom}
 use Rattle.marks.specs.Testing.{inCut, markHits}
-use Rattle.marks.specs.Good.{PlaceOf, AtMost, Says}
+use Rattle.marks.specs.Matching.{PlaceOf, AtMost, Says}
 
 -- ---- flags
 
@@ -136,8 +136,8 @@ module _ (ev : ℕ → Event) where
               let bounds = of-old (it .some) in
               record { some = bounds .0; at-most = omega (arith, it .at-most, bounds .1) }
 
-      low-kept : (stretch ev q ≡ j → thread ev q ≡ t → ⊥) → Low with-q j t old
-      low-kept elsewhere = record {
+      low-elsewhere : (stretch ev q ≡ j → thread ev q ≡ t → ⊥) → Low with-q j t old
+      low-elsewhere elsewhere = record {
         of-store = old-place;
         not-above = all-above old (λ in-j by-t. absurd (elsewhere in-j by-t)) (λ some. (some, omega arith));
       }
@@ -239,7 +239,7 @@ module _ (ev : ℕ → Event) where
           (low-lowered F q j t _ old (omega arith) (omega arith))
       low-after j t from-1 to-7 there (inr differs) =
           rw (getD-set-other (m .counts) at-low (lowCell j t) _ 0 differs)
-          (low-kept F q j t _ (low-of says j t from-1 to-7 there)
+          (low-elsewhere F q j t _ (low-of says j t from-1 to-7 there)
           (λ in-j by-t. differs (sym (ap₂ lowCell in-j by-t))))
 
       pub mark-says : Says ev (λ p. eqb q p || F p) O C (marked l m q)

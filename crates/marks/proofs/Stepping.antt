@@ -31,7 +31,7 @@ use Rattle.area.specs.Rows.{Linked, Rows}
 use Rattle.marks.specs.Marks.{Marks}
 use Rattle.marks.specs.Marking.{walked, seenFrom, loaded}
 use Rattle.marks.specs.Testing.{walkHits}
-use Rattle.marks.specs.Good.{Says, Judging}
+use Rattle.marks.specs.Matching.{Says, Judging}
 use Rattle.marks.proofs.Says.{Fit, fits, says-same, see-says}
 use Rattle.marks.proofs.Walking.{AllFit, regroup, Walked, walk-along}
 

@@ -20,8 +20,8 @@ use Rattle.area.specs.Rows.{Linked, Rows}
 use Rattle.marks.specs.Marks.{Marks}
 use Rattle.marks.specs.Marking.{marked, walked}
 use Rattle.marks.specs.Testing.{markHits, walkHits}
-use Rattle.marks.specs.Good.{Says}
-use Rattle.marks.proofs.Turns.{walk-end, walk-stop, walk-more}
+use Rattle.marks.specs.Matching.{Says}
+use Rattle.marks.proofs.Loops.{walk-end, walk-stop, walk-more}
 use Rattle.marks.proofs.Says.{Fit, says-same, mark-says, mark-hits}
 
 -- each store of the list has its row and numbers

@@ -11,5 +11,5 @@ copied zero counts out = out
 copied (suc n) counts out = set (copied n counts out) n (countIn counts (8 + n))
 
 -- all 56 of them, summed
-abbrev pub keptIn : List ℕ → ℕ
-keptIn counts = total 56 counts 8
+abbrev pub storesIn : List ℕ → ℕ
+storesIn counts = total 56 counts 8

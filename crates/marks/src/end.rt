@@ -3,7 +3,7 @@ ghost use mathlib.Core.Path.{_≡_};
 ghost use Prim.Native.Nat.{_*_, _≤_, min};
 ghost use lib.ListN.{length};
 ghost use Rattle.model.specs.Answers.{percent};
-ghost use Rattle.marks.specs.Ending.{copied, keptIn};
+ghost use Rattle.marks.specs.Ending.{copied, storesIn};
 use crate::cells::Marks;
 
 // The least choice's 56 counts into the cut buffer.
@@ -19,8 +19,8 @@ pub fn copy_cut(marks: &Marks, out: &mut [u16])
 }
 
 // The stores that are in the least choice.
-pub fn kept(marks: &Marks) -> u32
-    ensures { λ r. ⌜ (r ≡ keptIn (now (marks .entry))) × (r ≤ 65535 * 56) ⌝ }
+pub fn stores_in(marks: &Marks) -> u32
+    ensures { λ r. ⌜ (r ≡ storesIn (now (marks .entry))) × (r ≤ 65535 * 56) ⌝ }
 {
     area::total(marks, 8)
 }
@@ -31,14 +31,14 @@ fn narrow(x: u32) -> u16
     if x < 65535 { x as u16 } else { 65535 }
 }
 
-// The percentage of `total` that `kept` is, rounded down; 100 of none.
-pub fn percentage(kept: u32, total: u32) -> u16
-    requires { ⌜ kept ≤ 65535 * 56 ⌝ }
-    ensures { λ r. ⌜ r ≡ min (percent kept total) 65535 ⌝ }
+// The percentage of `total` that `part` is, rounded down; 100 of none.
+pub fn percentage(part: u32, total: u32) -> u16
+    requires { ⌜ part ≤ 65535 * 56 ⌝ }
+    ensures { λ r. ⌜ r ≡ min (percent part total) 65535 ⌝ }
 {
     if total == 0 {
         100
     } else {
-        narrow(100 * kept / total)
+        narrow(100 * part / total)
     }
 }

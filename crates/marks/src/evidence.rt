@@ -7,6 +7,8 @@ use crate::cells;
 use crate::cells::Flags;
 use crate::cells::Marks;
 
+// Store p is the missing one of a pair: it is forbidden, and in the cut. Its row has its place plus one in the column of
+// its own thread.
 fn missing_in(marks: &Marks, flags: &Flags, rows: &[u16], p: u16) -> bool
     ensures { λ r. ⌜ (r
         ≡ missingIn (now (rows .entry)) (marksOf (now (marks .entry)) (now (flags .entry))) p) ⌝ }
@@ -36,6 +38,7 @@ pub fn missing(marks: &Marks, flags: &Flags, rows: &[u16], n: u16) -> u16
     p
 }
 
+// Store q is the observed one of a pair with m: it is observed, of m's stretch, and its clock covers m.
 fn observed_in(flags: &Flags, rows: &[u16], m: u16, q: u16) -> bool
     ensures { λ r. ⌜ r ≡ observedIn (now (rows .entry)) (now (flags .entry)) m q ⌝ }
 {

@@ -1,6 +1,6 @@
 // What the judge calls for each counted load. One that repeats the last counted load of its location, with no commit
 // there since and with its source, changes nothing, so it does not walk its location's chain again. The first that
-// breaks the trace is kept; none after it is judged, so the marks stay as it left them.
+// breaks the trace is recorded; none after it is judged, so the marks stay as it left them.
 ghost use mathlib.Core.Path.{_≡_};
 ghost use Prim.Native.Nat.{_≤_};
 ghost use lib.ListN.{length};
@@ -25,7 +25,7 @@ fn repeats(marks: &Marks, h: u16, x: u16, s: u16) -> bool
     }
 }
 
-// That load is the last counted one there; and if it breaks the trace, as load e, it is kept.
+// That load is the last counted one there; and if it breaks the trace, as load e, it is recorded.
 fn note(marks: &mut Marks, h: u16, x: u16, s: u16, e: u16, breaks: bool)
     ensures { λ _. ⌜ now (marks .exit) ≡ noted (now (marks .entry)) h x s e breaks ⌝ }
 {

@@ -14,26 +14,26 @@ use Rattle.model.specs.Search.{last}
 use Rattle.model.specs.Trace.{thread, location, source, is, issue?, commit?, load?, crash?, begin?, mfence?}
 use Rattle.model.specs.Trace.{skipOn?, skipOff?, Issue, Commit, Load, hasThread?, hasLocation?}
 use Rattle.model.specs.Trace.{threads, locations, stretch, commits, place}
-use Rattle.model.specs.Machine.{beside, committedBy, queued, oldest, committed, waits, waiting, commitsHere}
+use Rattle.model.specs.Machine.{beside, commitsBefore, queued, oldest, committed, waits, waiting, commitsHere}
 use Rattle.model.specs.Machine.{current, past, sourceFits, crossing, skipping, counted}
-use Rattle.model.specs.Rules.{Rules, pass, _gives_else_, answer, beginFits, rules, Accepted}
+use Rattle.model.specs.Rules.{Rules, pass, _refuses_else_, answer, beginFits, rules, Accepted}
 use Rattle.model.proofs.Searching.{same?, parts, or-cases, or-fails, not-without, last-is}
 use Rattle.model.proofs.Roles.{begin-no-issue}
 
 -- ---- the list of refusals, read backwards
 
--- every test that gives a number other than 0 failed
+-- every test that refuses by a number other than 0 failed
 abbrev Passes : Rules → Type 0
 Passes pass = Unit
-Passes (b gives zero else r) = Unit
-Passes (b gives suc k else r) = (b ≡ false) × Passes r
+Passes (b refuses zero else r) = Unit
+Passes (b refuses suc k else r) = (b ≡ false) × Passes r
 
 passes : (r : Rules) → answer r ≡ 0 → Passes r
 unfolding answer
 passes pass none = tt
-passes (b gives zero else r) none = tt
-passes (true gives suc k else r) none = absurd (omega arith)
-passes (false gives suc k else r) none = (refl, passes r none)
+passes (b refuses zero else r) none = tt
+passes (true refuses suc k else r) none = absurd (omega arith)
+passes (false refuses suc k else r) none = (refl, passes r none)
 
 module _ (ev : ℕ → Event) where
   -- ---- what an event of an accepted trace has passed
@@ -146,14 +146,14 @@ module _ (ev : ℕ → Event) where
     pub earlier : s < commit
     pub in-stretch : stretch ev commit ≡ stretch ev l
     pub of-thread : Beside commit s
-    pub at-place : place ev s ≡ committedBy ev commit
+    pub at-place : place ev s ≡ commitsBefore ev commit
 
   -- "a store to that location committed in an earlier stretch"
   pub record FromPast (l s : ℕ) : Type 0 where
     pub store : Issue ev s
     pub to-it : location ev s ≡ location ev l
     pub earlier : stretch ev s < stretch ev l
-    pub kept : place ev s < commits ev l (stretch ev s) (thread ev s)
+    pub committed : place ev s < commits ev l (stretch ev s) (thread ev s)
 
   pub data From (l s : ℕ) : Type 0 where
     from-own : FromOwn l s → From l s
@@ -199,7 +199,7 @@ module _ (ev : ℕ → Event) where
         store = record { test = inner .0 };
         to-it = eqb-true _ _ (inner .1);
         earlier = ltb-true _ _ (middle .1);
-        kept = ltb-true _ _ (outer .1);
+        committed = ltb-true _ _ (outer .1);
       }
 
   -- the load rule's first case, its second, and its third

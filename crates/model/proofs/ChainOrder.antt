@@ -251,7 +251,7 @@ module _ (ev : ℕ → Event) where
       source-commit : source ev n ≢ 0 → SourceCommit
       source-commit some =
           let from = counted-source ev N accepted n inside counts some in
-          let commit = commit-of ev n (source ev n) (from .kept) in
+          let commit = commit-of ev n (source ev n) (from .committed) in
           record {
             d = commitOf ev n (source ev n);
             commit = commit;

@@ -62,14 +62,14 @@ module _ (ev : ℕ → Event) where
 
   -- ---- an observed store is committed in a finished stretch
 
-  pub record Kept (N s : ℕ) : Type 0 where
+  pub record CommittedEarlier (N s : ℕ) : Type 0 where
     pub store : Issue ev s
     pub early : s < N
     pub in-finished : stretch ev s < stretch ev N
     pub committed : Committed ev N s
 
-  pub observed-is-kept : (N : ℕ) → Accepted ev N → (s : ℕ) → Observed ev N s → Kept N s
-  observed-is-kept N accepted s (l, counts, it) =
+  pub observed-is-committed : (N : ℕ) → Accepted ev N → (s : ℕ) → Observed ev N s → CommittedEarlier N s
+  observed-is-committed N accepted s (l, counts, it) =
       let inside : l < N = counted-early ev N l counts in
       let heeds = counted-load ev N l counts in
       let from : FromPast ev l s =
@@ -81,7 +81,7 @@ module _ (ev : ℕ → Event) where
         store = from .store;
         early = omega (arith, earlier-stretch ev s l (from .earlier));
         in-finished = omega (arith, from .earlier, stretch-mono ev l N (omega arith));
-        committed = omega (arith, from .kept);
+        committed = omega (arith, from .committed);
       }
 
   -- ---- a pair leaves no choice
@@ -141,27 +141,27 @@ module _ (ev : ℕ → Event) where
     pub clock-in-closure : (q t i : ℕ) → Observed ev N q → i < vc ev q t → i < closure ev N (stretch ev q) t
     unfolding closure
     clock-in-closure q t i observed in-clock =
-        →most N (asks ev N (stretch ev q) t) i q (observed-is-kept N accepted q observed .early)
+        →most N (asks ev N (stretch ev q) t) i q (observed-is-committed N accepted q observed .early)
         (rw (both _ _ (→observed N q observed) (eqb-same (stretch ev q))) in-clock)
 
     pub reached-is-in : (p : ℕ) → Issue ev p → Reached p → In ev (closure ev N) p
     reached-is-in p store reached =
         let q = reached .q in
-        let kept = observed-is-kept N accepted q (reached .observed) in
+        let settled = observed-is-committed N accepted q (reached .observed) in
         let in-stretch : stretch ev p ≡ stretch ev q = same-stretch p q (reached .order) in
         let in-clock : place ev p < vc ev q (thread ev p) =
-        clock-is-happens-before ev q p (kept .store) store in-stretch .1 (reached .order)
+        clock-is-happens-before ev q p (settled .store) store in-stretch .1 (reached .order)
         in
         rw in-stretch (clock-in-closure q (thread ev p) _ (reached .observed) (rw (← in-stretch) in-clock))
 
     pub in-is-reached : (p : ℕ) → Issue ev p → In ev (closure ev N) p → Reached p
     in-is-reached p store inside =
         let it = in-some-clock (stretch ev p) (thread ev p) (place ev p) inside in
-        let kept = observed-is-kept N accepted (it .q) (it .observed) in
+        let settled = observed-is-committed N accepted (it .q) (it .observed) in
         record {
           q = it .q;
           observed = it .observed;
-          order = clock-is-happens-before ev (it .q) p (kept .store) store (sym (it .in-j)) .0 (it .in-clock);
+          order = clock-is-happens-before ev (it .q) p (settled .store) store (sym (it .in-j)) .0 (it .in-clock);
         }
 
     -- the closure is below each choice that takes in what it reaches
@@ -176,12 +176,12 @@ module _ (ev : ℕ → Event) where
             it : InClock j t (c j t)
             it = in-some-clock j t (c j t) above
 
-            kept : Kept N (it .q)
-            kept = observed-is-kept N accepted (it .q) (it .observed)
+            settled : CommittedEarlier N (it .q)
+            settled = observed-is-committed N accepted (it .q) (it .observed)
 
             -- the first store of t in j that c leaves out
             edge : ClockPlace ev (it .q) t (c j t)
-            edge = clock-place ev (it .q) t (c j t) (kept .store) (it .in-clock)
+            edge = clock-place ev (it .q) t (c j t) (settled .store) (it .in-clock)
 
             in-j : stretch ev (edge .p) ≡ j
             in-j = edge .in-stretch ∙ it .in-j
@@ -198,23 +198,23 @@ module _ (ev : ℕ → Event) where
     unfolding finished
     finished-is j t done = rw (lt-ltb j (stretch ev N) done)
 
-    kept-in-finished : (p q : ℕ) → Kept N q → AtOrBefore ev p q → In ev (finished ev N) p
-    kept-in-finished p q kept order = rw (finished-is (stretch ev p) (thread ev p) done) (p-committed order)
+    committed-in-finished : (p q : ℕ) → CommittedEarlier N q → AtOrBefore ev p q → In ev (finished ev N) p
+    committed-in-finished p q settled order = rw (finished-is (stretch ev p) (thread ev p) done) (p-committed order)
       where
         done : stretch ev p < stretch ev N
-        done = rw (same-stretch p q order) (kept .in-finished)
+        done = rw (same-stretch p q order) (settled .in-finished)
 
         p-committed : AtOrBefore ev p q → Committed ev N p
-        p-committed (inl same) = rw same (kept .committed)
-        p-committed (inr before) = before-committed ev N accepted p q before (kept .committed) .committed
+        p-committed (inl same) = rw same (settled .committed)
+        p-committed (inr before) = before-committed ev N accepted p q before (settled .committed) .committed
 
     pub closure-fits : (j t : ℕ) → closure ev N j t ≤ finished ev N j t
     closure-fits = closure-below (finished ev N) reached-is-finished
       where
         reached-is-finished : (p : ℕ) → Issue ev p → Reached p → In ev (finished ev N) p
         reached-is-finished p store reached =
-            let kept = observed-is-kept N accepted (reached .q) (reached .observed) in
-            kept-in-finished p (reached .q) kept (reached .order)
+            let settled = observed-is-committed N accepted (reached .q) (reached .observed) in
+            committed-in-finished p (reached .q) settled (reached .order)
 
     closure-closed : Closed ev (closure ev N)
     closure-closed p q before inside =
@@ -242,7 +242,7 @@ module _ (ev : ℕ → Event) where
       where
         observed-in : (s : ℕ) → Observed ev N s → In ev (closure ev N) s
         observed-in s observed =
-            reached-is-in s (observed-is-kept N accepted s observed .store)
+            reached-is-in s (observed-is-committed N accepted s observed .store)
             (record { q = s; observed = observed; order = inl refl })
 
         forbidden-out : (p : ℕ) → Forbidden ev N p → In ev (closure ev N) p → ⊥

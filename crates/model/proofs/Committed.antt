@@ -14,7 +14,7 @@ use borrow.Author.Tests.{eqb-true, eqb-false, eq-eqb, not-true}
 use Rattle.record.specs.declared.events.Event.{Event}
 use Rattle.model.specs.Trace.{thread, source, issue?, commit?, Issue, Commit}
 use Rattle.model.specs.Trace.{stretch, count, issues, commits, place}
-use Rattle.model.specs.Machine.{committedBy, commitsIt, commitOf}
+use Rattle.model.specs.Machine.{commitsBefore, commitsIt, commitOf}
 use Rattle.model.specs.HappensBefore.{Precedes, own, read, chain, Before}
 use Rattle.model.specs.Rules.{Accepted}
 use Rattle.model.proofs.Searching.{test, less?, both, parts, last-of}
@@ -37,7 +37,7 @@ module _ (ev : ℕ → Event) where
       pub commits-it : Commit ev e
       pub in-stretch : stretch ev e ≡ stretch ev p
       pub by-thread : thread ev e ≡ thread ev p
-      pub at-place : committedBy ev e ≡ place ev p
+      pub at-place : commitsBefore ev e ≡ place ev p
 
     commit-of→ : (p e : ℕ) → e < N → commitsIt ev p e ≡ true → CommitOf p e
     commit-of→ p e inside passes =
@@ -90,7 +90,7 @@ module _ (ev : ℕ → Event) where
 
     pub has-commit : (p e : ℕ) → CommitOf p e → Committed p
     has-commit p e it =
-        let passed : committedBy ev e < commits ev N (stretch ev p) (thread ev p) =
+        let passed : commitsBefore ev e < commits ev N (stretch ev p) (thread ev p) =
         rw (← it .in-stretch, ← it .by-thread) (count-lt ev (commit? ev) e N (it .commits-it .test) (it .inside))
         in
         omega (arith, it .at-place)
@@ -104,7 +104,7 @@ module _ (ev : ℕ → Event) where
     -- ---- in an accepted trace, commits never pass issues
 
     -- at a commit, not all stores of the thread are committed
-    pub store-waits : (n : ℕ) → n < N → Commit ev n → issues ev n (stretch ev n) (thread ev n) ≢ committedBy ev n
+    pub store-waits : (n : ℕ) → n < N → Commit ev n → issues ev n (stretch ev n) (thread ev n) ≢ commitsBefore ev n
     store-waits n inside commits = eqb-false _ _ (not-true _ (commit-queued ev N accepted n inside commits))
 
     pub commits-below-issues : (n j t : ℕ) → n ≤ N → commits ev n j t ≤ issues ev n j t
@@ -143,10 +143,10 @@ module _ (ev : ℕ → Event) where
         by-order (inl after) = after
         by-order (inr not-after) = absurd (omega (arith, it .at-place, waits, below, all-before))
           where
-            waits : issues ev e (stretch ev e) (thread ev e) ≢ committedBy ev e
+            waits : issues ev e (stretch ev e) (thread ev e) ≢ commitsBefore ev e
             waits = store-waits e (it .inside) (it .commits-it)
 
-            below : committedBy ev e ≤ issues ev e (stretch ev e) (thread ev e)
+            below : commitsBefore ev e ≤ issues ev e (stretch ev e) (thread ev e)
             below = commits-below-issues e (stretch ev e) (thread ev e) (omega (arith, it .inside))
 
             all-before : issues ev e (stretch ev e) (thread ev e) ≤ place ev p

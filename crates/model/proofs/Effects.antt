@@ -8,7 +8,7 @@ use lib.Dec.{eqb}
 use borrow.Author.Tests.{eqb-true, eq-eqb}
 use Rattle.record.specs.declared.events.Event.{Event}
 use Rattle.model.specs.Trace.{thread, issue?, Issue, Commit, stretch, issues, place}
-use Rattle.model.specs.Machine.{beside, committedBy, oldest, committed}
+use Rattle.model.specs.Machine.{beside, commitsBefore, oldest, committed}
 use Rattle.model.specs.Rules.{Accepted}
 use Rattle.model.proofs.Searching.{both, parts, last-of}
 use Rattle.model.proofs.Counting.{AtPlace, at-place, place-unique}
@@ -20,7 +20,7 @@ module _ (ev : ℕ → Event) where
   pub record Effect (d p : ℕ) : Type 0 where
     pub own : Beside ev d p
     pub early : p < d
-    pub at-place : place ev p ≡ committedBy ev d
+    pub at-place : place ev p ≡ commitsBefore ev d
 
   pub effect-is : (d p : ℕ) → Effect d p → committed ev d ≡ p
   unfolding committed
@@ -47,13 +47,13 @@ module _ (ev : ℕ → Event) where
   pub effect : (N d : ℕ) → Accepted ev N → d < N → Commit ev d → Effect d (committed ev d)
   effect N d accepted inside commits = rw (effect-is d (found .p) it) it
     where
-      some-waits : committedBy ev d < issues ev d (stretch ev d) (thread ev d)
+      some-waits : commitsBefore ev d < issues ev d (stretch ev d) (thread ev d)
       some-waits =
           let differs = store-waits ev N accepted d inside commits in
           omega (arith, commits-below-issues ev N accepted d (stretch ev d) (thread ev d) (omega arith))
 
-      found : AtPlace ev (issue? ev) d (stretch ev d) (thread ev d) (committedBy ev d)
-      found = at-place ev (issue? ev) d (stretch ev d) (thread ev d) (committedBy ev d) some-waits
+      found : AtPlace ev (issue? ev) d (stretch ev d) (thread ev d) (commitsBefore ev d)
+      found = at-place ev (issue? ev) d (stretch ev d) (thread ev d) (commitsBefore ev d) some-waits
 
       it : Effect d (found .p)
       it = record {

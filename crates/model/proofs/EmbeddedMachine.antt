@@ -11,7 +11,7 @@ use lib.Dec.{eqb, leb}
 use Rattle.record.specs.declared.events.Event.{Event}
 use Rattle.model.specs.Search.{any, member, last}
 use Rattle.model.specs.Trace.{thread, location, source, issue?, commit?, load?, stretch, commits, place}
-use Rattle.model.specs.Machine.{committedBy, committed, commitOf, waiting, commitsHere, current, past, sourceFits}
+use Rattle.model.specs.Machine.{commitsBefore, committed, commitOf, waiting, commitsHere, current, past, sourceFits}
 use Rattle.model.specs.Machine.{skipping, counted, counting, counts}
 use Rattle.model.specs.Choice.{Counted}
 use Rattle.model.specs.Embedding.{Naming, Embedding, Apart}
@@ -21,7 +21,7 @@ use Rattle.model.proofs.CountedLoads.{as-of-itself}
 use Rattle.model.proofs.Numberings.{into-eqb, not-own, number-zero, kept-lt, number-below, number-eqb}
 use Rattle.model.proofs.Numberings.{number-eqb-zero, Carried, last-kept}
 use Rattle.model.proofs.EmbeddedTrace.{by-role, stretch-store, stretch-load, stretch-commit, search-kept}
-use Rattle.model.proofs.EmbeddedTrace.{commits-kept, place-at, committedBy-commit, committedBy-load}
+use Rattle.model.proofs.EmbeddedTrace.{commits-kept, place-at, commits-before-commit, commits-before-load}
 use Rattle.model.proofs.EmbeddedTrace.{skipping-kept}
 
 module _
@@ -35,9 +35,9 @@ module _
   committed-at e commits =
       let here = via .commits .number e in
       search-kept via (via .issuing) (via .committing .thread-same e commits) (via .committing .thread-own e commits)
-      (stretch-store via) (stretch-commit via e) (λ b p. b && eqb (place whole p) (committedBy whole here))
-      (λ b p. b && eqb (place part p) (committedBy part e)) (λ p. refl) (λ p. refl)
-      (λ b p store. rw (place-at via p store, committedBy-commit via e commits)) here e (via .stores-at-commit e)
+      (stretch-store via) (stretch-commit via e) (λ b p. b && eqb (place whole p) (commitsBefore whole here))
+      (λ b p. b && eqb (place part p) (commitsBefore part e)) (λ p. refl) (λ p. refl)
+      (λ b p store. rw (place-at via p store, commits-before-commit via e commits)) here e (via .stores-at-commit e)
 
   -- the commit of a store, among those before a load
   pub commitOf-at :
@@ -47,9 +47,9 @@ module _
   commitOf-at l p store =
       search-kept via (via .committing) (via .issuing .thread-same p store) (via .issuing .thread-own p store)
       (stretch-commit via) (stretch-store via p)
-      (λ b c. b && eqb (committedBy whole c) (place whole (via .stores .number p)))
-      (λ b c. b && eqb (committedBy part c) (place part p)) (λ c. refl) (λ c. refl)
-      (λ b c commits. rw (place-at via p store, committedBy-commit via c commits)) (via .loads .number l) l
+      (λ b c. b && eqb (commitsBefore whole c) (place whole (via .stores .number p)))
+      (λ b c. b && eqb (commitsBefore part c) (place part p)) (λ c. refl) (λ c. refl)
+      (λ b c commits. rw (place-at via p store, commits-before-commit via c commits)) (via .loads .number l) l
       (via .commits-at-load l)
 
   waiting-at :
@@ -58,8 +58,8 @@ module _
   waiting-at l loads =
       search-kept via (via .issuing) (via .loading .thread-same l loads) (via .loading .thread-own l loads)
       (stretch-store via) (stretch-load via l)
-      (λ b p. b && eqb (location whole p) (location whole here) && leb (committedBy whole here) (place whole p))
-      (λ b p. b && eqb (location part p) (location part l) && leb (committedBy part l) (place part p))
+      (λ b p. b && eqb (location whole p) (location whole here) && leb (commitsBefore whole here) (place whole p))
+      (λ b p. b && eqb (location part p) (location part l) && leb (commitsBefore part l) (place part p))
       (λ p. refl) (λ p. refl) more-same here l (via .stores-at-load l)
     where
       here : ℕ
@@ -68,12 +68,12 @@ module _
       more-same :
           (b : Bool) (p : ℕ) → issue? part p ≡ true
           → (b && eqb (location whole (via .stores .number p)) (location whole here)
-          && leb (committedBy whole here) (place whole (via .stores .number p)))
-          ≡ (b && eqb (location part p) (location part l) && leb (committedBy part l) (place part p))
+          && leb (commitsBefore whole here) (place whole (via .stores .number p)))
+          ≡ (b && eqb (location part p) (location part l) && leb (commitsBefore part l) (place part p))
       more-same b p store =
           rw (
             place-at via p store,
-            committedBy-load via l loads,
+            commits-before-load via l loads,
             via .store-location p store,
             via .load-location l loads,
             into-eqb locationsBy (location part p) (location part l),

@@ -16,7 +16,7 @@ use Rattle.model.specs.Embedding.{Naming, Embedding, Apart, SameEvent, S
 use Rattle.model.proofs.Acceptance.{event-bound}
 use Rattle.model.proofs.Ranges.{commit-has-thread, mfence-has-thread, skip-on-has-thread, skip-off-has-thread}
 use Rattle.model.proofs.Numberings.{number-zero, kept-lt, kept-le, number-below, number-eqb-zero, number-ltb}
-use Rattle.model.proofs.EmbeddedTrace.{by-role, stretch-kept, issues-at, committedBy-at, skipping-kept}
+use Rattle.model.proofs.EmbeddedTrace.{by-role, stretch-kept, issues-at, commits-before-at, skipping-kept}
 use Rattle.model.proofs.EmbeddedMachine.{sourceFits-at}
 
 module _
@@ -62,7 +62,7 @@ module _
     queued-same has =
         rw (
           issues-at via n e (same .thread-same has) (same .thread-own has) stretch-same at-store,
-          committedBy-at via n e (same .thread-same has) (same .thread-own has) stretch-same at-commit,
+          commits-before-at via n e (same .thread-same has) (same .thread-own has) stretch-same at-commit,
         )
 
     commit-rule : (commit? whole n && not (queued whole n)) ≡ (commit? part e && not (queued part e))

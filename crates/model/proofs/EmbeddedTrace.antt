@@ -12,7 +12,7 @@ use lib.Dec.{eqb}
 use Rattle.record.specs.declared.events.Event.{Event}
 use Rattle.model.specs.Search.{bit, last}
 use Rattle.model.specs.Trace.{thread, issue?, commit?, load?, crash?, stretch, count, issues, commits, place}
-use Rattle.model.specs.Machine.{committedBy, switched, skipping}
+use Rattle.model.specs.Machine.{commitsBefore, switched, skipping}
 use Rattle.model.specs.Embedding.{Numbering, Naming, Role, Near, Embedding}
 use Rattle.model.proofs.Searching.{third-fails, test}
 use Rattle.model.proofs.Counting.{stretch-else}
@@ -146,24 +146,24 @@ module _
         → issues whole n (stretch whole n) (thread whole n) ≡ issues part e (stretch part e) (thread part e)
     issues-at at-e = count-kept (via .issuing) same-thread own stretch-store same-stretch n ∙ rw at-e
 
-    pub committedBy-at : via .commits .kept n ≡ e → committedBy whole n ≡ committedBy part e
-    committedBy-at at-e = count-kept (via .committing) same-thread own stretch-commit same-stretch n ∙ rw at-e
+    pub commits-before-at : via .commits .kept n ≡ e → commitsBefore whole n ≡ commitsBefore part e
+    commits-before-at at-e = count-kept (via .committing) same-thread own stretch-commit same-stretch n ∙ rw at-e
 
   pub place-at : (p : ℕ) → issue? part p ≡ true → place whole (via .stores .number p) ≡ place part p
   place-at p store =
       issues-at (via .stores .number p) p (via .issuing .thread-same p store) (via .issuing .thread-own p store)
       (stretch-store p) (via .stores .kept-number p)
 
-  pub committedBy-commit :
-      (e : ℕ) → commit? part e ≡ true → committedBy whole (via .commits .number e) ≡ committedBy part e
-  committedBy-commit e commits =
-      committedBy-at (via .commits .number e) e (via .committing .thread-same e commits)
+  pub commits-before-commit :
+      (e : ℕ) → commit? part e ≡ true → commitsBefore whole (via .commits .number e) ≡ commitsBefore part e
+  commits-before-commit e commits =
+      commits-before-at (via .commits .number e) e (via .committing .thread-same e commits)
       (via .committing .thread-own e commits) (stretch-commit e) (via .commits .kept-number e)
 
-  pub committedBy-load :
-      (l : ℕ) → load? part l ≡ true → committedBy whole (via .loads .number l) ≡ committedBy part l
-  committedBy-load l loads =
-      committedBy-at (via .loads .number l) l (via .loading .thread-same l loads) (via .loading .thread-own l loads)
+  pub commits-before-load :
+      (l : ℕ) → load? part l ≡ true → commitsBefore whole (via .loads .number l) ≡ commitsBefore part l
+  commits-before-load l loads =
+      commits-before-at (via .loads .number l) l (via .loading .thread-same l loads) (via .loading .thread-own l loads)
       (stretch-load l) (via .commits-at-load l)
 
   -- ---- switches

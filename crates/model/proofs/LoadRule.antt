@@ -13,7 +13,7 @@ use borrow.Author.Tests.{eqb-true, eq-eqb, le-leb, leb-true}
 use Rattle.record.specs.declared.events.Event.{Event}
 use Rattle.model.specs.Search.{last}
 use Rattle.model.specs.Trace.{thread, location, issue?, commit?, Issue, Commit, stretch, place}
-use Rattle.model.specs.Machine.{beside, committedBy, committed, waits, waiting, commitsHere, current}
+use Rattle.model.specs.Machine.{beside, commitsBefore, committed, waits, waiting, commitsHere, current}
 use Rattle.model.specs.Rules.{Accepted}
 use Rattle.model.specs.Stores.{headOf, madeAt, newestAt, landsAt, landed}
 use Rattle.model.proofs.Searching.{test, both, parts, last-is, last-of, last-none}
@@ -56,7 +56,7 @@ module _ (ev : ℕ → Event) where
   pub record Waits (n p : ℕ) : Type 0 where
     pub made : Made n (location ev n) (thread ev n) p
     pub in-stretch : stretch ev p ≡ stretch ev n
-    pub not-yet : committedBy ev n ≤ place ev p
+    pub not-yet : commitsBefore ev n ≤ place ev p
 
   waits→ : (n p : ℕ) → p < n → waits ev n p ≡ true → Waits n p
   waits→ n p early passes =
@@ -185,7 +185,7 @@ module _ (ev : ℕ → Event) where
       pub commit : ℕ
       pub lands : Lands n x commit
       pub is-last : lastCommit n x ≡ commit
-      pub store : Store ev commit (stretch ev commit) (thread ev commit) (committedBy ev commit) p
+      pub store : Store ev commit (stretch ev commit) (thread ev commit) (commitsBefore ev commit) p
 
     pub head-store : (x p : ℕ) → headOf (landed ev n x) ≡ p → p ≢ 0 → Head x p
     head-store x p is-head some =
@@ -239,7 +239,7 @@ module _ (ev : ℕ → Event) where
             below : c ≤ lastCommit n x
             below = lands-most n x c (here .lands)
 
-            is-store : Store ev c (stretch ev c) (thread ev c) (committedBy ev c) (committed ev c)
+            is-store : Store ev c (stretch ev c) (thread ev c) (commitsBefore ev c) (committed ev c)
             is-store =
                 committed-store ev N c accepted (omega (arith, here .lands .early)) (here .lands .commits)
 
@@ -252,7 +252,7 @@ module _ (ev : ℕ → Event) where
             c-last : ℕ
             c-last = lastCommit n x
 
-            head : Store ev c-last (stretch ev c-last) (thread ev c-last) (committedBy ev c-last) (committed ev c-last)
+            head : Store ev c-last (stretch ev c-last) (thread ev c-last) (commitsBefore ev c-last) (committed ev c-last)
             head =
                 committed-store ev N (lastCommit n x) accepted (omega (arith, lands .early)) (lands .commits)
 

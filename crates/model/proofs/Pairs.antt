@@ -21,7 +21,7 @@ use Rattle.model.proofs.Searching.{both, parts, or-cases, or-left, or-r
 use Rattle.model.proofs.Counting.{earlier-stretch}
 use Rattle.model.proofs.Clocks.{clock-is-happens-before}
 use Rattle.model.proofs.CountedLoads.{counted-early}
-use Rattle.model.proofs.Closure.{same-stretch, observed→, →observed, observed-is-kept}
+use Rattle.model.proofs.Closure.{same-stretch, observed→, →observed, observed-is-committed}
 
 module _ (ev : ℕ → Event) where
   -- ---- forbidden stores, as a test
@@ -103,12 +103,12 @@ module _ (ev : ℕ → Event) where
         let there = parts (forbidden? ev N p) _ (with-stretch .0) in
         let missing : Forbidden ev N p = forbidden→ N p (there .0) in
         let observed : Observed ev N q = observed→ ev N q (there .1) in
-        let kept = observed-is-kept ev N accepted q observed in
+        let settled = observed-is-committed ev N accepted q observed in
         record {
           missing = missing;
           observed = observed;
           order =
-              clock-is-happens-before ev q p (kept .store) (missing .2 .store) (eqb-true _ _ (with-stretch .1))
+              clock-is-happens-before ev q p (settled .store) (missing .2 .store) (eqb-true _ _ (with-stretch .1))
               .0 (ltb-true _ _ (with-clock .1));
         }
 
@@ -124,13 +124,13 @@ module _ (ev : ℕ → Event) where
 
         in-clock : place ev p < vc ev q (thread ev p)
         in-clock =
-            clock-is-happens-before ev q p (observed-is-kept ev N accepted q (pair .observed) .store)
+            clock-is-happens-before ev q p (observed-is-committed ev N accepted q (pair .observed) .store)
             (pair .missing .2 .store) in-stretch .1 (pair .order)
 
     pub →missing : (p q : ℕ) → Pair ev N p q → missing? ev N p ≡ true
     unfolding missing?
     →missing p q pair =
-        →some N (pair? ev N p) q (observed-is-kept ev N accepted q (pair .observed) .early) (→pair p q pair)
+        →some N (pair? ev N p) q (observed-is-committed ev N accepted q (pair .observed) .early) (→pair p q pair)
 
     -- a forbidden store is among the first N events
     forbidden-early : (p : ℕ) → Forbidden ev N p → p < N

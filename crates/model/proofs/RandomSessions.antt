@@ -20,7 +20,7 @@ use Rattle.model.specs.Verdict.{loadOf, missingOf, observedOf, rulingOf}
 use Rattle.model.specs.Answers.{refused, robust, broken, contradiction, flush}
 use Rattle.model.specs.Answers.{tabulate, cutOf, sum, shareOf}
 use Rattle.model.proofs.Encoding.{encode, readingEvents}
-use Rattle.model.proofs.Sessions.{lent, zeros, Judged, judged, judgedEvents, judged-all}
+use Rattle.model.proofs.Sessions.{lent, zeros, Outcome, outcomeOf, outcomeOfEvents, outcome-all}
 
 -- the bytes
 pub sessions : List (List ℕ)
@@ -517,7 +517,7 @@ traces =
     []
 
 -- the answers, and the cut buffers afterwards
-pub answers : List Judged
+pub answers : List Outcome
 answers =
     -- session 1
     (record { answer = broken 15 11 5 7 flush; cut = lent }) ∷
@@ -601,16 +601,16 @@ answers =
     (record { answer = broken 25 12 4 7 flush; cut = lent }) ∷
     []
 
-written : map encode traces ≡ sessions
+encoded : map encode traces ≡ sessions
 unfolding traces sessions encode recordOf rowOf
-written = refl
+encoded = refl
 
-computed : map judgedEvents traces ≡ answers
+computed : map outcomeOfEvents traces ≡ answers
 unfolding traces answers readingEvents some last first firstFrom most stretch count committed commitOf waiting current
     sourceFits switched counted counting any answer rules finished seen clock vc forbids? observes? forbidden?
     observed? pair? missing? bad? closure loadOf missingOf observedOf rulingOf tabulate cutOf sum shareOf rowOf
 computed = refl
 
-pub random-sessions : map judged sessions ≡ answers
+pub random-sessions : map outcomeOf sessions ≡ answers
 unfolding traces
-random-sessions = ap (map judged) (sym written) ∙ (judged-all traces refl ∙ computed)
+random-sessions = ap (map outcomeOf) (sym encoded) ∙ (outcome-all traces refl ∙ computed)

@@ -27,16 +27,16 @@ abbrev pub zeros : ℕ → List ℕ
 zeros n = replicate n 0
 
 -- what judging a trace's bytes answers, with a work area of 32,768 numbers, and the cut buffer afterwards
-pub record Judged : Type 0 where
+pub record Outcome : Type 0 where
   pub answer : Answer
   pub cut : List ℕ
 
-abbrev pub judged : List ℕ → Judged
-judged bytes = record { answer = judgeOf bytes 32768 56; cut = cutAfter bytes 32768 lent }
+abbrev pub outcomeOf : List ℕ → Outcome
+outcomeOf bytes = record { answer = judgeOf bytes 32768 56; cut = cutAfter bytes 32768 lent }
 
 -- the same of a list of events
-abbrev pub judgedEvents : List Event → Judged
-judgedEvents xs =
+abbrev pub outcomeOfEvents : List Event → Outcome
+outcomeOfEvents xs =
     record { answer = answerEvents xs (readingEvents xs); cut = cutEvents xs lent (readingEvents xs) }
 
 -- ---- a list of sessions
@@ -62,18 +62,18 @@ each-two-byte : (xs : List Event) → every twoByte? xs ≡ true → AllTwoByte 
 each-two-byte xs passes =
     record { two-byte = λ e inside. two-byte (traceOf xs e) (every-at twoByte? xs Crash passes refl e) }
 
-judged-encoded : (xs : List Event) → writable xs ≡ true → judged (encode xs) ≡ judgedEvents xs
+outcome-encoded : (xs : List Event) → writable xs ≡ true → outcomeOf (encode xs) ≡ outcomeOfEvents xs
 unfolding judgeOf cutAfter
-judged-encoded xs passes =
+outcome-encoded xs passes =
     let fits = parts (ltb 0 (length xs)) _ passes in
     let small = each-two-byte xs (fits .1) in
     let reading = same-reading xs small (ltb-true _ _ (fits .0)) in
     rw (reading, same-answer xs small, same-cut xs small)
 
 -- what the definitions say of the bytes is what is computed of the events
-pub judged-all :
-    (xss : List (List Event)) → allWritable xss ≡ true → map judged (map encode xss) ≡ map judgedEvents xss
-judged-all [] passes = refl
-judged-all (xs ∷ xss) passes =
+pub outcome-all :
+    (xss : List (List Event)) → allWritable xss ≡ true → map outcomeOf (map encode xss) ≡ map outcomeOfEvents xss
+outcome-all [] passes = refl
+outcome-all (xs ∷ xss) passes =
     let fits = parts (writable xs) _ passes in
-    ap₂ _∷_ (judged-encoded xs (fits .0)) (judged-all xss (fits .1))
+    ap₂ _∷_ (outcome-encoded xs (fits .0)) (outcome-all xss (fits .1))

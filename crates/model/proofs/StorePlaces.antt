@@ -12,7 +12,7 @@ use borrow.Author.Tests.{eqb-true, eq-eqb}
 use Rattle.record.specs.declared.events.Event.{Event}
 use Rattle.model.specs.Search.{bit, last}
 use Rattle.model.specs.Trace.{thread, issue?, Issue, Commit, stretch, count, issues, place}
-use Rattle.model.specs.Machine.{committedBy, committed}
+use Rattle.model.specs.Machine.{commitsBefore, committed}
 use Rattle.model.specs.Rules.{Accepted}
 use Rattle.model.specs.Stores.{atPlace, storeAt}
 use Rattle.model.proofs.Searching.{false-true, test, same?, both, parts, last-of, last-none}
@@ -154,16 +154,16 @@ module _ (ev : ℕ → Event) where
 
   -- ---- the store that a commit makes take effect
 
-  pub committed-at : (c : ℕ) → committed ev c ≡ storeAt ev c (stretch ev c) (thread ev c) (committedBy ev c)
+  pub committed-at : (c : ℕ) → committed ev c ≡ storeAt ev c (stretch ev c) (thread ev c) (commitsBefore ev c)
   unfolding committed storeAt
   committed-at c = refl
 
   pub committed-store :
       (N c : ℕ) → Accepted ev N → c < N → Commit ev c
-      → Store c (stretch ev c) (thread ev c) (committedBy ev c) (committed ev c)
+      → Store c (stretch ev c) (thread ev c) (commitsBefore ev c) (committed ev c)
   committed-store N c accepted inside commits =
       rw (committed-at c)
-      (store-at-is c (stretch ev c) (thread ev c) (committedBy ev c)
+      (store-at-is c (stretch ev c) (thread ev c) (commitsBefore ev c)
       (omega (
         arith,
         store-waits ev N accepted c inside commits,

@@ -19,17 +19,17 @@ module _ (ev : ℕ → Event) where
   beside p n = issue? ev p && eqb (stretch ev p) (stretch ev n) && eqb (thread ev p) (thread ev n)
 
   -- the commits of n's thread in n's stretch, before event n
-  abbrev pub committedBy : ℕ → ℕ
-  committedBy n = commits ev n (stretch ev n) (thread ev n)
+  abbrev pub commitsBefore : ℕ → ℕ
+  commitsBefore n = commits ev n (stretch ev n) (thread ev n)
 
   -- "Issue: the store joins its thread's queue": before event n, n's thread has issued more stores than it has
   -- committed, in n's stretch alone, since a crash "drops waiting stores"
   abbrev pub queued : ℕ → Bool
-  queued n = not (eqb (issues ev n (stretch ev n) (thread ev n)) (committedBy n))
+  queued n = not (eqb (issues ev n (stretch ev n) (thread ev n)) (commitsBefore n))
 
   -- "Commit: the oldest waiting store of the thread takes effect": the store that commit c makes take effect
   abbrev pub oldest : ℕ → ℕ → Bool
-  oldest c p = beside p c && eqb (place ev p) (committedBy c)
+  oldest c p = beside p c && eqb (place ev p) (commitsBefore c)
 
   unfoldable pub committed : ℕ → ℕ
   committed c = last c (oldest c)
@@ -39,7 +39,7 @@ module _ (ev : ℕ → Event) where
   abbrev pub commitsIt : ℕ → ℕ → Bool
   commitsIt p c =
       commit? ev c && eqb (stretch ev c) (stretch ev p) && eqb (thread ev c) (thread ev p)
-      && eqb (committedBy c) (place ev p)
+      && eqb (commitsBefore c) (place ev p)
 
   unfoldable pub commitOf : ℕ → ℕ → ℕ
   commitOf n p = last n (commitsIt p)
@@ -48,7 +48,7 @@ module _ (ev : ℕ → Event) where
 
   -- "if the thread has waiting stores to the location, the source is the newest": that store, and 0 if there is none
   abbrev pub waits : ℕ → ℕ → Bool
-  waits n p = beside p n && eqb (location ev p) (location ev n) && leb (committedBy n) (place ev p)
+  waits n p = beside p n && eqb (location ev p) (location ev n) && leb (commitsBefore n) (place ev p)
 
   unfoldable pub waiting : ℕ → ℕ
   waiting n = last n (waits n)

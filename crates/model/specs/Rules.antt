@@ -11,16 +11,16 @@ use Rattle.model.specs.Trace.{begin?, commit?, load?, mfence?, crash?, s
 use Rattle.model.specs.Trace.{hasThread?, hasLocation?, threads, locations}
 use Rattle.model.specs.Machine.{queued, sourceFits, skipping}
 
--- tests in the order in which they are made, each with the number that it gives
+-- tests in the order in which they are made, each with the number by which it refuses
 pub data Rules : Type 0 where
   pass : Rules
-  _gives_else_ : Bool → ℕ → Rules → Rules
+  _refuses_else_ : Bool → ℕ → Rules → Rules
 
-infixr 1 _gives_else_
+infixr 1 _refuses_else_
 -- the number of the first test that applies, and 0 if none does
 unfoldable pub answer : Rules → ℕ
 answer pass = 0
-answer (b gives k else r) = cond b k (answer r)
+answer (b refuses k else r) = cond b k (answer r)
 
 abbrev pub within : ℕ → ℕ → ℕ → Bool
 within a b x = leb a x && leb x b
@@ -36,25 +36,25 @@ module _ (ev : ℕ → Event) where
   unfoldable pub rules : ℕ → Rules
   rules n =
       -- "no record, or the first is no begin" (no record at all: specs/Reading.antt)
-      (eqb n 0 && not (begin? ev n)) gives 1 else
+      (eqb n 0 && not (begin? ev n)) refuses 1 else
       -- "later begin"
-      (ltb 0 n && begin? ev n) gives 5 else
+      (ltb 0 n && begin? ev n) refuses 5 else
       -- "event 2,049, or eighth crash": events are numbered "1, 2 and so on, at most 2,048"; "At most 7 crashes."
-      (ltb 2048 n || crash? ev n && eqb (stretch ev n) 8) gives 13 else
+      (ltb 2048 n || crash? ev n && eqb (stretch ev n) 8) refuses 13 else
       -- "begin field out of range"
-      (begin? ev n && not (beginFits n)) gives 6 else
+      (begin? ev n && not (beginFits n)) refuses 6 else
       -- "no such thread": threads are "numbered from 0"
-      (hasThread? ev n && leb (threads ev) (thread ev n)) gives 7 else
+      (hasThread? ev n && leb (threads ev) (thread ev n)) refuses 7 else
       -- "no such location": so are locations
-      (hasLocation? ev n && leb (locations ev) (location ev n)) gives 8 else
+      (hasLocation? ev n && leb (locations ev) (location ev n)) refuses 8 else
       -- "source against the load rule"
-      (load? ev n && not (sourceFits ev n)) gives 9 else
+      (load? ev n && not (sourceFits ev n)) refuses 9 else
       -- "commit, empty queue"
-      (commit? ev n && not (queued ev n)) gives 10 else
+      (commit? ev n && not (queued ev n)) refuses 10 else
       -- "mfence, queue not empty": "mfence needs an empty queue."
-      (mfence? ev n && queued ev n) gives 11 else
+      (mfence? ev n && queued ev n) refuses 11 else
       -- "skip already on, or already off"
-      (skipOn? ev n && skipping ev n (thread ev n) || skipOff? ev n && not (skipping ev n (thread ev n))) gives 12 else
+      (skipOn? ev n && skipping ev n (thread ev n) || skipOff? ev n && not (skipping ev n (thread ev n))) refuses 12 else
       -- "Flushes and sfence have only their fields checked."
       pass
 

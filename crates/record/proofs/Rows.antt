@@ -14,8 +14,8 @@ use Rattle.record.specs.Fields.{columns, offsetsIn, RowFits}
 use Rattle.record.proofs.Computed.{every, every-at, every-each, else-at, NoneOf, among, none-among}
 
 -- each offset is at most the length, so that the field ends within the record
-abbrev within : List ℕ → Bool
-within row = every (λ (at : ℕ). leb at (getD row 1 0)) (columns (offsetsIn row))
+abbrev fieldsInside : List ℕ → Bool
+fieldsInside row = every (λ (at : ℕ). leb at (getD row 1 0)) (columns (offsetsIn row))
 
 pub row-fits : (k n : ℕ) → lengthOf k + 2 ≤ n → RowFits (rowOf k) n
 unfolding rowOf
@@ -25,7 +25,7 @@ row-fits k n room =
           every-each (λ (at : ℕ). leb at (lengthOf k)) (λ (at : ℕ). at + 2 ≤ n)
           (λ at inside. omega (arith, leb-true at (lengthOf k) inside))
           (columns (offsetsIn (rowOf k)))
-          (every-at within kinds _ refl refl k);
+          (every-at fieldsInside kinds _ refl refl k);
     }
 
 -- the longest record has ten bytes, its length bytes included

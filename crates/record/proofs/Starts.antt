@@ -1,5 +1,5 @@
 -- Where records start: theorems about the framing definitions. `empty-exactly`: the part is empty exactly if records 0
--- to e cannot all be framed. `joined-front`: the parts 0 to e, one after the other, are the front of the trace.
+-- to e cannot all be framed. `records-to-front`: the parts 0 to e, one after the other, are the front of the trace.
 -- `read-next`: reading record e leads to where record e + 1 starts. Assumes nothing.
 use mathlib.Core.Path.{_≡_, refl, sym, ap, _∙_}
 use mathlib.Core.Logic.{_⊎_, inl, inr, _↔_}
@@ -13,7 +13,7 @@ use lib.Seq.{length-take-le, take-add, take-all}
 use borrow.Author.Tests.{eq-eqb}
 use Rattle.record.specs.Answers.{Answer, refused, event, wrote, readAnswer}
 use Rattle.record.specs.Reading.{frame, readFramed, readFirst, readAt, from}
-use Rattle.record.specs.Parts.{sizeOf, sizeAt, start, placeOf, recordPart, AllFramed, joined}
+use Rattle.record.specs.Parts.{sizeOf, sizeAt, start, placeOf, recordPart, AllFramed, recordsTo}
 use Rattle.record.specs.declared.events.Event.{Event}
 use Rattle.record.specs.declared.parts.Place.{Place}
 use Rattle.record.specs.declared.reading.Frame.{Frame}
@@ -190,10 +190,10 @@ part-is s e p is =
 
 -- ---- parts one after the other
 
-pub joined-front : (s : List ℕ) (e : ℕ) → joined s e ≡ take (start s (suc e)) s
-unfolding joined recordPart start
-joined-front s zero = rw zero-add
-joined-front s (suc e) = let at = start s (suc e) in rw (joined-front s e) (sym (take-add at (sizeAt s at) s))
+pub records-to-front : (s : List ℕ) (e : ℕ) → recordsTo s e ≡ take (start s (suc e)) s
+unfolding recordsTo recordPart start
+records-to-front s zero = rw zero-add
+records-to-front s (suc e) = let at = start s (suc e) in rw (records-to-front s e) (sym (take-add at (sizeAt s at) s))
 
 -- ---- reading record by record
 

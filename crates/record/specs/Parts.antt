@@ -35,6 +35,6 @@ pub record AllFramed (s : List ℕ) (e : ℕ) : Type 0 where
   pub framed : (i : ℕ) → i ≤ e → (n : ℕ) × (frame (drop (start s i) s) ≡ Size n)
 
 -- the parts 0 to e, one after the other
-unfoldable pub joined : List ℕ → ℕ → List ℕ
-joined s zero = recordPart s 0
-joined s (suc e) = joined s e ++ recordPart s (suc e)
+unfoldable pub recordsTo : List ℕ → ℕ → List ℕ
+recordsTo s zero = recordPart s 0
+recordsTo s (suc e) = recordsTo s e ++ recordPart s (suc e)

@@ -9,7 +9,7 @@ use lib.ListN.{length, take, drop, getD, set, length-append, length-set}
 use lib.Seq.{sets, sets-eq, length-sets, length-take-le, take-suc}
 use borrow.Author.Tests.{lt-ltb, le-ltb}
 use Rattle.report.specs.Decimal.{digits}
-use Rattle.report.specs.Lines.{written, Front}
+use Rattle.report.specs.Lines.{printed, Front}
 use Rattle.report.specs.Page.{Page, page, putOn, putAll, Added}
 use Rattle.report.proofs.Decimals.{one-digit, more-digits, at-most-five}
 
@@ -93,7 +93,7 @@ stored (b ∷ bs) out at room =
 
 pub from-start :
     {bytes out after : List ℕ} {most end : ℕ} → Added out 0 bytes most after end → most ≤ length out
-    → (end ≡ length bytes) × ((after ≡ written bytes out) × Front end after)
+    → (end ≡ length bytes) × ((after ≡ printed bytes out) × Front end after)
 from-start {bytes} {out} {after} {most} {end} added room =
     let fits : 0 + length bytes ≤ length out = omega (arith, added .few) in
     let is : page after end ≡ page (sets out 0 bytes) (0 + length bytes) = added .put ∙ stored bytes out 0 fits in

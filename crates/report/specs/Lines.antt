@@ -76,15 +76,15 @@ brokenLines events load missing observed fault =
     ++ line (ascii "observed") (observed ∷ [])
     ++ line (ascii (kindText fault)) []
 
--- what is printed for an answer about a trace with n threads and f finished stretches, and its cut buffer
+-- what is written for an answer about a trace with n threads and f finished stretches, and its cut buffer
 abbrev pub linesOf : Answer → ℕ → ℕ → List ℕ → List ℕ
 linesOf (refused number event) n f cut = refusedLine number event
 linesOf (robust events share) n f cut = robustLines events share n f cut
 linesOf (broken events load missing observed fault) n f cut = brokenLines events load missing observed fault
 
 -- a buffer with a text at its start, and the rest as it was
-abbrev pub written : List ℕ → List ℕ → List ℕ
-written text out = text ++ drop (length text) out
+abbrev pub printed : List ℕ → List ℕ → List ℕ
+printed text out = text ++ drop (length text) out
 
 -- n counts bytes at the start of a buffer: what a caller needs to take that part of it
 abbrev pub Front : ℕ → List ℕ → Type 0

@@ -6,7 +6,7 @@ ghost use lib.ListN.{length};
 ghost use Rattle.model.specs.Answers.{verdictAnswer, kindAnswer};
 ghost use Rattle.report.specs.Lines.{ascii, kindText, line, spaced, countAt, countsOf};
 ghost use Rattle.report.specs.Lines.{cutLine, cutLines, refusedLine, robustLines, brokenLines, linesOf};
-ghost use Rattle.report.specs.Lines.{written, Front};
+ghost use Rattle.report.specs.Lines.{printed, Front};
 ghost use Rattle.report.specs.Page.{Added};
 use crate::page::field;
 use crate::page::put;
@@ -119,10 +119,10 @@ fn robust_lines(
         (robustLines events share threads finished (now (cut .entry))) 446 (now (out .exit)) r ⌝ }
 {
     let counted = number_line(out, 0, b"events", events);
-    let judged = text_line(out, counted, b"verdict robust");
+    let ruled = text_line(out, counted, b"verdict robust");
     let n = least(threads, 8);
     let f = least(finished, 7);
-    let end = cut_lines(out, judged, cut, n, f);
+    let end = cut_lines(out, ruled, cut, n, f);
     number_line(out, end, b"share", share)
 }
 
@@ -151,8 +151,8 @@ fn broken_lines(
         (brokenLines events load missing observed (kindAnswer kind)) 87 (now (out .exit)) r ⌝ }
 {
     let counted = number_line(out, 0, b"events", events);
-    let judged = text_line(out, counted, b"verdict broken");
-    let loaded = number_line(out, judged, b"load", load);
+    let ruled = text_line(out, counted, b"verdict broken");
+    let loaded = number_line(out, ruled, b"load", load);
     let missed = number_line(out, loaded, b"missing", missing);
     let end = number_line(out, missed, b"observed", observed);
     kind_line(out, end, kind)
@@ -193,7 +193,7 @@ pub fn report(v: Verdict, threads: u16, finished: u16, cut: &[u16], out: &mut [u
         ⌜ r ≡ length (linesOf (verdictAnswer v) threads finished (now (cut .entry))) ⌝ }
     ensures bytes { λ _.
         ⌜ now (out .exit) ≡
-        written (linesOf (verdictAnswer v) threads finished (now (cut .entry))) (now (out .entry)) ⌝ }
+        printed (linesOf (verdictAnswer v) threads finished (now (cut .entry))) (now (out .entry)) ⌝ }
     ensures front { λ r. ⌜ Front r (now (out .exit)) ⌝ }
 {
     lines(out, v, threads, finished, cut)

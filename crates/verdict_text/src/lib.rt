@@ -1,7 +1,7 @@
 // What the program `verdict` prints for its whole input, whatever the input is.
 ghost use mathlib.Core.Path.{_≡_};
 ghost use lib.ListN.{length};
-ghost use Rattle.report.specs.Lines.{written, Front};
+ghost use Rattle.report.specs.Lines.{printed, Front};
 ghost use Rattle.verdict_text.specs.Text.{textOf};
 use model::Verdict;
 
@@ -9,7 +9,7 @@ use model::Verdict;
 // caller can take `&out[..n]`.
 pub fn text_of(input: &[u8], out: &mut [u8; 1024]) -> usize
     ensures size { λ r. ⌜ r ≡ length (textOf (now (input .entry))) ⌝ }
-    ensures bytes { λ _. ⌜ now (out .exit) ≡ written (textOf (now (input .entry))) (now (out .entry)) ⌝ }
+    ensures bytes { λ _. ⌜ now (out .exit) ≡ printed (textOf (now (input .entry))) (now (out .entry)) ⌝ }
     ensures front { λ r. ⌜ Front r (now (out .exit)) ⌝ }
 {
     let mut cut = [0u16; 56];

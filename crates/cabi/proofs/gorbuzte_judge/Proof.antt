@@ -20,15 +20,15 @@ same-length-2 c = search needs
 
 returns : tie.Need-returns
 returns c =
-    let judged = c .before .before .before .before .before .judge in
+    let verdict = c .before .before .before .before .before .judge in
     let numbers = c .verdict-numbers .ensures in (
-      numbers ∙ ap verdictNumbers (judged .ensures .0),
+      numbers ∙ ap verdictNumbers (verdict .ensures .0),
       (
-        judged .ensures .1 .0,
+        verdict .ensures .1 .0,
         (
-          judged .ensures .1 .1 .0,
+          verdict .ensures .1 .1 .0,
           λ N accepted room right-size.
-              (verdictAnswer (judged .result), numbers, judged .ensures .1 .1 .1 N accepted room right-size),
+              (verdictAnswer (verdict .result), numbers, verdict .ensures .1 .1 .1 N accepted room right-size),
         ),
       ),
     )

@@ -8,7 +8,7 @@ use borrow.Author.Needs.{needs}
 use borrow.Author.Tests.{lt-ltb}
 use lib.ListN.{length, length-replicate}
 use Rattle.model.specs.Answers.{verdictAnswer}
-use Rattle.report.specs.Lines.{written}
+use Rattle.report.specs.Lines.{printed}
 use Rattle.verdict_text.specs.Text.{textOf}
 use Rattle.verdict_text.proofs.Texts.{judged-text}
 use Rattle.verdict_text.proofs.text_of.Statement.{statement}
@@ -53,16 +53,16 @@ returns-2 c =
     let at-judge = at-shape .before .before .before in
     let entry = at-judge .before .before .before .before .before in
     let input : List ℕ = entry .args .input .now in
-    let judged = at-judge .judge in
+    let verdict = at-judge .judge in
     let shape = at-shape .shape-of in
     let ensures = c .report2 .ensures in
     let is =
-    judged-text input (verdictAnswer (judged .result)) (shape .result .threads) (shape .result .finished) _ _ _
-    (omega arith) (length-replicate {A = ℕ} 32768 0) refl (judged .ensures .0) (judged .ensures .1 .0)
+    judged-text input (verdictAnswer (verdict .result)) (shape .result .threads) (shape .result .finished) _ _ _
+    (omega arith) (length-replicate {A = ℕ} 32768 0) refl (verdict .ensures .0) (verdict .ensures .1 .0)
     (shape .ensures .0) (shape .ensures .1)
     in (
       ensures .0 ∙ ap length is,
-      (ensures .1 .0 ∙ ap (λ (text : List ℕ). written text (entry .args .out .now)) is, ensures .1 .1),
+      (ensures .1 .0 ∙ ap (λ (text : List ℕ). printed text (entry .args .out .now)) is, ensures .1 .1),
     )
 
 pub text-of-spec : {M : Type 1} → statement M

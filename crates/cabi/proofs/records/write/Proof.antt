@@ -3,13 +3,13 @@
 use mathlib.Core.Path.{refl, sym, ap, _∙_}
 use borrow.Author.Needs.{needs}
 use Rattle.model.specs.Reading.{refusalIn}
-use Rattle.cabi.specs.Records.{sizeIn, eventIn, writingNumbers, writtenNumbers}
+use Rattle.cabi.specs.Records.{sizeIn, eventNamed, writingNumbers, writtenNumbers}
 use Rattle.cabi.proofs.Naming.{names-none, names-one}
 use Rattle.cabi.proofs.records.write.Statement.{statement}
 use Rattle.cabi.proofs.records.write.Tie as tie
 
-event-in-requires : tie.Need-event-in-requires
-event-in-requires c κs = search needs
+event-named-requires : tie.Need-event-named-requires
+event-named-requires c κs = search needs
 
 enum-known-n : tie.Need-enum-known-n
 enum-known-n c = search needs
@@ -20,7 +20,7 @@ enum-told c = search needs
 returns : tie.Need-returns
 unfolding writingNumbers writtenNumbers
 returns c =
-    let named-is = c .before .before .event-in .ensures in
+    let named-is = c .before .before .event-named .ensures in
     let none = names-none _ _ (sym named-is ∙ c .enum-told .given .1) in
     ((rw none refl, rw none refl), rw none refl)
 
@@ -34,12 +34,12 @@ same-length : tie.Need-same-length
 same-length c = search needs
 
 returns-2 : tie.Need-returns-2
-unfolding writingNumbers writtenNumbers eventIn
+unfolding writingNumbers writtenNumbers eventNamed
 returns-2 c =
     let at-write = c .before .before .before in
     let wrote = at-write .write .ensures in
     let at-match = at-write .before .before .before in
-    let named-is = at-match .before .before .event-in .ensures in
+    let named-is = at-match .before .before .event-named .ensures in
     let one = names-one _ _ _ (sym named-is ∙ at-match .n .given .1) in
     let outcome = c .outcome-of .ensures in (
       (
@@ -53,7 +53,7 @@ pub write-spec : {M : Type 1} → statement M
 write-spec =
     tie.close
     (tie.spec
-    event-in-requires
+    event-named-requires
     enum-known-n
     enum-told
     returns

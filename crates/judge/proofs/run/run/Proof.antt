@@ -1,6 +1,6 @@
--- `run` meets its contract: each turn takes the run on by a record, and less is left after it; where a turn ends the
--- run, what is answered is what the definitions say (proofs/Endings.antt). The part of the work area that is lent on is
--- all of it.
+-- `run` meets its contract: each round of the loop takes the run on by a record, and less is left after it; where a
+-- record ends the run, what is answered is what the definitions say (proofs/Endings.antt). The part of the work area
+-- that is lent on is all of it.
 use mathlib.Core.Path.{_≡_, refl, sym, ap, _∙_, subst}
 use mathlib.Core.List.{List, _++_, append-nil}
 use Prim.Native.Nat.{ℕ, suc, _-_}
@@ -14,14 +14,14 @@ use Rattle.model.specs.Reading.{readingOf}
 use Rattle.model.specs.Judge.{readingCut}
 use Rattle.marks.specs.Marks.{Marks, marksOf}
 use Rattle.judge.specs.declared.run.Begun.{Begun}
-use Rattle.judge.specs.declared.run.Turn.{Turn}
-use Rattle.judge.specs.declared.run.Turned.{Turned}
-use Rattle.judge.specs.declared.run.Turned.the-variants.{On, Ended}
+use Rattle.judge.specs.declared.run.Cursor.{Cursor}
+use Rattle.judge.specs.declared.run.Next.{Next}
+use Rattle.judge.specs.declared.run.Next.the-variants.{On, Ended}
 use Rattle.judge.specs.declared.verdict.End.{End}
-use Rattle.judge.specs.Runs.{numberIn, Reached, Stopped, After, Ran}
+use Rattle.judge.specs.Runs.{numberIn, Reached, Stopped, After, AnswersAsDefined}
 use Rattle.judge.specs.Verdicts.{verdictAfter, cutFrom}
 use Rattle.judge.proofs.Records.{reached-here, less-left}
-use Rattle.judge.proofs.Endings.{refused-judged, refused-ran, stopped-judged, stopped-ran}
+use Rattle.judge.proofs.Endings.{refused-with-cut, refused-answers, stopped-with-cut, stopped-answers}
 use Rattle.judge.proofs.run.run.Statement.{statement}
 use Rattle.judge.proofs.run.run.Tie as tie
 
@@ -35,15 +35,15 @@ nothing-behind l k n size = rw (sym size, drop-length l) (append-nil k)
 all-length : (l : List ℕ) → length l ≡ 32768 → length (take 32768 l) ≡ 32768
 all-length l size = ap length (all-of l 32768 size) ∙ size
 
--- what a record led to, by its turn
+-- what a record led to
 module _
-    (bytes : List ℕ) (threads locations n : ℕ) (r : Turned) (tables : List ℕ) (m : Marks) (work : List ℕ)
+    (bytes : List ℕ) (threads locations n : ℕ) (r : Next) (tables : List ℕ) (m : Marks) (work : List ℕ)
     (after : After bytes threads locations n r tables m work) where
-  went-on : (t : Turn) → r ≡ On t → Reached bytes threads locations (suc n) t tables m work
-  went-on t is = subst (λ (x : Turned). After bytes threads locations n x tables m work) is after
+  went-on : (t : Cursor) → r ≡ On t → Reached bytes threads locations (suc n) t tables m work
+  went-on t is = subst (λ (x : Next). After bytes threads locations n x tables m work) is after
 
   ended-by : (k : ℕ) → r ≡ Ended k → Stopped bytes threads locations n k tables m work
-  ended-by k is = subst (λ (x : Turned). After bytes threads locations n x tables m work) is after
+  ended-by k is = subst (λ (x : Next). After bytes threads locations n x tables m work) is after
 
 -- what is answered where the run is over before record n, by number k
 answered :
@@ -56,16 +56,16 @@ answered :
     → end ≡ record { number = k; event = n }
     → v ≡ verdictAfter end tables m part
     → cut' ≡ cutFrom end (m .counts) cut
-    → Ran bytes v work × (cut' ≡ readingCut bytes cut₀ (readingOf bytes))
+    → AnswersAsDefined bytes v work × (cut' ≡ readingCut bytes cut₀ (readingOf bytes))
 answered bytes threads locations n k tables m work part cut₀ cut cut' end v stopped size lent all end-is v-is cut-is =
     rw (v-is, cut-is, end-is, all, lent) (
-      stopped-ran bytes threads locations n k tables m work stopped cut₀ size,
-      stopped-judged bytes threads locations n k tables m work stopped cut₀ size .1,
+      stopped-answers bytes threads locations n k tables m work stopped cut₀ size,
+      stopped-with-cut bytes threads locations n k tables m work stopped cut₀ size .1,
     )
 
--- between two records: the cut buffer is as lent, and the run has come to the record at the turn's position
+-- between two records: the cut buffer is as lent, and the run has come to the record at the cursor's position
 record Going
-    (bytes : List ℕ) (b : Begun) (work₀ cut₀ work cut tables : List ℕ) (m : Marks) (t : Turn) : Type 0 where
+    (bytes : List ℕ) (b : Begun) (work₀ cut₀ work cut tables : List ℕ) (m : Marks) (t : Cursor) : Type 0 where
   same-size : length work ≡ length work₀
   size : length work ≡ 32768
   as-lent : cut ≡ cut₀
@@ -87,7 +87,7 @@ returns c =
     let entry = at-begin .before .before .before .before in
     let bytes : List ℕ = entry .args .trace .now in
     let away = at-begin .begin .ensures .turned-away (λ none. omega arith) in
-    (refused-ran bytes _ 0 away _, refused-judged bytes _ 0 away _ .1)
+    (refused-answers bytes _ 0 away _, refused-with-cut bytes _ 0 away _ .1)
 
 start-requires : tie.Need-start-requires Inv-loop μ-loop
 start-requires c κs = search needs
@@ -206,14 +206,14 @@ returns-2 c =
 
 loop-less : tie.Need-loop-less Inv-loop μ-loop
 loop-less c =
-    let at-turn = c .before in
-    let at-record = at-turn .before .before .before .before in
+    let at-next = c .before in
+    let at-record = at-next .before .before .before .before in
     let at-loop = at-record .before .before .before .before .before in
     let here = at-loop .loop in
     let at-begin = at-loop .before .before .before .before in
     let b = at-begin .begin .result in
     let bytes : List ℕ = at-begin .before .before .before .before .args .trace .now in
-    let told = at-turn .r .given in
+    let told = at-next .r .given in
     less-left bytes (b .threads) (b .locations) (eventAt (here .t .row)) (here .t) (here .tables)
     (marksOf (here .marks) (here .flags)) (here .work) (here .inv .reached) (told .0 .0) _ _ _
     (went-on bytes (b .threads) (b .locations) (eventAt (here .t .row)) _ _ _ _ (at-record .judge-record .ensures)
@@ -221,14 +221,14 @@ loop-less c =
 
 loop-again : tie.Need-loop-again Inv-loop μ-loop
 loop-again c =
-    let at-turn = c .before in
-    let at-record = at-turn .before .before .before .before in
+    let at-next = c .before in
+    let at-record = at-next .before .before .before .before in
     let at-loop = at-record .before .before .before .before .before in
     let here = at-loop .loop in
     let at-begin = at-loop .before .before .before .before in
     let b = at-begin .begin .result in
     let bytes : List ℕ = at-begin .before .before .before .before .args .trace .now in
-    let told = at-turn .r .given in
+    let told = at-next .r .given in
     let after : List ℕ = at-record .judge-record .last .1 .1 .1 .1 .1 .1 .1 .0 in
     let size : length after ≡ 32768 =
     at-record .judge-record .kept .1 .1 .1 .1 .1 .1 .1 .0 ∙ all-length (here .work) (here .inv .size)

@@ -4,19 +4,19 @@ use borrow.Author.Needs.{needs}
 use Rattle.judge.proofs.verdict.share.Statement.{statement}
 use Rattle.judge.proofs.verdict.share.Tie as tie
 
-kept-requires : tie.Need-kept-requires
-kept-requires c κs = search needs
+stores-in-requires : tie.Need-stores-in-requires
+stores-in-requires c κs = search needs
 
 all-committed-requires : tie.Need-all-committed-requires
 all-committed-requires c κs = search needs
 
 percentage-requires : tie.Need-percentage-requires
-percentage-requires c κs = c .before .kept .ensures .1
+percentage-requires c κs = c .before .stores-in .ensures .1
 
 returns : tie.Need-returns
 returns c =
     let at-all = c .before in
-    rw (c .percentage .ensures, at-all .before .kept .ensures .0, at-all .all-committed .ensures) refl
+    rw (c .percentage .ensures, at-all .before .stores-in .ensures .0, at-all .all-committed .ensures) refl
 
 pub share-spec : {M : Type 1} → statement M
-share-spec = tie.close (tie.spec kept-requires all-committed-requires percentage-requires returns)
+share-spec = tie.close (tie.spec stores-in-requires all-committed-requires percentage-requires returns)

@@ -6,7 +6,7 @@ use native.Mathlib.Nat.{add-zero}
 use native.Mathlib.Omega.{arith}
 use borrow.Author.Needs.{needs}
 use lib.ListN.{length, length-set}
-use Rattle.machine.specs.Effects.{clocked, written}
+use Rattle.machine.specs.Effects.{clocked, withStore}
 use Rattle.machine.proofs.Loops.{Turned}
 use Rattle.machine.proofs.clocks.write_row.Statement.{statement}
 use Rattle.machine.proofs.clocks.write_row.Tie as tie
@@ -107,7 +107,7 @@ same-length : tie.Need-same-length Inv-loop μ-loop
 same-length c = search needs
 
 returns : tie.Need-returns Inv-loop μ-loop
-unfolding written
+unfolding withStore
 returns c =
     let end : c .before .loop .u ≡ 8 = omega (arith, c .before .loop .inv .0 .below, c .loop-test .left) in
     rw (c .before .loop .inv .0 .is-so, end) refl

@@ -5,7 +5,7 @@ use Prim.Native.Nat.{_-_, _≤_}
 use mathlib.Core.Path.{_≡_, refl}
 use lib.ListN.{length, length-set}
 use Rattle.marks.specs.Ending.{copied}
-use Rattle.marks.proofs.Turns.{copied-more}
+use Rattle.marks.proofs.Loops.{copied-more}
 use borrow.Author.Needs.{needs}
 use Rattle.marks.proofs.end.copy_cut.Statement.{statement}
 use Rattle.marks.proofs.end.copy_cut.Tie as tie

@@ -1,6 +1,6 @@
 -- The definition's cases, by the total. Assumes nothing.
 use mathlib.Core.Path.{_∙_}
-use Rattle.marks.proofs.Turns.{percent-none, percent-some}
+use Rattle.marks.proofs.Loops.{percent-none, percent-some}
 use borrow.Author.Needs.{needs}
 use Rattle.marks.proofs.end.percentage.Statement.{statement}
 use Rattle.marks.proofs.end.percentage.Tie as tie

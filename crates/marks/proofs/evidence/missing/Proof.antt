@@ -6,7 +6,7 @@ use mathlib.Core.Path.{_≡_, _∙_}
 use Rattle.model.specs.Search.{firstFrom, first}
 use Rattle.marks.specs.Marks.{marksOf}
 use Rattle.marks.specs.Testing.{missingIn, missingBy}
-use Rattle.marks.proofs.Turns.{first-here, first-on, first-done}
+use Rattle.marks.proofs.Loops.{first-here, first-on, first-done}
 use borrow.Author.Needs.{needs}
 use Rattle.marks.proofs.evidence.missing.Statement.{statement}
 use Rattle.marks.proofs.evidence.missing.Tie as tie

@@ -5,7 +5,7 @@ use native.Mathlib.Nat.{sub-zero}
 use mathlib.Core.Path.{_≡_, _∙_}
 use Rattle.model.specs.Search.{firstFrom, first}
 use Rattle.marks.specs.Testing.{observedIn, observedBy}
-use Rattle.marks.proofs.Turns.{first-here, first-on, first-done}
+use Rattle.marks.proofs.Loops.{first-here, first-on, first-done}
 use borrow.Author.Needs.{needs}
 use Rattle.marks.proofs.evidence.observed.Statement.{statement}
 use Rattle.marks.proofs.evidence.observed.Tie as tie

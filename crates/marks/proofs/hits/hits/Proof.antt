@@ -6,7 +6,7 @@ use mathlib.Core.Path.{_≡_, refl}
 use Rattle.model.specs.Search.{some}
 use Rattle.marks.specs.Marks.{countIn}
 use Rattle.marks.specs.Testing.{hit, hits}
-use Rattle.marks.proofs.Turns.{some-more}
+use Rattle.marks.proofs.Loops.{some-more}
 use borrow.Author.Needs.{needs}
 use Rattle.marks.proofs.hits.hits.Statement.{statement}
 use Rattle.marks.proofs.hits.hits.Tie as tie

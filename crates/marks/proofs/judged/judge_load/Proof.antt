@@ -1,5 +1,5 @@
 -- The calls in their order are the definition's steps. Assumes nothing.
-use Rattle.marks.proofs.Turns.{judged-again, judged-behind, judged-steps}
+use Rattle.marks.proofs.Loops.{judged-again, judged-behind, judged-steps}
 use borrow.Author.Needs.{needs}
 use Rattle.marks.proofs.judged.judge_load.Statement.{statement}
 use Rattle.marks.proofs.judged.judge_load.Tie as tie

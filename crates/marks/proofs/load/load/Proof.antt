@@ -1,5 +1,5 @@
 -- The calls in their order are the definition's steps. Assumes nothing.
-use Rattle.marks.proofs.Turns.{load-none, load-from}
+use Rattle.marks.proofs.Loops.{load-none, load-from}
 use borrow.Author.Needs.{needs}
 use Rattle.marks.proofs.load.load.Statement.{statement}
 use Rattle.marks.proofs.load.load.Tie as tie

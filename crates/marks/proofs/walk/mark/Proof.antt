@@ -1,5 +1,5 @@
 -- The calls in their order are the definition's steps. Assumes nothing.
-use Rattle.marks.proofs.Turns.{mark-steps}
+use Rattle.marks.proofs.Loops.{mark-steps}
 use borrow.Author.Needs.{needs}
 use Rattle.marks.proofs.walk.mark.Statement.{statement}
 use Rattle.marks.proofs.walk.mark.Tie as tie

@@ -5,7 +5,7 @@ use mathlib.Core.Path.{refl}
 use Rattle.marks.specs.Marks.{marksOf}
 use Rattle.marks.specs.Marking.{walked}
 use Rattle.marks.specs.Testing.{walkHits}
-use Rattle.marks.proofs.Turns.{Left, walk-end, walk-stop, walk-more, walk-none}
+use Rattle.marks.proofs.Loops.{Left, walk-end, walk-stop, walk-more, walk-none}
 use borrow.Author.Needs.{needs}
 use Rattle.marks.proofs.walk.walk.Statement.{statement}
 use Rattle.marks.proofs.walk.walk.Tie as tie

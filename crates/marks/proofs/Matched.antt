@@ -1,8 +1,8 @@
 -- For the fold over a trace: the invariant of judging, its start, its step and its two ends. The loads that count as of
 -- an event break the trace exactly if with them there is a pair. After that event the marks stay, and at the end of an
 -- accepted trace they give its ruling.
--- In order: `held-event`, for every event; what it says of an event as of which no load counts, and of a load;
--- `held-start`; the ends, `broke-ruling` and `good-robust`.
+-- In order: `match-event`, for every event; what it says of an event as of which no load counts, and of a load;
+-- `match-start`; the ends, `broken-at-ruling` and `unbroken-robust`.
 use Prim.Native.Nat.{ℕ, suc, _≤_, _<_, min}
 use native.Mathlib.Omega.{arith}
 use mathlib.Core.Path.{_≡_, refl, sym, _∙_}
@@ -32,39 +32,39 @@ use Rattle.area.proofs.ReadBack.{cleared-at}
 use Rattle.marks.specs.Marks.{Marks, marksOf, lastCell, sourceCell, brokenCell, countIn, brokenIn}
 use Rattle.marks.specs.Testing.{loadHits, missingBy, observedBy}
 use Rattle.marks.specs.Judged.{noted, judgedNew, judged}
-use Rattle.marks.specs.Ending.{copied, keptIn}
-use Rattle.marks.specs.Good.{Judging, Loads, Good, Broke, Held}
+use Rattle.marks.specs.Ending.{copied, storesIn}
+use Rattle.marks.specs.Matching.{Judging, Loads, Unbroken, BrokenAt, MarksMatch}
 use Rattle.marks.proofs.Stepping.{chain, due-start}
 use Rattle.marks.proofs.Stepping.{all-marked, all-seen, all-asked, due-end}
 use Rattle.marks.proofs.Breaking.{Hit}
 use Rattle.marks.proofs.Noting.{loads-start, says-there, loads-later}
 use Rattle.marks.proofs.Finding.{missing-is, observed-is}
-use Rattle.marks.proofs.Closing.{cut-is, kept-is, share-is}
-use Rattle.marks.proofs.EachLoad.{Part, again?, walkedOver, judgedAll, breaksAll, keptBy, judgedAs, part-all}
+use Rattle.marks.proofs.Closing.{cut-is, stores-in-is, share-is}
+use Rattle.marks.proofs.EachLoad.{Part, again?, walkedOver, judgedAll, breaksAll, withBreaking, judgedAs, part-all}
 
 module _ (ev : ℕ → Event) where
   -- no load has broken the trace, and one has
-  held-good : (n : ℕ) (m : Marks) → brokenIn (m .counts) ≡ 0 → Good ev n m → Held ev n m
-  held-good n m none good = record {
-    none-yet = λ _. good;
+  match-unbroken : (n : ℕ) (m : Marks) → brokenIn (m .counts) ≡ 0 → Unbroken ev n m → MarksMatch ev n m
+  match-unbroken n m none so-far = record {
+    none-yet = λ _. so-far;
     early = λ some. absurd (some none);
-    broke = λ some. absurd (some none);
+    broken-at = λ some. absurd (some none);
   }
 
-  held-broke :
-      (n load : ℕ) (m : Marks) → brokenIn (m .counts) ≡ load → load ≢ 0 → load < n → Broke ev load m → Held ev n m
-  held-broke n load m is-load some early broke = record {
+  match-broken :
+      (n load : ℕ) (m : Marks) → brokenIn (m .counts) ≡ load → load ≢ 0 → load < n → BrokenAt ev load m → MarksMatch ev n m
+  match-broken n load m is-load some early broken-at = record {
     none-yet = λ none. absurd (some (sym is-load ∙ none));
     early = λ _. rw is-load early;
-    broke = λ _. rw is-load broke;
+    broken-at = λ _. rw is-load broken-at;
   }
 
   -- cleared marks
-  good-start :
+  unbroken-start :
       (m : Marks) → length (m .counts) ≡ 648 → length (m .flags) ≡ 2048
-      → ((i : ℕ) → countIn (m .counts) i ≡ 0) → ((i : ℕ) → countIn (m .flags) i ≡ 0) → Good ev 0 m
+      → ((i : ℕ) → countIn (m .counts) i ≡ 0) → ((i : ℕ) → countIn (m .flags) i ≡ 0) → Unbroken ev 0 m
   unfolding marked? forbidden? observed? closure bad? some most
-  good-start m counts-size flags-size no-counts no-flags = record {
+  unbroken-start m counts-size flags-size no-counts no-flags = record {
     judging = record {
       counts-size = counts-size;
       flags-size = flags-size;
@@ -86,23 +86,23 @@ module _ (ev : ℕ → Event) where
   module _
       (n : ℕ) (l : List ℕ) (accepted : Accepted ev (suc n))
       (area : (k : ℕ) → counts ev n k ≡ true → Rows ev (suc n) l × Linked l (headOf (chain ev k)) (chain ev k)) where
-    module _ (m : Marks) (none : brokenIn (m .counts) ≡ 0) (good : Good ev n m) where
+    module _ (m : Marks) (none : brokenIn (m .counts) ≡ 0) (so-far : Unbroken ev n m) where
       start : Part ev n (counting ev n) false m
       start = record {
         F = marked? ev n;
         O = observed? ev n;
         C = closure ev n;
         due = due-start ev n accepted;
-        says = good .judging;
+        says = so-far .judging;
         loads =
             loads-later ev n (suc n) _ _ _ _ (omega arith) (λ p in-f. in-f) (λ q in-o. in-o) m m
-            (λ i from-128 below. refl) (good .loads);
+            (λ i from-128 below. refl) (so-far .loads);
         unbroken = none;
         told = λ never. false-true never;
         tells = λ hit.
             let some-event = marked-over ev n (hit .p) (hit .in-f) .early in
             let part = prefix ev (suc n) n accepted (omega arith) (omega arith) in
-            sym (good .no-pair) ∙ hit-bad n part hit;
+            sym (so-far .no-pair) ∙ hit-bad n part hit;
       }
 
       abbrev after : Marks
@@ -161,51 +161,51 @@ module _ (ev : ℕ → Event) where
           let it = marked-over ev (suc n) (hit .p) (sym (same-f (hit .p)) ∙ hit .in-f) in
           store-not-0 ev (suc n) accepted (it .store) (omega (arith, it .early))
 
-      good-event : breaks ≡ false → Good ev (suc n) after
-      good-event holds = record {
+      unbroken-event : breaks ≡ false → Unbroken ev (suc n) after
+      unbroken-event holds = record {
         judging = judging-after;
         no-pair = sym breaks-is-bad ∙ holds;
         loads = loads-after;
       }
 
-      broke-event : breaks ≡ true → Broke ev n (marksOf (set (after .counts) brokenCell n) (after .flags))
-      broke-event passes = record {
+      broken-event : breaks ≡ true → BrokenAt ev n (marksOf (set (after .counts) brokenCell n) (after .flags))
+      broken-event passes = record {
         accepted = accepted;
-        no-pair-before = good .no-pair;
+        no-pair-before = so-far .no-pair;
         pair = sym breaks-is-bad ∙ passes;
         judging =
             says-there ev after _ (length-set (after .counts) brokenCell n)
             (λ i below. getD-set-other (after .counts) brokenCell i n 0 (λ same. omega arith)) judging-after;
       }
 
-      held-judged : Held ev (suc n) (keptBy n breaks after)
-      held-judged = by-test (test breaks)
+      match-judged : MarksMatch ev (suc n) (withBreaking n breaks after)
+      match-judged = by-test (test breaks)
         where
-          by-test : (breaks ≡ true) ⊎ (breaks ≡ false) → Held ev (suc n) (keptBy n breaks after)
-          by-test (inr holds) = rw holds (held-good (suc n) after (end .unbroken) (good-event holds))
+          by-test : (breaks ≡ true) ⊎ (breaks ≡ false) → MarksMatch ev (suc n) (withBreaking n breaks after)
+          by-test (inr holds) = rw holds (match-unbroken (suc n) after (end .unbroken) (unbroken-event holds))
           by-test (inl passes) =
               let room = judging-after .counts-size in
               rw passes
-              (held-broke (suc n) n _ (getD-set-same (after .counts) brokenCell n 0 (omega arith)) (not-begin passes)
-              (omega arith) (broke-event passes))
+              (match-broken (suc n) n _ (getD-set-same (after .counts) brokenCell n 0 (omega arith)) (not-begin passes)
+              (omega arith) (broken-event passes))
 
     -- EVERY EVENT keeps the invariant
-    pub held-event : (m : Marks) → Held ev n m → Held ev (suc n) (judgedAs ev l n (counting ev n) m)
+    pub match-event : (m : Marks) → MarksMatch ev n m → MarksMatch ev (suc n) (judgedAs ev l n (counting ev n) m)
     unfolding judgedAs
-    held-event m held = by-broken (same? (brokenIn (m .counts)) 0)
+    match-event m matching = by-broken (same? (brokenIn (m .counts)) 0)
       where
         by-broken :
             (brokenIn (m .counts) ≡ 0) ⊎ (brokenIn (m .counts) ≢ 0)
-            → Held ev (suc n)
+            → MarksMatch ev (suc n)
             (cond (eqb (brokenIn (m .counts)) 0)
-            (keptBy n (breaksAll ev l (counting ev n) false m) (judgedAll ev l (counting ev n) m))
+            (withBreaking n (breaksAll ev l (counting ev n) false m) (judgedAll ev l (counting ev n) m))
             m)
         by-broken (inl none) =
-            rw (eq-eqb (brokenIn (m .counts)) 0 none) (held-judged m none (held .none-yet none))
+            rw (eq-eqb (brokenIn (m .counts)) 0 none) (match-judged m none (matching .none-yet none))
         by-broken (inr some) =
             rw (ne-eqb (brokenIn (m .counts)) 0 some)
-            (held-broke (suc n) (brokenIn (m .counts)) m refl some (omega (arith, held .early some))
-            (held .broke some))
+            (match-broken (suc n) (brokenIn (m .counts)) m refl some (omega (arith, matching .early some))
+            (matching .broken-at some))
 
   -- an event as of which no load counts leaves the marks
   pub judged-none : (l : List ℕ) (e : ℕ) (m : Marks) → judgedAs ev l e [] m ≡ m
@@ -235,7 +235,7 @@ module _ (ev : ℕ → Event) where
       by-tests :
           (unbroken again hits : Bool)
           → cond (not again && unbroken) (marksOf (cond hits (set with-load brokenCell k) with-load) (v .flags)) m
-          ≡ cond unbroken (keptBy k (not again && hits) (cond again m (marksOf with-load (v .flags)))) m
+          ≡ cond unbroken (withBreaking k (not again && hits) (cond again m (marksOf with-load (v .flags)))) m
       by-tests true true hits = refl
       by-tests true false true = refl
       by-tests true false false = refl
@@ -249,13 +249,13 @@ module _ (ev : ℕ → Event) where
   unfolding counting counted
   none-at-begin N accepted = rw (begin-no-load ev 0 (begins ev N accepted))
 
-  pub held-start : Accepted ev 1 → Held ev 1 (marksOf (replicate 648 0) (replicate 2048 0))
+  pub match-start : Accepted ev 1 → MarksMatch ev 1 (marksOf (replicate 648 0) (replicate 2048 0))
   unfolding any
-  held-start accepted =
+  match-start accepted =
       rw (none, judged-none [] 0 cleared) at
-      (held-event 0 [] accepted (λ k here. false-true (rw none at here)) cleared
-      (held-good 0 cleared (cleared-at 648 brokenCell)
-      (good-start cleared (length-replicate {A = ℕ} 648 0) (length-replicate {A = ℕ} 2048 0) (cleared-at 648)
+      (match-event 0 [] accepted (λ k here. false-true (rw none at here)) cleared
+      (match-unbroken 0 cleared (cleared-at 648 brokenCell)
+      (unbroken-start cleared (length-replicate {A = ℕ} 648 0) (length-replicate {A = ℕ} 2048 0) (cleared-at 648)
       (cleared-at 2048))))
     where
       cleared : Marks
@@ -275,32 +275,32 @@ module _ (ev : ℕ → Event) where
   }
 
   -- a load broke it
-  pub broke-ruling :
-      (N : ℕ) (l : List ℕ) (m : Marks) → Accepted ev N → Rows ev N l → Held ev N m → brokenIn (m .counts) ≢ 0
+  pub broken-at-ruling :
+      (N : ℕ) (l : List ℕ) (m : Marks) → Accepted ev N → Rows ev N l → MarksMatch ev N m → brokenIn (m .counts) ≢ 0
       → let load = brokenIn (m .counts) in
       let missing = missingBy l m (suc load) in
       rulingOf ev N ≡ broken load missing (observedBy l (m .flags) (suc load) missing)
-  broke-ruling N l m accepted rows held some =
+  broken-at-ruling N l m accepted rows matching some =
       let load = brokenIn (m .counts) in
-      let broke = held .broke some in
-      let first-rows = rows-earlier (suc load) N l (held .early some) rows in
-      let missing = missing-is ev (suc load) (broke .accepted) l first-rows m (broke .judging) in
-      let observed = observed-is ev (suc load) (broke .accepted) l first-rows m (broke .judging) (broke .pair) in
-      rw (missing, observed) (broken-ruling ev N load accepted (held .early some) (broke .no-pair-before) (broke .pair))
+      let broken-at = matching .broken-at some in
+      let first-rows = rows-earlier (suc load) N l (matching .early some) rows in
+      let missing = missing-is ev (suc load) (broken-at .accepted) l first-rows m (broken-at .judging) in
+      let observed = observed-is ev (suc load) (broken-at .accepted) l first-rows m (broken-at .judging) (broken-at .pair) in
+      rw (missing, observed) (broken-ruling ev N load accepted (matching .early some) (broken-at .no-pair-before) (broken-at .pair))
 
   -- none did
   pub record RobustEnd (N : ℕ) (m : Marks) : Type 0 where
     pub ruling : rulingOf ev N ≡ robust (closure ev N)
     pub cut : (out : List ℕ) → length out ≡ 56 → copied 56 (m .counts) out ≡ cutOf (closure ev N)
-    pub kept : keptIn (m .counts) ≡ sum (cutOf (closure ev N))
+    pub stores-in : storesIn (m .counts) ≡ sum (cutOf (closure ev N))
     pub share :
         min (percent (sum (cutOf (closure ev N))) (sum (cutOf (finished ev N)))) 65535
         ≡ shareOf (closure ev N) (finished ev N)
 
-  pub good-robust : (N : ℕ) (m : Marks) → Accepted ev N → Good ev N m → RobustEnd N m
-  good-robust N m accepted good = record {
-    ruling = robust-ruling ev N (good .no-pair);
-    cut = cut-is ev N m (good .judging);
-    kept = kept-is ev N m (good .judging);
+  pub unbroken-robust : (N : ℕ) (m : Marks) → Accepted ev N → Unbroken ev N m → RobustEnd N m
+  unbroken-robust N m accepted so-far = record {
+    ruling = robust-ruling ev N (so-far .no-pair);
+    cut = cut-is ev N m (so-far .judging);
+    stores-in = stores-in-is ev N m (so-far .judging);
     share = share-is ev N accepted;
   }

@@ -1,7 +1,7 @@
--- `event_in` meets its contract: it takes the fields from their places.
+-- `event_named` meets its contract: it takes the fields from their places.
 use borrow.Author.Needs.{needs}
-use Rattle.cabi.proofs.records.event_in.Statement.{statement}
-use Rattle.cabi.proofs.records.event_in.Tie as tie
+use Rattle.cabi.proofs.records.event_named.Statement.{statement}
+use Rattle.cabi.proofs.records.event_named.Tie as tie
 
 array-read-event-of : tie.Need-array-read-event-of
 array-read-event-of c = search needs
@@ -30,8 +30,8 @@ event-of-requires c κs = search needs
 returns : tie.Need-returns
 returns c = c .event-of .ensures
 
-pub event-in-spec : {M : Type 1} → statement M
-event-in-spec =
+pub event-named-spec : {M : Type 1} → statement M
+event-named-spec =
     tie.close
     (tie.spec
     array-read-event-of

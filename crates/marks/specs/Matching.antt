@@ -1,5 +1,5 @@
--- What the marks say after n events. While no pair is found (`Good`), they say what the definitions say of the first n
--- events. Behind a counted load that breaks the trace (`Broke`) they stay those of the events up to it.
+-- What the marks say after n events. While no pair is found (`Unbroken`), they say what the definitions say of the first n
+-- events. Behind a counted load that breaks the trace (`BrokenAt`) they stay those of the events up to it.
 use Prim.Native.Nat.{ℕ, suc, _+_, _*_, _≤_, _<_}
 use mathlib.Core.Path.{_≡_}
 use mathlib.Core.Bool.{Bool, true, false}
@@ -60,20 +60,20 @@ module _ (ev : ℕ → Event) where
   Loads n F O m = (x : ℕ) → x < 256 → Noted n x F O (m .counts)
 
   -- while no pair is found
-  pub record Good (n : ℕ) (m : Marks) : Type 0 where
+  pub record Unbroken (n : ℕ) (m : Marks) : Type 0 where
     pub judging : Judging n m
     pub no-pair : bad? ev n ≡ false
     pub loads : Loads n (marked? ev n) (observed? ev n) m
 
   -- behind the first load that breaks
-  pub record Broke (load : ℕ) (m : Marks) : Type 0 where
+  pub record BrokenAt (load : ℕ) (m : Marks) : Type 0 where
     pub accepted : Accepted ev (suc load)
     pub no-pair-before : bad? ev load ≡ false
     pub pair : bad? ev (suc load) ≡ true
     pub judging : Judging (suc load) m
 
   -- after n events: while no load broke the trace, and then
-  pub record Held (n : ℕ) (m : Marks) : Type 0 where
-    pub none-yet : brokenIn (m .counts) ≡ 0 → Good n m
+  pub record MarksMatch (n : ℕ) (m : Marks) : Type 0 where
+    pub none-yet : brokenIn (m .counts) ≡ 0 → Unbroken n m
     pub early : brokenIn (m .counts) ≢ 0 → brokenIn (m .counts) < n
-    pub broke : brokenIn (m .counts) ≢ 0 → Broke (brokenIn (m .counts)) m
+    pub broken-at : brokenIn (m .counts) ≢ 0 → BrokenAt (brokenIn (m .counts)) m
