@@ -1,7 +1,7 @@
 // What the judge's calls answer, in document 01's numbers and values. The definitions that give these answers their
 // meaning, and the theorems about them, are this crate's specs/ and proofs/; it has no code.
 
-// Why a broken trace is broken: the missing store is itself observed, or a flush between the two was missing.
+// Why a broken trace is broken: the missing store is itself observed, or it happens before the observed one.
 pub enum Kind {
     Contradiction,
     Flush,
