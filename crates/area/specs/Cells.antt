@@ -1,5 +1,6 @@
 -- The work area as rows of 16 numbers, one for each event from 1 to 2,048, one after the other. Reads and stores are
--- total.
+-- total. Every number has a row, so `getRow` and `putRow` stay among the first 32,768 numbers (`start-inside` of
+-- proofs/ReadBack.antt); `noStore` and `joined` store where they are told, wherever that is.
 use Prim.Native.Nat.{ℕ, zero, suc, _+_, _*_, _/_, _%_, max}
 use mathlib.Core.Bool.{cond}
 use mathlib.Core.List.{List}

@@ -1,5 +1,8 @@
-// The lent work area: a row of 16 numbers for each event from 1 to 2,048, and nothing else. Reads and stores of a row
-// are total: every number has a row, so callers owe no bound.
+// The lent work area: its first 32,768 numbers are rows of 16, one for each event from 1 to 2,048. `row_get` and
+// `row_put` find a row by a remainder and a column by another, so every number has a row, callers owe no bound, and
+// `row_put` leaves the numbers past the first 32,768 as they are. The other stores go where they are told, in whatever
+// they are lent: `no_store` to column 10 of the row that begins at `row`, `join` to the eight numbers from `to` on,
+// `clear` to all. The judge lends 32,768 numbers.
 ghost use mathlib.Core.Path.{_≡_};
 ghost use Prim.Native.Nat.{_+_, _*_, _≤_};
 ghost use lib.ListN.{getD, set, length, replicate};
