@@ -1,7 +1,24 @@
--- What a reader has to believe, in document 01's order: Search (`bit`, `member`, `last`, `first`), Trace, Machine,
--- Rules, HappensBefore, Choice, Memory, Flushes, Reading, Answers, Judge and Demand. Clocks and Verdict, with `some`,
--- `any` and `most` of Search, compute what these say, which is proved in proofs/; Embedding and Stores are what proofs
--- there speak of.
+-- What a reader has to believe of this crate, in document 01's order:
+--   Search         `bit`, `any` and `member` (what counts as of an event), `last`
+--   Trace, Machine, Rules, HappensBefore, Choice
+--   Reading        `eventIn`, `refusalIn`, `events`, `refusalAt`, `endsAt`, `AcceptedWith`, `TurnedAwayWith`
+--   Answers
+--   Judge          the buffers: `smallWork`, `wrongCut`, `cleared`, `workAfter`, `orderWorkAfter`; of `judgeOf`,
+--                  `cutAfter` and `orderOf` that 14 and 15 come first; of `readingStanding` that the trace's refusal is
+--                  next; of `store?` and `standing` that then comes 16
+--   Demand
+-- and, for theorems that no contract cites, Memory and Flushes.
+--
+-- What only computes, and the theorem that says what:
+--   Search         `some`, `firstFrom`, `first`, `most`: proofs/Searching.antt
+--   Clocks         happens-before: `clock-is-happens-before`
+--   Verdict        `rulingOf` and all that it is made of: `exact`
+--   Reading        `stop`, `Reading`, `readingOf`: `accepted-exactly`, `turned-away-exactly`
+--   Judge          `ruledAnswer`, `ruledCut`, `readingAnswer`, `readingCut`, the rest of `judgeOf` and `cutAfter`:
+--                  `judged-as-demanded`, `refused-as-demanded`; `before?`, the rest of `orderOf` and `standing`:
+--                  `before-exactly`, `ordered-as-demanded`
+--
+-- Neither: Embedding, which proofs here speak of, and Stores, which the private contracts of the judge's layers cite.
 pub mod Search
 pub mod Trace
 pub mod Machine
