@@ -41,6 +41,7 @@ pub mod FlushRuling
 pub mod TurnedAway
 pub mod Queries
 pub mod Demanded
+pub mod CutPlaces
 pub mod Encoding
 pub mod Sessions
 pub mod Cases

@@ -13,14 +13,14 @@ use Rattle.record.specs.Tests.{_gives_else_}
 use Rattle.model.specs.Trace.{thread, Issue, stretch, place}
 use Rattle.model.specs.HappensBefore.{Before}
 use Rattle.model.specs.Clocks.{vc}
-use Rattle.model.specs.Answers.{before, after, same, neither}
-use Rattle.model.specs.Reading.{events, AcceptedWith}
+use Rattle.model.specs.Answers.{refused, before, after, same, neither}
+use Rattle.model.specs.Reading.{events, AcceptedWith, TurnedAwayWith}
 use Rattle.model.specs.Judge.{before?, store?, standing, orderOf}
 use Rattle.model.specs.Demand.{Stands}
 use Rattle.model.proofs.Searching.{false-true, test, both, parts}
 use Rattle.model.proofs.Ordering.{before-lt, before-stretch}
 use Rattle.model.proofs.Clocks.{clock-is-happens-before}
-use Rattle.model.proofs.TurnedAway.{accepted-exactly}
+use Rattle.model.proofs.TurnedAway.{accepted-exactly, turned-away-exactly}
 
 module _ (ev : ℕ → Event) where
   pub before-exactly : (p q : ℕ) → Issue ev p → Issue ev q → (before? ev p q ≡ true) ↔ Before ev p q
@@ -88,3 +88,18 @@ unfolding orderOf
 ordered-as-demanded bytes N work p q accepted enough p-store q-store =
     rw (le-ltb work 32768 enough, accepted-exactly bytes N .1 accepted)
     (standing-exact (events bytes) N p q p-store q-store)
+
+-- a number that names no store of an accepted trace is refused with 16, and a trace that is turned away with its number
+pub no-store-refused :
+    (bytes : List ℕ) (N work p q : ℕ) → AcceptedWith bytes N → 32768 ≤ work
+    → (store? (events bytes) N p && store? (events bytes) N q) ≡ false → orderOf bytes work p q ≡ refused 16 0
+unfolding orderOf
+no-store-refused bytes N work p q accepted enough no-store =
+    rw (le-ltb work 32768 enough, accepted-exactly bytes N .1 accepted, no-store)
+
+pub order-refused :
+    (bytes : List ℕ) (k e work p q : ℕ) → TurnedAwayWith bytes k e → 32768 ≤ work
+    → orderOf bytes work p q ≡ refused k e
+unfolding orderOf
+order-refused bytes k e work p q turned enough =
+    rw (le-ltb work 32768 enough, turned-away-exactly bytes k e .1 turned)
