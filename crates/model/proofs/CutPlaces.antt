@@ -61,5 +61,5 @@ module _ (ev : ℕ → Event) (N : ℕ) (accepted : Accepted ev N) where
 pub cut-at : (c : Choice) (j t : ℕ) → 1 ≤ j → j ≤ 7 → t < 8 → getD (cutOf c) (8 * (j - 1) + t) 0 ≡ c j t
 unfolding cutOf
 cut-at c j t from-1 to-7 there =
-    tabulate-at 56 (λ i. c (i / 8 + 1) (i % 8)) (8 * (j - 1) + t) (omega arith)
+    tabulate-at 56 (λ i. c (i / 8 + 1) (i % 8)) (8 * (j - 1) + t) 0 (omega arith)
     ∙ ap₂ c (omega arith) (omega arith)

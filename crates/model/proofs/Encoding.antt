@@ -6,7 +6,7 @@ use native.Mathlib.Omega.{arith}
 use mathlib.Core.Path.{_≡_, refl, sym, ap, _∙_, fun-ext}
 use mathlib.Core.Bool.{Bool, true, false, cond, not}
 use mathlib.Core.Logic.{_⊎_, inl, inr}
-use mathlib.Core.List.{List, [], _∷_, _++_}
+use mathlib.Core.List.{List, [], _++_}
 use lib.ListN.{length, drop, length-drop, List·getD-eq-default}
 use lib.Seq.{drop-drop, drop-cons, drop-length, drop-append-seam}
 use lib.Dec.{eqb, ltb}
@@ -24,7 +24,7 @@ use Rattle.record.proofs.Starts.{start-inside, start-mono, read-at, read-past, 
 use Rattle.model.specs.Search.{some, first}
 use Rattle.model.specs.Trace.{traceOf}
 use Rattle.model.specs.Rules.{refusal}
-use Rattle.model.specs.Reading.{events, refusalAt, endsAt, Reading, accepted, turnedAway, readingOf}
+use Rattle.model.specs.Reading.{events, encode, refusalAt, endsAt, Reading, accepted, turnedAway, readingOf}
 use Rattle.model.specs.Reading.{AcceptedWith, TurnedAwayWith}
 use Rattle.model.specs.Answers as Answers
 use Rattle.model.specs.Verdict.{rulingOf}
@@ -32,12 +32,7 @@ use Rattle.model.specs.Judge.{ruledAnswer, ruledCut, readingAnswer, read
 use Rattle.model.proofs.Searching.{false-true, test, parts, less?, →some, First, first-is}
 use Rattle.model.proofs.TurnedAway.{accepted-exactly, turned-away-exactly}
 
--- ---- the bytes of a list of events, and the definitions of a trace as a list
-
--- the records of the events, one after the other
-unfoldable pub encode : List Event → List ℕ
-encode [] = []
-encode (x ∷ xs) = recordOf x ++ encode xs
+-- ---- the definitions of a trace as a list of events
 
 -- each field of each event is a two-byte number
 pub record AllTwoByte (xs : List Event) : Type 0 where

@@ -43,6 +43,7 @@ pub mod Queries
 pub mod Demanded
 pub mod CutPlaces
 pub mod Encoding
+pub mod AcceptedBytes
 pub mod Sessions
 pub mod Cases
 pub mod NoTrace

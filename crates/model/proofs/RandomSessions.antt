@@ -19,7 +19,8 @@ use Rattle.model.specs.Verdict.{forbids?, observes?, forbidden?, observe
 use Rattle.model.specs.Verdict.{loadOf, missingOf, observedOf, rulingOf}
 use Rattle.model.specs.Answers.{refused, robust, broken, contradiction, flush}
 use Rattle.model.specs.Answers.{tabulate, cutOf, sum, shareOf}
-use Rattle.model.proofs.Encoding.{encode, readingEvents}
+use Rattle.model.specs.Reading.{encode}
+use Rattle.model.proofs.Encoding.{readingEvents}
 use Rattle.model.proofs.Sessions.{lent, zeros, Outcome, outcomeOf, outcomeOfEvents, outcome-all}
 
 -- the bytes

@@ -14,9 +14,10 @@ use Rattle.record.specs.Fields.{columns, fieldsOf, TwoByte}
 use Rattle.record.proofs.Computed.{every, every-at, every-each}
 use Rattle.model.specs.Trace.{traceOf}
 use Rattle.model.specs.Answers.{Answer}
+use Rattle.model.specs.Reading.{encode}
 use Rattle.model.specs.Judge.{judgeOf, cutAfter}
 use Rattle.model.proofs.Searching.{parts}
-use Rattle.model.proofs.Encoding.{encode, AllTwoByte, twoByte?, readingEvents, answerEvents, cutEvents}
+use Rattle.model.proofs.Encoding.{AllTwoByte, twoByte?, readingEvents, answerEvents, cutEvents}
 use Rattle.model.proofs.Encoding.{same-reading, same-answer, same-cut}
 
 -- a cut buffer of 56 sevens, lent, so that one that is untouched can be told from one that is filled

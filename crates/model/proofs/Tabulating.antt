@@ -1,14 +1,14 @@
--- Lists of counts, number by number, and their sums. Assumes nothing.
+-- Lists made number by number, and sums of such lists of counts. Assumes nothing.
 use Prim.Native.Nat.{ℕ, zero, suc, _+_, _≤_, _<_}
 use native.Mathlib.Numerals.{add-one}
 use native.Mathlib.Omega.{arith}
 use mathlib.Core.Path.{_≡_, refl, _∙_}
 use mathlib.Core.List.{List, [], _∷_, _++_}
-use mathlib.Core.Logic.{_⊎_, inl, inr, _≢_}
-use lib.ListN.{length, length-append, getD, List·getD-append}
-use lib.Seq.{getD-append-seam}
+use mathlib.Core.Logic.{_⊎_, inl, inr}
+use lib.ListN.{length, getD, length-append, List·getD-append}
+use lib.Seq.{getD-at}
 use Rattle.model.specs.Answers.{tabulate, sum}
-use Rattle.model.proofs.Searching.{same?}
+use Rattle.model.proofs.Searching.{less?}
 
 sum-append : (xs : List ℕ) (y : ℕ) → sum (xs ++ (y ∷ [])) ≡ sum xs + y
 unfolding sum
@@ -33,28 +33,26 @@ sum-mono (suc n) f g below =
     )
 
 -- two functions that agree below n give the same list
-pub tabulate-same : (n : ℕ) (f g : ℕ → ℕ) → ((i : ℕ) → i < n → f i ≡ g i) → tabulate n f ≡ tabulate n g
+pub tabulate-same : {A : Type 0} (n : ℕ) (f g : ℕ → A) → ((i : ℕ) → i < n → f i ≡ g i) → tabulate n f ≡ tabulate n g
 unfolding tabulate
 tabulate-same zero f g same = refl
 tabulate-same (suc n) f g same =
     rw (same n (omega arith), tabulate-same n f g (λ i below. same i (omega arith)))
 
-pub tabulate-length : (n : ℕ) (f : ℕ → ℕ) → length (tabulate n f) ≡ n
+pub tabulate-length : {A : Type 0} (n : ℕ) (f : ℕ → A) → length (tabulate n f) ≡ n
 unfolding tabulate
 tabulate-length zero f = refl
 tabulate-length (suc n) f = omega (arith, length-append (tabulate n f) (f n ∷ []), tabulate-length n f)
 
-pub tabulate-at : (n : ℕ) (f : ℕ → ℕ) (i : ℕ) → i < n → getD (tabulate n f) i 0 ≡ f i
+pub tabulate-at : {A : Type 0} (n : ℕ) (f : ℕ → A) (i : ℕ) (d : A) → i < n → getD (tabulate n f) i d ≡ f i
 unfolding tabulate
-tabulate-at zero f i inside = absurd (omega arith)
-tabulate-at (suc n) f i inside = by-place (λ earlier. tabulate-at n f i earlier) (same? i n)
+tabulate-at zero f i d below = absurd (omega arith)
+tabulate-at (suc n) f i d below = by-order (less? i n) (tabulate-at n f i d)
   where
-    last-one : getD (tabulate (suc n) f) n 0 ≡ f n
-    last-one = rw (tabulate-length n f) at (getD-append-seam (tabulate n f) (f n) [] 0)
-
-    by-place :
-        (i < n → getD (tabulate n f) i 0 ≡ f i) → (i ≡ n) ⊎ (i ≢ n) → getD (tabulate (suc n) f) i 0 ≡ f i
-    by-place before (inl is) = rw (is, last-one)
-    by-place before (inr differs) =
-        List·getD-append (tabulate n f) (f n ∷ []) 0 i (omega (arith, tabulate-length n f))
-        ∙ before (omega arith)
+    by-order :
+        (i < n) ⊎ (n ≤ i) → (i < n → getD (tabulate n f) i d ≡ f i) → getD (tabulate n f ++ (f n ∷ [])) i d ≡ f i
+    by-order (inl earlier) rest =
+        List·getD-append (tabulate n f) (f n ∷ []) d i (rw (tabulate-length n f) earlier) ∙ rest earlier
+    by-order (inr last) rest =
+        let is : i ≡ n = omega arith in
+        rw is (getD-at (tabulate n f) (f n) [] d n (tabulate-length n f))

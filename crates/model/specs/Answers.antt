@@ -14,8 +14,8 @@ use Rattle.model.specs.declared.Order.the-variants as order
 
 -- ---- the share and the cut
 
--- the numbers f 0 to f (n - 1)
-unfoldable pub tabulate : ℕ → (ℕ → ℕ) → List ℕ
+-- f 0 to f (n - 1)
+unfoldable pub tabulate : {A : Type 0} → ℕ → (ℕ → A) → List A
 tabulate zero f = []
 tabulate (suc n) f = tabulate n f ++ (f n ∷ [])
 

@@ -2,17 +2,19 @@
 use Prim.Native.Nat.{ℕ, suc, _<_}
 use mathlib.Core.Path.{_≡_}
 use mathlib.Core.Logic.{_≢_}
-use mathlib.Core.List.{List}
+use mathlib.Core.List.{List, [], _∷_, _++_}
 use mathlib.Core.Bool.{Bool, false, cond, _&&_, not}
 use lib.ListN.{length}
 use lib.Dec.{eqb, ltb}
 use Rattle.record.specs.declared.events.Event.{Event}
 use Rattle.record.specs.declared.events.Event.the-variants.{Crash}
 use Rattle.record.specs.Answers.{Answer, refused, event, wrote}
+use Rattle.record.specs.Events.{recordOf}
 use Rattle.record.specs.Parts.{start}
 use Rattle.record.specs.Reading.{readAt}
 use Rattle.model.specs.Search.{first}
 use Rattle.model.specs.Rules.{refusal}
+use Rattle.model.specs.Answers.{tabulate}
 
 -- the event that the record layer answers, and a crash where it answers none
 abbrev pub eventIn : Answer → Event
@@ -29,6 +31,15 @@ refusalIn (wrote n) = 0
 -- "The first record is a begin and has event number 0; the next are 1, 2 and so on": event number e of a trace's bytes
 unfoldable pub events : List ℕ → ℕ → Event
 events bytes e = eventIn (readAt bytes (start bytes e))
+
+-- the first N of them
+abbrev pub firstEvents : List ℕ → ℕ → List Event
+firstEvents bytes N = tabulate N (events bytes)
+
+-- and back: the bytes of a trace with these events, their records one after the other
+unfoldable pub encode : List Event → List ℕ
+encode [] = []
+encode (e ∷ es) = recordOf e ++ encode es
 
 -- what turns record number e away, and 0 if nothing does: "per record length under 2, 2, 3, wrong length", then the
 -- rules for its event. "A record that can't be read ends the judging there with its refusal." Where the bytes end there
