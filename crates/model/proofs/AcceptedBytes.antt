@@ -25,11 +25,12 @@ use Rattle.record.proofs.Shapes.{made}
 use Rattle.record.proofs.RoundTrips.{AllBytes, read-write}
 use Rattle.record.proofs.Starts.{read-at, read-past, from-event}
 use Rattle.model.specs.Trace.{traceOf}
+use Rattle.model.specs.Rules.{Accepted}
 use Rattle.model.specs.Answers.{tabulate}
 use Rattle.model.specs.Reading.{events, firstEvents, encode, AcceptedWith}
 use Rattle.model.proofs.Tabulating.{tabulate-length, tabulate-at}
-use Rattle.model.proofs.TurnedAway.{Passed, passed→}
-use Rattle.model.proofs.Encoding.{AllTwoByte}
+use Rattle.model.proofs.TurnedAway.{Passed, passed→, accepted-events}
+use Rattle.model.proofs.Encoding.{AllTwoByte, same-events}
 
 -- ---- bytes and fields
 
@@ -118,3 +119,11 @@ module _ (bytes : List ℕ) (all-bytes : AllBytes bytes) where
 
     pub accepted-two-byte : AllTwoByte (firstEvents bytes N)
     accepted-two-byte = first-two-byte N all-passed
+
+    -- the list of its events is an accepted trace
+    pub accepted-list : Accepted (traceOf (firstEvents bytes N)) (length (firstEvents bytes N))
+    accepted-list =
+        let same : events bytes ≡ traceOf (firstEvents bytes N) =
+        ap events accepted-encoded ∙ same-events (firstEvents bytes N) accepted-two-byte
+        in
+        rw (sym same, tabulate-length N (events bytes)) (accepted-events bytes N accepted)

@@ -23,7 +23,7 @@ use Rattle.record.proofs.RoundTrips.{write-read}
 use Rattle.record.proofs.Starts.{start-inside, start-mono, read-at, read-past, read-past-end, read-grows}
 use Rattle.model.specs.Search.{some, first}
 use Rattle.model.specs.Trace.{traceOf}
-use Rattle.model.specs.Rules.{refusal}
+use Rattle.model.specs.Rules.{refusal, Accepted}
 use Rattle.model.specs.Reading.{events, encode, refusalAt, endsAt, Reading, accepted, turnedAway, readingOf}
 use Rattle.model.specs.Reading.{AcceptedWith, TurnedAwayWith}
 use Rattle.model.specs.Answers as Answers
@@ -148,12 +148,16 @@ module _ (xs : List Event) (small : AllTwoByte xs) where
           let grows = read-grows s e (traceOf xs e) (start s (suc e)) (is-read e (found .below)) in
           absurd (omega (arith, start-inside s (suc e)))
 
-  accepted-there : 0 < length xs → some (length xs) (turned? xs) ≡ false → AcceptedWith s (length xs)
-  accepted-there some-event none = record {
-    some-record = some-event;
-    all-pass = λ e l. same-refusal e l ∙ passes e (test (turned? xs e)) l;
+  pub encoded-accepted : Accepted (traceOf xs) (length xs) → AcceptedWith s (length xs)
+  encoded-accepted is-accepted = record {
+    some-record = is-accepted .some-record;
+    all-pass = λ e l. same-refusal e l ∙ is-accepted .passes e l;
     ends = ends-behind;
   }
+
+  accepted-there : 0 < length xs → some (length xs) (turned? xs) ≡ false → AcceptedWith s (length xs)
+  accepted-there some-event none =
+      encoded-accepted (record { some-record = some-event; passes = λ e l. passes e (test (turned? xs e)) l })
     where
       passes : (e : ℕ) → (turned? xs e ≡ true) ⊎ (turned? xs e ≡ false) → e < length xs → refusal (traceOf xs) e ≡ 0
       passes e (inl turned) l = false-true (sym none ∙ →some (length xs) (turned? xs) e l turned)

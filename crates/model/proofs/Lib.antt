@@ -1,8 +1,9 @@
 -- Laws and theorems about the definitions. The theorems that others cite: `clock-is-happens-before` (Clocks),
 -- `before-committed` (Committed), `exact`, `unique`, `broken-stays`, `named-load-counts` (Exactness), `min-explains`,
--- `max-explains` (Lattice), `explains-is-replay` (Replay), `flush-neutral` (FlushNeutral), `accepted-exactly`,
--- `turned-away-exactly` (TurnedAway), `ordered-as-demanded` (Queries), `judged-as-demanded` (Demanded),
--- `cases-1-to-11` (Cases), `refusals-1-to-5` (NoTrace) and `random-sessions` (RandomSessions).
+-- `max-explains` (Lattice), `explains-is-replay` (Replay), `accepted-exactly`, `turned-away-exactly` (TurnedAway),
+-- `ordered-as-demanded` (Queries), `judged-as-demanded` (Demanded), `accepted-encoded` (AcceptedBytes),
+-- `flushes-move-no-verdict` (FlushNeutral), `cases-1-to-11` (Cases), `refusals-1-to-5` (NoTrace) and `random-sessions`
+-- (RandomSessions).
 pub mod Searching
 pub mod Induction
 pub mod Tabulating
@@ -36,14 +37,14 @@ pub mod EmbeddedChoices
 pub mod EmbeddedRuling
 pub mod Taking
 pub mod Removing
-pub mod FlushNeutral
-pub mod FlushRuling
 pub mod TurnedAway
 pub mod Queries
 pub mod Demanded
 pub mod CutPlaces
 pub mod Encoding
 pub mod AcceptedBytes
+pub mod RemovedBytes
+pub mod FlushNeutral
 pub mod Sessions
 pub mod Cases
 pub mod NoTrace

@@ -15,7 +15,7 @@ use Rattle.record.specs.declared.events.Event.the-variants.{Crash, SkipOn, Skip
 use Rattle.record.specs.Events.{kindOf}
 use Rattle.record.specs.Fields.{fieldsOf}
 use Rattle.model.specs.Trace.{traceOf, thread, location, source, issue?, commit?, load?, begin?, skipOn?}
-use Rattle.model.specs.Trace.{skipOff?, threads, locations}
+use Rattle.model.specs.Trace.{skipOff?, crash?, threads, locations}
 use Rattle.model.specs.Machine.{committed}
 use Rattle.model.specs.Rules.{Accepted}
 use Rattle.model.specs.Choice.{Ruling, robust, broken, finished, Exact}
@@ -26,7 +26,7 @@ use Rattle.model.proofs.Searching.{same?, less?, test, false-true, excl
 use Rattle.model.proofs.Roles.{Quiet}
 use Rattle.model.proofs.Acceptance.{begins, From, from-own, from-commit, from-past, source-from}
 use Rattle.model.proofs.StorePlaces.{committed-store}
-use Rattle.model.proofs.Taking.{kept-none, number-kept, taking, event-there, length-kept}
+use Rattle.model.proofs.Taking.{kept-none, number-kept, Inside, taking, event-there, length-kept}
 use Rattle.model.proofs.Numberings.{number-zero, number-injective}
 use Rattle.model.proofs.EmbeddedMachine.{committed-at}
 use Rattle.model.proofs.EmbeddedRules.{accepted-part}
@@ -94,22 +94,23 @@ carry-alike f (broken load missing observed) = refl
 -- ---- the embedding
 
 module _
-    (out? : Event → Bool) (quiet : (ev : ℕ → Event) (e : ℕ) → out? (ev e) ≡ true → Quiet ev e)
-    (es : List Event) (accepted : Accepted (traceOf es) (length es)) where
-  -- the trace, and the trace without those events
+    (es : List Event) (accepted : Accepted (traceOf es) (length es))
+    (out? : ℕ → Bool) (quiet : (n : ℕ) → out? n ≡ true → Quiet (traceOf es) n) where
+  -- the trace, and the trace without those records
   abbrev whole : ℕ → Event
   whole = traceOf es
 
   abbrev short : ℕ → Event
   short = traceOf (without out? es)
 
-  crash-stays : out? Crash ≡ false
-  crash-stays = excluded (out? Crash) true (λ out. quiet (λ n. Crash) 0 out .no-crash) refl
+  -- past the end there are crashes
+  pub inside : Inside out? es
+  inside n past =
+      excluded (out? n) (crash? whole n) (λ out. quiet n out .no-crash) (rw (List·getD-eq-default es Crash past))
 
-  first-stays : out? (whole 0) ≡ false
+  pub first-stays : out? 0 ≡ false
   first-stays =
-      excluded (out? (whole 0)) (begin? whole 0) (λ out. quiet whole 0 out .no-begin)
-      (begins whole (length es) accepted)
+      excluded (out? 0) (begin? whole 0) (λ out. quiet 0 out .no-begin) (begins whole (length es) accepted)
 
   whole-finds : Finds whole
   whole-finds = record {
@@ -136,23 +137,23 @@ module _
       source-store e loads some (inr past) = false-true (rw (List·getD-eq-default es Crash past) at loads)
 
   -- the source of an event stays: it is a store, or event 0
-  source-stays : (n : ℕ) → out? (whole (source whole n)) ≡ false
+  source-stays : (n : ℕ) → out? (source whole n) ≡ false
   source-stays n = by-source (same? (source whole n) 0) (test (load? whole n))
     where
-      from-none : source whole n ≡ 0 → out? (whole (source whole n)) ≡ false
+      from-none : source whole n ≡ 0 → out? (source whole n) ≡ false
       from-none none = rw none first-stays
 
       by-source :
           (source whole n ≡ 0) ⊎ (source whole n ≢ 0) → (load? whole n ≡ true) ⊎ (load? whole n ≡ false)
-          → out? (whole (source whole n)) ≡ false
+          → out? (source whole n) ≡ false
       by-source (inl none) load = from-none none
       by-source (inr some) (inr other) = from-none (no-source (whole n) other)
       by-source (inr some) (inl loads) =
-          excluded (out? (whole (source whole n))) (issue? whole (source whole n))
-          (λ out. quiet whole (source whole n) out .no-issue) (whole-finds .source-store n loads some)
+          excluded (out? (source whole n)) (issue? whole (source whole n))
+          (λ out. quiet (source whole n) out .no-issue) (whole-finds .source-store n loads some)
 
-  abbrev numbering : Numbering
-  numbering = taking out? crash-stays es first-stays
+  abbrev pub numbering : Numbering
+  numbering = taking out? es inside first-stays
 
   -- event e of those that stay is the event with its number, renumbered
   there : (e : ℕ) → Renumbered (kept out? es) (whole (number out? es e)) (short e)
@@ -172,7 +173,7 @@ module _
     same = same-role;
     thread-same = λ e plays. there e .thread-same;
     thread-own = λ e plays. refl;
-    foreign = λ n out plays. false-true (sym (none n (quiet whole n out)) ∙ plays);
+    foreign = λ n out plays. false-true (sym (none n (quiet n out)) ∙ plays);
   }
 
   abbrev embedding : Embedding everything everything short whole
@@ -186,7 +187,7 @@ module _
     loading = role load? (λ e. rw (there e .kind-same)) (λ n none. none .no-load);
     committing = role commit? (λ e. rw (there e .kind-same)) (λ n none. none .no-commit);
     crash-same = λ e. rw (there e .kind-same);
-    crash-stays = λ n out. quiet whole n out .no-crash;
+    crash-stays = λ n out. quiet n out .no-crash;
     store-location = λ e store. there e .location-same;
     load-location = λ e loads. there e .location-same;
     location-own = λ e loads. refl;
@@ -221,15 +222,15 @@ module _
 
   apart : Apart embedding
   apart = record {
-    store-apart = λ n out store. false-true (sym (quiet whole n out .no-issue) ∙ store);
-    commit-apart = λ n out commits. false-true (sym (quiet whole n out .no-commit) ∙ commits);
+    store-apart = λ n out store. false-true (sym (quiet n out .no-issue) ∙ store);
+    commit-apart = λ n out commits. false-true (sym (quiet n out .no-commit) ∙ commits);
     finds = short-finds;
   }
 
   cover : Cover embedding embedding
   cover = record {
-    each-store = λ p store. inl (excluded (out? (whole p)) (issue? whole p) (λ out. quiet whole p out .no-issue) store);
-    each-load = λ l loads. inl (excluded (out? (whole l)) (load? whole l) (λ out. quiet whole l out .no-load) loads);
+    each-store = λ p store. inl (excluded (out? p) (issue? whole p) (λ out. quiet p out .no-issue) store);
+    each-load = λ l loads. inl (excluded (out? l) (load? whole l) (λ out. quiet l out .no-load) loads);
     each-thread = λ u. inl refl;
   }
 

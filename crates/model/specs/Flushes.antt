@@ -1,61 +1,111 @@
--- A trace with its flush records taken out. Demand 2: "in an accepted trace flush records never move a verdict, apart
--- from shifting event numbers". Here is what that says, and in proofs/FlushNeutral.antt that it holds: the trace
--- `withoutFlushes` has the ruling of the whole trace, apart from event numbers, by which `carry` shifts it.
-use Prim.Native.Nat.{ℕ, zero, suc}
-use mathlib.Core.Bool.{Bool, cond, _||_}
+-- A trace with flush records taken out. Demand 2: "in an accepted trace flush records never move a verdict, apart from
+-- shifting event numbers". Here is what that says, and in proofs/FlushNeutral.antt that it holds: the answer to the
+-- whole trace is the answer to the trace without them, `shifted`.
+-- In order: shifted event numbers; records taken out; flushes; sfences.
+use Prim.Native.Nat.{ℕ, zero, suc, _+_, _-_}
+use mathlib.Core.Path.{_≡_}
+use mathlib.Core.Bool.{Bool, true, cond, _||_}
 use mathlib.Core.List.{List, [], _∷_}
+use lib.ListN.{length}
 use lib.Dec.{eqb}
 use Rattle.record.specs.declared.events.Event.{Event}
 use Rattle.record.specs.declared.events.Event.the-variants.{Load}
 use Rattle.record.specs.Events.{kindOf}
 use Rattle.record.specs.Fields.{fieldsOf}
+use Rattle.model.specs.Trace.{traceOf}
 use Rattle.model.specs.Choice.{Ruling, robust, broken}
+use Rattle.model.specs.Answers as answers
+use Rattle.model.specs.Judge.{judgeOf, cutAfter}
 
--- "apart from shifting event numbers": a ruling with its event numbers shifted. The choice stays, and so the cut.
+-- ---- "apart from shifting event numbers"
+
+-- from the ruling of the trace without the records to that of the whole trace: each event by its number there, given
+-- by f. The choice stays, and so the cut.
 abbrev pub carry : (ℕ → ℕ) → Ruling → Ruling
 carry f (robust c) = robust c
 carry f (broken load missing observed) = broken (f load) (f missing) (f observed)
 
--- an event with its source renumbered, if it is a load
+-- from the answer to the trace without the records to that to the whole trace, which has n records more: the share and
+-- the kind stay, and so does a refusal, which an accepted trace only gets for its buffers
+abbrev pub shifted : (ℕ → ℕ) → ℕ → answers.Answer → answers.Answer
+shifted f n (answers.refused k e) = answers.refused k e
+shifted f n (answers.robust events share) = answers.robust (events + n) share
+shifted f n (answers.broken events load missing observed kind) =
+    answers.broken (events + n) (f load) (f missing) (f observed) kind
+
+-- the verdict on the bytes `whole` is that on the bytes `short`, apart from event numbers, whatever buffers are lent:
+-- event e of the short trace is event f e of the whole one, which has n records more
+pub record SameVerdict (f : ℕ → ℕ) (n : ℕ) (whole short : List ℕ) : Type 0 where
+  pub answer : (work cut : ℕ) → judgeOf whole work cut ≡ shifted f n (judgeOf short work cut)
+  pub cut-buffer : (work : ℕ) (cut : List ℕ) → cutAfter whole work cut ≡ cutAfter short work cut
+
+-- ---- records taken out
+
+-- `out?` names the records that are taken out by their numbers; past the end of the trace nothing is taken out. The
+-- WHOLE trace has all the records, the SHORT one those that stay, numbered afresh. An example, record 1 taken out:
+--
+--   number in the whole trace   0 begin   1 clwb   2 issue   3 commit   4 load from 2
+--   number in the short trace   0 begin            1 issue   2 commit   3 load from 1
+--
+--   kept, whole to short        0 to 0    1 to 1   2 to 1    3 to 2     4 to 3
+--   number, short to whole      0 to 0             1 to 2    2 to 3     3 to 4
+--
+-- `example-kept`, `example-number` and `example-without` of proofs/Taking.antt compute it.
+
+-- what is taken out behind the first record
+abbrev pub later : (ℕ → Bool) → ℕ → Bool
+later out? n = out? (suc n)
+
+-- from the whole trace to the short one: how many of the first n records stay; of a record that stays, its number there
+unfoldable pub kept : (ℕ → Bool) → List Event → ℕ → ℕ
+kept out? [] n = n
+kept out? (e ∷ es) zero = 0
+kept out? (e ∷ es) (suc n) = cond (out? 0) (kept (later out?) es n) (suc (kept (later out?) es n))
+
+-- from the short trace to the whole one: the number there of the record that is number n here
+unfoldable pub number : (ℕ → Bool) → List Event → ℕ → ℕ
+number out? [] n = n
+number out? (e ∷ es) zero = cond (out? 0) (suc (number (later out?) es 0)) 0
+number out? (e ∷ es) (suc n) = suc (number (later out?) es (cond (out? 0) (suc n) n))
+
+-- from an event of the whole trace to the same event of the short one: if it is a load, its source renumbered by f
 unfoldable pub moved : (ℕ → ℕ) → Event → Event
 moved f e = cond (eqb (kindOf e) 4) (Load (fieldsOf e .thread) (fieldsOf e .location) (f (fieldsOf e .source))) e
 
--- ---- the events that pass a test, taken out; past the end of the list nothing is
+-- from the whole trace to the events that stay, their sources renumbered by f
+unfoldable pub staying : (ℕ → Bool) → (ℕ → ℕ) → List Event → List Event
+staying out? f [] = []
+staying out? f (e ∷ es) = cond (out? 0) (staying (later out?) f es) (moved f e ∷ staying (later out?) f es)
 
-module _ (out? : Event → Bool) where
-  -- how many of the first n events stay
-  unfoldable pub kept : List Event → ℕ → ℕ
-  kept [] n = n
-  kept (e ∷ es) zero = 0
-  kept (e ∷ es) (suc n) = cond (out? e) (kept es n) (suc (kept es n))
+-- from the whole trace to the short one
+abbrev pub without : (ℕ → Bool) → List Event → List Event
+without out? es = staying out? (kept out? es) es
 
-  -- the number in the whole trace of event n of those that stay
-  unfoldable pub number : List Event → ℕ → ℕ
-  number [] n = n
-  number (e ∷ es) zero = cond (out? e) (suc (number es 0)) 0
-  number (e ∷ es) (suc n) = suc (number es (cond (out? e) (suc n) n))
+-- how many records are taken out of the whole trace
+abbrev pub taken : (ℕ → Bool) → List Event → ℕ
+taken out? es = length es - length (without out? es)
 
-  -- the events that stay, their sources renumbered by f
-  unfoldable pub staying : (ℕ → ℕ) → List Event → List Event
-  staying f [] = []
-  staying f (e ∷ es) = cond (out? e) (staying f es) (moved f e ∷ staying f es)
+-- one record, by its number
+abbrev pub only : ℕ → ℕ → Bool
+only k n = eqb n k
 
-  -- the trace without those events: a source's new number is how many of the events before it stay
-  abbrev pub without : List Event → List Event
-  without es = staying (kept es) es
+-- each record that is taken out passes a test
+pub record TakesOnly (passes? : Event → Bool) (out? : ℕ → Bool) (es : List Event) : Type 0 where
+  pub passes : (n : ℕ) → out? n ≡ true → passes? (traceOf es n) ≡ true
 
 -- ---- flushes: kind 5, clflush, and kind 6, clflushopt or clwb
 
 abbrev pub flush? : Event → Bool
 flush? e = eqb (kindOf e) 5 || eqb (kindOf e) 6
 
+-- all the flush records of a trace
+abbrev pub flushes : List Event → ℕ → Bool
+flushes es n = flush? (traceOf es n)
+
 abbrev pub withoutFlushes : List Event → List Event
-withoutFlushes es = without flush? es
+withoutFlushes es = without (flushes es) es
 
 -- ---- sfences, kind 7, which never move a verdict either
 
 abbrev pub sfence? : Event → Bool
 sfence? e = eqb (kindOf e) 7
-
-abbrev pub withoutSfences : List Event → List Event
-withoutSfences es = without sfence? es

@@ -7,7 +7,7 @@
 --                  `cutAfter` and `orderOf` that 14 and 15 come first; of `readingStanding` that the trace's refusal is
 --                  next; of `store?` and `standing` that then comes 16
 --   Demand
--- and, for theorems that no contract cites, Memory and Flushes.
+-- and, for theorems that no contract cites, Memory, Flushes, and of Reading `firstEvents` and `encode`.
 --
 -- What only computes, and the theorem that says what:
 --   Search         `some`, `firstFrom`, `first`, `most`: proofs/Searching.antt
