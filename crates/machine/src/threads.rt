@@ -85,8 +85,8 @@ pub(crate) fn thread_of(tables: &Tables, t: u16) -> Thread
     }
 }
 
-// The oldest waiting store of thread t becomes `oldest`. Where a store waits already that is `oldest` (`KeepsOldest`), so
-// only an empty queue's number is stored: most issues then do without a store there.
+// The oldest waiting store of thread t becomes `oldest`. Where a store waits already, that is `oldest` (`KeepsOldest`),
+// so only an empty queue's number is stored: most issues then do without a store there.
 fn put_oldest(tables: &mut Tables, t: u16, oldest: u16)
     requires { ⌜ (t < 8) × KeepsOldest (now tables) t oldest ⌝ }
     ensures { λ _. ⌜ now (tables .exit) ≡ putOldest (now (tables .entry)) t oldest ⌝ }

@@ -44,7 +44,8 @@ withBreaking e breaks m = cond breaks (marksOf (set (m .counts) brokenCell e) (m
 module _ (ev : ℕ → Event) where
   -- ---- the loads that count as of an event, one after the other
 
-  -- the loads ks are due yet, none of those before has been recorded as breaking, and b says whether there is a pair so far
+  -- the loads ks are due yet, none of those before has been recorded as breaking, and b says whether there is a pair so
+  -- far
   pub record Part (n : ℕ) (ks : List ℕ) (b : Bool) (m : Marks) : Type 0 where
     pub F : ℕ → Bool
     pub O : ℕ → Bool

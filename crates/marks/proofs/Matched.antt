@@ -40,7 +40,8 @@ use Rattle.marks.proofs.Breaking.{Hit}
 use Rattle.marks.proofs.Noting.{loads-start, says-there, loads-later}
 use Rattle.marks.proofs.Finding.{missing-is, observed-is}
 use Rattle.marks.proofs.Closing.{cut-is, stores-in-is, share-is}
-use Rattle.marks.proofs.EachLoad.{Part, again?, walkedOver, judgedAll, breaksAll, withBreaking, judgedAs, part-all}
+use Rattle.marks.proofs.EachLoad.{Part, again?, walkedOver, judgedAll, breaksAll, withBreaking}
+use Rattle.marks.proofs.EachLoad.{judgedAs, part-all}
 
 module _ (ev : ℕ → Event) where
   -- no load has broken the trace, and one has
@@ -52,7 +53,8 @@ module _ (ev : ℕ → Event) where
   }
 
   match-broken :
-      (n load : ℕ) (m : Marks) → brokenIn (m .counts) ≡ load → load ≢ 0 → load < n → BrokenAt ev load m → MarksMatch ev n m
+      (n load : ℕ) (m : Marks) → brokenIn (m .counts) ≡ load → load ≢ 0 → load < n → BrokenAt ev load m
+      → MarksMatch ev n m
   match-broken n load m is-load some early broken-at = record {
     none-yet = λ none. absurd (some (sym is-load ∙ none));
     early = λ _. rw is-load early;
@@ -282,11 +284,12 @@ module _ (ev : ℕ → Event) where
       rulingOf ev N ≡ broken load missing (observedBy l (m .flags) (suc load) missing)
   broken-at-ruling N l m accepted rows matching some =
       let load = brokenIn (m .counts) in
-      let broken-at = matching .broken-at some in
+      let broke = matching .broken-at some in
       let first-rows = rows-earlier (suc load) N l (matching .early some) rows in
-      let missing = missing-is ev (suc load) (broken-at .accepted) l first-rows m (broken-at .judging) in
-      let observed = observed-is ev (suc load) (broken-at .accepted) l first-rows m (broken-at .judging) (broken-at .pair) in
-      rw (missing, observed) (broken-ruling ev N load accepted (matching .early some) (broken-at .no-pair-before) (broken-at .pair))
+      let missing = missing-is ev (suc load) (broke .accepted) l first-rows m (broke .judging) in
+      let observed = observed-is ev (suc load) (broke .accepted) l first-rows m (broke .judging) (broke .pair) in
+      rw (missing, observed)
+      (broken-ruling ev N load accepted (matching .early some) (broke .no-pair-before) (broke .pair))
 
   -- none did
   pub record RobustEnd (N : ℕ) (m : Marks) : Type 0 where

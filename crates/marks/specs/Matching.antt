@@ -1,5 +1,5 @@
--- What the marks say after n events. While no pair is found (`Unbroken`), they say what the definitions say of the first n
--- events. Behind a counted load that breaks the trace (`BrokenAt`) they stay those of the events up to it.
+-- What the marks say after n events. While no pair is found (`Unbroken`), they say what the definitions say of the
+-- first n events. Behind a counted load that breaks the trace (`BrokenAt`) they stay those of the events up to it.
 use Prim.Native.Nat.{ℕ, suc, _+_, _*_, _≤_, _<_}
 use mathlib.Core.Path.{_≡_}
 use mathlib.Core.Bool.{Bool, true, false}

@@ -7,8 +7,8 @@ use crate::cells;
 use crate::cells::Flags;
 use crate::cells::Marks;
 
-// Store p is the missing one of a pair: it is forbidden, and in the cut. Its row has its place plus one in the column of
-// its own thread.
+// Store p is the missing one of a pair: it is forbidden, and in the cut. Its row has its place plus one in the column
+// of its own thread.
 fn missing_in(marks: &Marks, flags: &Flags, rows: &[u16], p: u16) -> bool
     ensures { λ r. ⌜ (r
         ≡ missingIn (now (rows .entry)) (marksOf (now (marks .entry)) (now (flags .entry))) p) ⌝ }

@@ -11,7 +11,8 @@ use lib.Dec.{eqb, leb}
 use Rattle.record.specs.declared.events.Event.{Event}
 use Rattle.model.specs.Search.{any, member, last}
 use Rattle.model.specs.Trace.{thread, location, source, issue?, commit?, load?, stretch, commits, place}
-use Rattle.model.specs.Machine.{commitsBefore, committed, commitOf, waiting, commitsHere, current, past, sourceFits}
+use Rattle.model.specs.Machine.{commitsBefore, committed, commitOf, waiting, commitsHere, current, past}
+use Rattle.model.specs.Machine.{sourceFits}
 use Rattle.model.specs.Machine.{skipping, counted, counting, counts}
 use Rattle.model.specs.Choice.{Counted}
 use Rattle.model.specs.Embedding.{Naming, Embedding, Apart}

@@ -252,7 +252,8 @@ module _ (ev : ℕ → Event) where
             c-last : ℕ
             c-last = lastCommit n x
 
-            head : Store ev c-last (stretch ev c-last) (thread ev c-last) (commitsBefore ev c-last) (committed ev c-last)
+            head :
+                Store ev c-last (stretch ev c-last) (thread ev c-last) (commitsBefore ev c-last) (committed ev c-last)
             head =
                 committed-store ev N (lastCommit n x) accepted (omega (arith, lands .early)) (lands .commits)
 

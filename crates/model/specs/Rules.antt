@@ -54,7 +54,8 @@ module _ (ev : ℕ → Event) where
       -- "mfence, queue not empty": "mfence needs an empty queue."
       (mfence? ev n && queued ev n) refuses 11 else
       -- "skip already on, or already off"
-      (skipOn? ev n && skipping ev n (thread ev n) || skipOff? ev n && not (skipping ev n (thread ev n))) refuses 12 else
+      (skipOn? ev n && skipping ev n (thread ev n)
+      || skipOff? ev n && not (skipping ev n (thread ev n))) refuses 12 else
       -- "Flushes and sfence have only their fields checked."
       pass
 
