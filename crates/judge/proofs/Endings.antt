@@ -22,7 +22,7 @@ use Rattle.model.specs.Verdict.{rulingOf}
 use Rattle.model.specs.Reading.{Reading, accepted, turnedAway, events, readingOf, TurnedAwayWith}
 use Rattle.model.specs.Judge.{ruledAnswer, readingAnswer, readingCut, store?, standing, readingStanding}
 use Rattle.model.proofs.Searching.{false-true, same?}
-use Rattle.model.proofs.TurnedAway.{accepted-exactly, turned-away-exactly}
+use Rattle.model.proofs.TurnedAway.{accepted-exactly, turned-away-exactly, accepted-events}
 use Rattle.area.proofs.ReadBack.{up-is}
 use Rattle.machine.specs.Orders.{storeW, orderW}
 use Rattle.machine.specs.Twin.{World}
@@ -90,7 +90,9 @@ module _ (bytes : List ℕ) where
     refused-answers work = record {
       answer = rw is-turned-away refl;
       rows = λ N whole.
-          absurd (no-records N (sym (accepted-exactly bytes N .1 whole) ∙ is-turned-away) (whole .some-record));
+          absurd
+          (no-records N (sym (accepted-exactly bytes N .1 whole) ∙ is-turned-away)
+          (accepted-events bytes N whole .some-record));
     }
       where
         no-records : (N : ℕ) → accepted N ≡ turnedAway k e → suc 0 ≤ N → ⊥

@@ -28,9 +28,9 @@ use Rattle.record.specs.Fields.{fieldsOf}
 use Rattle.record.proofs.Scans.{refusals-some, scan-read, scan-refused}
 use Rattle.record.proofs.Starts.{read-next, read-grows, read-past-end, one-past-end, start-inside}
 use Rattle.model.specs.Rules.{refusal}
-use Rattle.model.specs.Reading.{eventIn, refusalIn, events, refusalAt, endsAt, TurnedAwayWith}
+use Rattle.model.specs.Reading.{eventIn, refusalIn, events, passing, endsAt, recordAt, TurnedAwayWith}
 use Rattle.model.proofs.Searching.{test}
-use Rattle.model.proofs.TurnedAway.{passed→}
+use Rattle.model.proofs.TurnedAway.{passed→, ends-there, unread-there, forbidden-there, passing-there}
 use Rattle.area.specs.Cells.{eventAt}
 use Rattle.machine.specs.Arms.{byKind}
 use Rattle.machine.specs.Twin.{State, World, world, threadAt, started, fitsW}
@@ -129,50 +129,40 @@ module _ (bytes : List ℕ) where
     unread-some : (k e : ℕ) → readAt bytes (start bytes n) ≡ refused k e → k ≢ 0
     unread-some k e is = refusals-some bytes (start bytes n) k e is .0
 
-    unread-number : (k e : ℕ) → readAt bytes (start bytes n) ≡ refused k e → refusalAt bytes n ≡ k
-    unfolding refusalAt
-    unread-number k e is = rw (is, ne-eqb k 0 (unread-some k e is)) refl
-
-    read-number : (x : Event) (next : ℕ) → readAt bytes (start bytes n) ≡ event x next
-        → refusalAt bytes n ≡ refusal (events bytes) n
-    unfolding refusalAt
-    read-number x next is = rw is refl
-
     event-is : (x : Event) (next : ℕ) → readAt bytes (start bytes n) ≡ event x next → events bytes n ≡ x
     unfolding events
     event-is x next is = ap eventIn is
 
     -- ---- a record that is turned away, behind records that pass, whatever the begin said
 
-    module _ (all-pass : (e : ℕ) → e < n → refusalAt bytes e ≡ 0) (no-end : endsAt bytes n ≡ false) where
-      away-by : (k : ℕ) → refusalAt bytes n ≡ k → k ≢ 0 → TurnedAwayWith bytes k n
-      away-by k is some-number =
-          record { earlier-pass = all-pass; number = is; some-number = some-number; no-end = no-end }
-
-      unread-away : (k e : ℕ) → readAt bytes (start bytes n) ≡ refused k e → TurnedAwayWith bytes k n
-      unread-away k e is = away-by k (unread-number k e is) (unread-some k e is)
+    module _ (all-pass : (e : ℕ) → e < n → recordAt bytes e ≡ passing) where
+      unread-away :
+          (k e : ℕ) → endsAt bytes n ≡ false → readAt bytes (start bytes n) ≡ refused k e → TurnedAwayWith bytes k n
+      unread-away k e inside is =
+          record { earlier-pass = all-pass; number = unread-there bytes n k e inside is (unread-some k e is) }
 
       forbidden-away :
           (k : ℕ) (x : Event) (past : ℕ) → readAt bytes (start bytes n) ≡ event x past
           → refusal (events bytes) n ≡ k → k ≢ 0 → TurnedAwayWith bytes k n
-      forbidden-away k x past is-read is some-number = away-by k (read-number x past is-read ∙ is) some-number
+      forbidden-away k x past is-read is some-number =
+          record { earlier-pass = all-pass; number = forbidden-there bytes n x past is-read k is some-number }
 
     -- ---- a record that passes
 
     -- and the records before it with it
     passing-on :
-        (x : Event) (past : ℕ) → ((e : ℕ) → e < n → refusalAt bytes e ≡ 0)
+        (x : Event) (past : ℕ) → ((e : ℕ) → e < n → recordAt bytes e ≡ passing)
         → readAt bytes (start bytes n) ≡ event x past → refusal (events bytes) n ≡ 0
-        → (e : ℕ) → e < suc n → refusalAt bytes e ≡ 0
+        → (e : ℕ) → e < suc n → recordAt bytes e ≡ passing
     passing-on x past earlier is-read passes e inside = by-equality (test (eqb e n))
       where
-        by-equality : (eqb e n ≡ true) ⊎ (eqb e n ≡ false) → refusalAt bytes e ≡ 0
-        by-equality (inl same) = rw (eqb-true e n same) (read-number x past is-read ∙ passes)
+        by-equality : (eqb e n ≡ true) ⊎ (eqb e n ≡ false) → recordAt bytes e ≡ passing
+        by-equality (inl same) = rw (eqb-true e n same) (passing-there bytes n x past is-read passes)
         by-equality (inr differs) = let other : e ≢ n = eqb-false e n differs in earlier e (omega arith)
 
   -- ---- the first record
 
-  none-earlier : (e : ℕ) → e < 0 → refusalAt bytes e ≡ 0
+  none-earlier : (e : ℕ) → e < 0 → recordAt bytes e ≡ passing
   none-earlier e inside = absurd (not-suc-le-zero inside)
 
   began-ended : (k : ℕ) → k ≢ 0 → TurnedAwayWith bytes k 0 → Began bytes (beginEnded k)
@@ -180,7 +170,7 @@ module _ (bytes : List ℕ) where
 
   pub first-unread : (k e : ℕ) → readAt bytes 0 ≡ refused k e → Began bytes (beginEnded k)
   unfolding start
-  first-unread k e is = began-ended k (unread-some 0 k e is) (unread-away 0 none-earlier refl k e is)
+  first-unread k e is = began-ended k (unread-some 0 k e is) (unread-away 0 none-earlier k e refl is)
 
   pub first-forbidden :
       (k : ℕ) (x : Event) (past : ℕ) → readAt bytes 0 ≡ event x past → beginRefusal x ≡ k → k ≢ 0
@@ -188,7 +178,7 @@ module _ (bytes : List ℕ) where
   unfolding start
   first-forbidden k x past is-read is some-number =
       began-ended k some-number
-      (forbidden-away 0 none-earlier refl k x past is-read
+      (forbidden-away 0 none-earlier k x past is-read
       (sym (begin-refusals (events bytes)) ∙ (ap beginRefusal (event-is 0 x past is-read) ∙ is)) some-number)
 
   -- what an accepted begin says
@@ -250,9 +240,10 @@ module _ (bytes : List ℕ) where
     all-read : length bytes ≤ at → AllRead bytes threads locations n tables m work
     all-read past = record {
       accepted = record {
-        some-record = reached .state .limits .accepted .some-record;
         all-pass = reached .all-pass;
-        ends = omega (arith, start-inside bytes n, reached .position);
+        ends =
+            ends-there bytes n (reached .state .limits .accepted .some-record)
+            (omega (arith, start-inside bytes n, reached .position));
       };
       stretch = t .stretch;
       row = t .row;
@@ -269,8 +260,8 @@ module _ (bytes : List ℕ) where
     later-unread k is = record {
       all-read = λ is-1. all-read (one-past-end bytes at 0 (is ∙ ap (λ (i : ℕ). refused i 0) is-1));
       turned-away = λ not-1.
-          unread-away n (reached .all-pass)
-          (still-inside (λ is-1. not-1 (ap refusalIn (sym is ∙ is-1)))) k 0 (read-there (refused k 0) is);
+          unread-away n (reached .all-pass) k 0 (still-inside (λ is-1. not-1 (ap refusalIn (sym is ∙ is-1))))
+          (read-there (refused k 0) is);
     }
 
     later-forbidden :
@@ -280,12 +271,9 @@ module _ (bytes : List ℕ) where
     later-forbidden k tables' m' work' x past is-read is some-number = record {
       all-read = λ is-1. absurd (rule-not-1 w x (is ∙ is-1));
       turned-away = λ _.
-          forbidden-away n (reached .all-pass) (still-inside (λ is-1. no-refusal (sym is-1 ∙ is-read))) k x past
-          (read-there (event x past) is-read) (rule-is x past is-read ∙ is) some-number;
+          forbidden-away n (reached .all-pass) k x past (read-there (event x past) is-read)
+          (rule-is x past is-read ∙ is) some-number;
     }
-      where
-        no-refusal : refused 1 0 ≡ event x past → ⊥
-        no-refusal same = omega (arith, ap refusalIn same)
 
     -- after the machine's step the tables and the work area, and the marks after judging the event
     later-passes :

@@ -9,7 +9,7 @@ use Prim.Native.Nat.{_≤_}
 use Rattle.record.specs.Parts.{start}
 use Rattle.model.specs.declared.Verdict.{Verdict}
 use Rattle.model.specs.Answers.{verdictAnswer}
-use Rattle.model.specs.Reading.{events, refusalAt, readingOf, AcceptedWith, TurnedAwayWith}
+use Rattle.model.specs.Reading.{events, passing, recordAt, readingOf, AcceptedWith, TurnedAwayWith}
 use Rattle.model.specs.Judge.{readingAnswer}
 use Rattle.machine.specs.declared.state.Machine.{Machine}
 use Rattle.machine.specs.Twin.{World, stateOf, world}
@@ -55,7 +55,7 @@ module _ (bytes : List ℕ) where
     -- before record n, which starts at the cursor's position
     pub record Reached (n : ℕ) (t : Cursor) (tables : List ℕ) (m : Marks) (work : List ℕ) : Type 0 where
       pub position : t .at ≡ start bytes n
-      pub all-pass : (e : ℕ) → e < n → refusalAt bytes e ≡ 0
+      pub all-pass : (e : ℕ) → e < n → recordAt bytes e ≡ passing
       pub state : Sim (events bytes) n (worldOf (t .stretch) (t .row) tables work)
       pub loads : MarksMatch (events bytes) n m
 

@@ -29,7 +29,7 @@ use Rattle.model.specs.Rules.{Accepted}
 use Rattle.model.specs.Answers.{tabulate}
 use Rattle.model.specs.Reading.{events, firstEvents, encode, AcceptedWith}
 use Rattle.model.proofs.Tabulating.{tabulate-length, tabulate-at}
-use Rattle.model.proofs.TurnedAway.{Passed, passed→, accepted-events}
+use Rattle.model.proofs.TurnedAway.{Passed, passed→, ended→, accepted-events}
 use Rattle.model.proofs.Encoding.{AllTwoByte, same-events}
 
 -- ---- bytes and fields
@@ -115,7 +115,8 @@ module _ (bytes : List ℕ) (all-bytes : AllBytes bytes) where
     -- ITS EVENTS, ENCODED, ARE ITS BYTES
     pub accepted-encoded : bytes ≡ encode (firstEvents bytes N)
     accepted-encoded =
-        sym (take-all (start bytes N) bytes (omega (arith, accepted .ends))) ∙ front-encoded N all-passed
+        sym (take-all (start bytes N) bytes (omega (arith, ended→ bytes N (accepted .ends) .at-end)))
+        ∙ front-encoded N all-passed
 
     pub accepted-two-byte : AllTwoByte (firstEvents bytes N)
     accepted-two-byte = first-two-byte N all-passed

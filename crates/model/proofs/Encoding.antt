@@ -20,16 +20,17 @@ use Rattle.record.specs.Parts.{start, sizeAt}
 use Rattle.record.specs.Reading.{readFirst, readAt}
 use Rattle.record.proofs.Computed.{every}
 use Rattle.record.proofs.RoundTrips.{write-read}
-use Rattle.record.proofs.Starts.{start-inside, start-mono, read-at, read-past, read-past-end, read-grows}
+use Rattle.record.proofs.Starts.{start-inside, start-mono, read-at, read-past, read-past-end}
 use Rattle.model.specs.Search.{some, first}
 use Rattle.model.specs.Trace.{traceOf}
 use Rattle.model.specs.Rules.{refusal, Accepted}
-use Rattle.model.specs.Reading.{events, encode, refusalAt, endsAt, Reading, accepted, turnedAway, readingOf}
+use Rattle.model.specs.Reading.{events, encode, passing, recordAt, Reading, accepted, turnedAway, readingOf}
 use Rattle.model.specs.Reading.{AcceptedWith, TurnedAwayWith}
 use Rattle.model.specs.Answers as Answers
 use Rattle.model.specs.Verdict.{rulingOf}
 use Rattle.model.specs.Judge.{ruledAnswer, ruledCut, readingAnswer, readingCut}
-use Rattle.model.proofs.Searching.{false-true, test, parts, less?, →some, First, first-is}
+use Rattle.model.proofs.Searching.{false-true, test, less?, →some, First, first-is}
+use Rattle.model.proofs.TurnedAway.{forbidden-there, passing-there, ends-there}
 use Rattle.model.proofs.TurnedAway.{accepted-exactly, turned-away-exactly}
 
 -- ---- the definitions of a trace as a list of events
@@ -123,36 +124,30 @@ module _ (xs : List Event) (small : AllTwoByte xs) where
       by-order e (inl inside) = rw (is-read e inside)
       by-order e (inr past) = rw (nothing-later e past) (sym (List·getD-eq-default xs Crash past))
 
-  same-refusal : (e : ℕ) → e < length xs → refusalAt s e ≡ refusal (traceOf xs) e
-  unfolding refusalAt
-  same-refusal e inside = rw (is-read e inside, same-events)
+  same-refusal : (e : ℕ) → refusal (events s) e ≡ refusal (traceOf xs) e
+  same-refusal e = rw same-events
+
+  passing-record : (e : ℕ) → e < length xs → refusal (traceOf xs) e ≡ 0 → recordAt s e ≡ passing
+  passing-record e inside passes = passing-there s e _ _ (is-read e inside) (same-refusal e ∙ passes)
 
   -- ---- the reading
 
   turned-away-there : (e : ℕ) → First (length xs) (turned? xs) e → TurnedAwayWith s (refusal (traceOf xs) e) e
   turned-away-there e found = record {
-    earlier-pass = λ i l. same-refusal i (omega (arith, found .below)) ∙ passes i (test (turned? xs i)) l;
-    number = same-refusal e (found .below);
-    some-number = eqb-false _ _ (not-true _ (found .passes));
-    no-end = no-end (test (endsAt s e));
+    earlier-pass = λ i l. passing-record i (omega (arith, found .below)) (passes i (test (turned? xs i)) l);
+    number =
+        forbidden-there s e _ _ (is-read e (found .below)) _ (same-refusal e)
+        (eqb-false _ _ (not-true _ (found .passes)));
   }
     where
       passes : (i : ℕ) → (turned? xs i ≡ true) ⊎ (turned? xs i ≡ false) → i < e → refusal (traceOf xs) i ≡ 0
       passes i (inl turned) l = absurd (omega (arith, found .smallest i turned))
       passes i (inr fails) l = eqb-true _ _ (not-false _ fails)
 
-      no-end : (endsAt s e ≡ true) ⊎ (endsAt s e ≡ false) → endsAt s e ≡ false
-      no-end (inr fails) = fails
-      no-end (inl ends) =
-          let at-end = eqb-true (start s e) (length s) (parts (ltb 0 e) _ ends .1) in
-          let grows = read-grows s e (traceOf xs e) (start s (suc e)) (is-read e (found .below)) in
-          absurd (omega (arith, start-inside s (suc e)))
-
   pub encoded-accepted : Accepted (traceOf xs) (length xs) → AcceptedWith s (length xs)
   encoded-accepted is-accepted = record {
-    some-record = is-accepted .some-record;
-    all-pass = λ e l. same-refusal e l ∙ is-accepted .passes e l;
-    ends = ends-behind;
+    all-pass = λ e l. passing-record e l (is-accepted .passes e l);
+    ends = ends-there s (length xs) (is-accepted .some-record) ends-behind;
   }
 
   accepted-there : 0 < length xs → some (length xs) (turned? xs) ≡ false → AcceptedWith s (length xs)

@@ -9,7 +9,7 @@ use Rattle.record.specs.Table.{rowOf}
 use Rattle.record.specs.Fields.{eventOf}
 use Rattle.model.specs.Search.{first, firstFrom}
 use Rattle.model.specs.Rules.{answer, rules}
-use Rattle.model.specs.Reading.{turnedAway, stop, refusalAt, events, readingOf}
+use Rattle.model.specs.Reading.{turnedAway, stop, recordAt, events, readingOf}
 
 -- B, version 1 with one thread and two locations, and the bytes that follow it
 abbrev begun : List ℕ → List ℕ
@@ -32,6 +32,6 @@ pub refusals-1-to-5 :
     map readingOf noTraces
     ≡ turnedAway 1 0 ∷ turnedAway 2 0 ∷ turnedAway 3 1 ∷ turnedAway 4 1 ∷ turnedAway 4 1 ∷ turnedAway 2 1
     ∷ turnedAway 5 1 ∷ turnedAway 1 0 ∷ []
-unfolding readingOf stop refusalAt events first firstFrom answer rules readAt readFirst readFramed frame start sizeAt
+unfolding readingOf stop recordAt events first firstFrom answer rules readAt readFirst readFramed frame start sizeAt
     rowOf eventOf
 refusals-1-to-5 = refl

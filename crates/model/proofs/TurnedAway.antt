@@ -1,188 +1,237 @@
 -- Refusals are exact: a trace's bytes are accepted with N records, or turned away with number k at event e, exactly if
--- document 01's conditions hold, and one of the two holds of all bytes. The search for the first record that is turned
--- away always ends, since each record that is read takes at least four bytes. Assumes nothing.
+-- document 01's conditions hold, and one of the two holds of all bytes. The search for the first number at which no
+-- record passes always ends, since each record that is read takes at least four bytes. Assumes nothing.
+-- In order: what is found at a number, by what reading answers there, and back; the search; the theorem.
 use Prim.Native.Nat.{ℕ, zero, suc, _*_, _≤_, _<_}
 use native.Mathlib.Omega.{arith}
-use mathlib.Core.Path.{_≡_, sym, _∙_}
-use mathlib.Core.Bool.{Bool, true, false, cond, not}
+use mathlib.Core.Path.{_≡_, refl, sym, ap, _∙_}
+use mathlib.Core.Bool.{Bool, true, false, not, and-false}
 use mathlib.Core.Logic.{_⊎_, inl, inr, _≢_, _↔_}
 use mathlib.Core.List.{List}
 use lib.ListN.{length}
 use lib.Dec.{eqb, ltb}
-use borrow.Author.Tests.{eqb-true, eqb-false, eq-eqb, ne-eqb, ltb-true, lt-ltb, not-true, not-false}
+use borrow.Author.Tests.{eqb-true, eq-eqb, ne-eqb, ltb-true, lt-ltb, not-true, not-false}
 use Rattle.record.specs.declared.events.Event.{Event}
-use Rattle.record.specs.Answers.{Answer, event}
+use Rattle.record.specs.Answers.{event, refused}
 use Rattle.record.specs.Parts.{start}
 use Rattle.record.specs.Reading.{readAt}
-use Rattle.record.proofs.Frames.{Answers, an-event, a-refusal}
+use Rattle.record.specs.Tests.{_gives_else_}
+use Rattle.record.proofs.Frames.{clash, Answers, an-event, a-refusal}
 use Rattle.record.proofs.Starts.{start-inside, read-grows, read-at-answers}
 use Rattle.model.specs.Search.{some, first}
 use Rattle.model.specs.Rules.{refusal, Accepted}
-use Rattle.model.specs.Reading.{refusalIn, events, refusalAt, stop, endsAt}
-use Rattle.model.specs.Reading.{accepted, turnedAway, readingOf, AcceptedWith, TurnedAwayWith}
-use Rattle.model.proofs.Searching.{false-true, test, both, parts, less?, →some, First, first-is}
+use Rattle.model.specs.Reading.{refusalIn, events, Found, noRecord, refusedBy, passing, endsAt, recordAt}
+use Rattle.model.specs.Reading.{passing?, stop, accepted, turnedAway, readingAt, readingOf}
+use Rattle.model.specs.Reading.{AcceptedWith, TurnedAwayWith}
+use Rattle.model.proofs.Searching.{false-true, test, parts, less?, →some, First, first-is}
+
+-- ---- what is found is one of three
+
+is-passing : (f : Found) → passing? f ≡ true → f ≡ passing
+is-passing noRecord h = false-true h
+is-passing (refusedBy k) h = false-true h
+is-passing passing h = refl
+
+-- the tests of `recordAt`, which give the numbers k and f
+abbrev tested : Bool → Bool → Bool → ℕ → ℕ → Found
+tested ends unread forbidden k f =
+    ends gives noRecord else unread gives refusedBy k else forbidden gives refusedBy f else passing
+
+none-applies :
+    (ends unread forbidden : Bool) (k f : ℕ) → tested ends unread forbidden k f ≡ passing
+    → (unread ≡ false) × (forbidden ≡ false)
+none-applies true unread forbidden k f h = absurd (clash cc)
+none-applies false true forbidden k f h = absurd (clash cc)
+none-applies false false true k f h = absurd (clash cc)
+none-applies false false false k f h = (refl, refl)
+
+first-applies : (ends unread forbidden : Bool) (k f : ℕ) → tested ends unread forbidden k f ≡ noRecord → ends ≡ true
+first-applies true unread forbidden k f h = refl
+first-applies false true forbidden k f h = absurd (clash cc)
+first-applies false false true k f h = absurd (clash cc)
+first-applies false false false k f h = absurd (clash cc)
 
 module _ (bytes : List ℕ) where
-  -- ---- one record
+  -- ---- what is found at number n, by what reading answers there
 
-  -- record e is read, and its event passes the rules
-  pub record Passed (e : ℕ) : Type 0 where
-    pub x : Event
-    pub next : ℕ
-    pub is-read : readAt bytes (start bytes e) ≡ event x next
-    pub passes : refusal (events bytes) e ≡ 0
+  module _ (n : ℕ) where
+    pub ends-there : 0 < n → start bytes n ≡ length bytes → recordAt bytes n ≡ noRecord
+    unfolding recordAt
+    ends-there some-record ends = simp (lt-ltb 0 n some-record, eq-eqb (start bytes n) (length bytes) ends)
 
-  pub passed→ : (e : ℕ) → refusalAt bytes e ≡ 0 → Passed e
-  unfolding refusalAt
-  passed→ e h = by-answer (read-at-answers bytes (start bytes e)) h
-    where
-      a : Answer
-      a = readAt bytes (start bytes e)
+    -- a record that is read is there
+    not-ended : (x : Event) (next : ℕ) → readAt bytes (start bytes n) ≡ event x next → endsAt bytes n ≡ false
+    not-ended x next is =
+        let inside : start bytes n ≢ length bytes =
+        λ same. omega (arith, read-grows bytes n x next is, start-inside bytes (suc n))
+        in
+        rw (ne-eqb (start bytes n) (length bytes) inside) (and-false (ltb 0 n))
 
-      by-answer :
-          Answers a → cond (eqb (refusalIn a) 0) (refusal (events bytes) e) (refusalIn a) ≡ 0 → Passed e
-      by-answer (an-event x n is) z =
-          let none : refusalIn a ≡ 0 = rw is in
-          record { x = x; next = n; is-read = is; passes = rw (eq-eqb (refusalIn a) 0 none) at z }
-      by-answer (a-refusal k low high is) z =
-          let number : refusalIn a ≡ k = rw is in
-          let some-number : refusalIn a ≢ 0 = λ y. omega arith in
-          let none : refusalIn a ≡ 0 = rw (ne-eqb (refusalIn a) 0 some-number) at z in
-          absurd (some-number none)
+    pub unread-there :
+        (k e : ℕ) → endsAt bytes n ≡ false → readAt bytes (start bytes n) ≡ refused k e → k ≢ 0
+        → recordAt bytes n ≡ refusedBy k
+    unfolding recordAt
+    unread-there k e inside is some-number = rw (inside, is, ne-eqb k 0 some-number)
+
+    module _ (x : Event) (next : ℕ) (is : readAt bytes (start bytes n) ≡ event x next) where
+      pub forbidden-there :
+          (k : ℕ) → refusal (events bytes) n ≡ k → k ≢ 0 → recordAt bytes n ≡ refusedBy k
+      unfolding recordAt
+      forbidden-there k forbids some-number = rw (not-ended x next is, is, forbids, ne-eqb k 0 some-number)
+
+      pub passing-there : refusal (events bytes) n ≡ 0 → recordAt bytes n ≡ passing
+      unfolding recordAt
+      passing-there passes = rw (not-ended x next is, is, passes)
+
+    -- ---- and back
+
+    -- record n is read, and its event passes the rules
+    pub record Passed : Type 0 where
+      pub x : Event
+      pub next : ℕ
+      pub is-read : readAt bytes (start bytes n) ≡ event x next
+      pub passes : refusal (events bytes) n ≡ 0
+
+    -- the bytes end right behind the first n records
+    pub record Ended : Type 0 where
+      pub some-record : 0 < n
+      pub at-end : start bytes n ≡ length bytes
+
+    abbrev some? : ℕ → Bool
+    some? k = not (eqb k 0)
+
+    abbrev unread : ℕ
+    unread = refusalIn (readAt bytes (start bytes n))
+
+    abbrev forbidden : ℕ
+    forbidden = refusal (events bytes) n
+
+    pub passed→ : recordAt bytes n ≡ passing → Passed
+    unfolding recordAt
+    passed→ h =
+        let (is-read, passes) = none-applies (endsAt bytes n) (some? unread) (some? forbidden) unread forbidden h in
+        by-answer (eqb-true unread 0 (not-false _ is-read)) (eqb-true forbidden 0 (not-false _ passes))
+        (read-at-answers bytes (start bytes n))
+      where
+        by-answer : unread ≡ 0 → forbidden ≡ 0 → Answers (readAt bytes (start bytes n)) → Passed
+        by-answer is-read passes (an-event x next is) =
+            record { x = x; next = next; is-read = is; passes = passes }
+        by-answer is-read passes (a-refusal k low high is) =
+            let number : unread ≡ k = rw is in
+            absurd (omega arith)
+
+    pub ended→ : recordAt bytes n ≡ noRecord → Ended
+    unfolding recordAt
+    ended→ h =
+        let ends = first-applies (endsAt bytes n) (some? unread) (some? forbidden) unread forbidden h in
+        let both-hold = parts (ltb 0 n) _ ends in
+        record { some-record = ltb-true 0 n (both-hold .0); at-end = eqb-true _ _ (both-hold .1) }
 
   -- ---- the search ends
 
   -- records that all pass take four bytes each
-  four-bytes-each : (n : ℕ) → ((e : ℕ) → e < n → refusalAt bytes e ≡ 0) → n * 4 ≤ start bytes n
+  pub four-bytes-each : (n : ℕ) → ((e : ℕ) → e < n → recordAt bytes e ≡ passing) → n * 4 ≤ start bytes n
   four-bytes-each zero all = omega arith
   four-bytes-each (suc n) all =
       let p = passed→ n (all n (omega arith)) in
       let before = four-bytes-each n (λ e l. all e (omega arith)) in
       omega (arith, read-grows bytes n (p .x) (p .next) (p .is-read))
 
-  turns-away : ℕ → Bool
-  turns-away e = not (eqb (refusalAt bytes e) 0)
+  stops? : ℕ → Bool
+  stops? e = not (passing? (recordAt bytes e))
 
-  passes-unless : (e : ℕ) → turns-away e ≡ false → refusalAt bytes e ≡ 0
-  unfolding turns-away
-  passes-unless e h = eqb-true _ _ (not-false _ h)
+  passes-unless : (e : ℕ) → stops? e ≡ false → recordAt bytes e ≡ passing
+  unfolding stops?
+  passes-unless e h = is-passing (recordAt bytes e) (not-false _ h)
 
-  some-turned-away : some (suc (length bytes)) turns-away ≡ true
-  some-turned-away = by-search (test (some (suc (length bytes)) turns-away))
+  some-stops : some (suc (length bytes)) stops? ≡ true
+  some-stops = by-search (test (some (suc (length bytes)) stops?))
     where
       by-search :
-          (some (suc (length bytes)) turns-away ≡ true) ⊎ (some (suc (length bytes)) turns-away ≡ false)
-          → some (suc (length bytes)) turns-away ≡ true
+          (some (suc (length bytes)) stops? ≡ true) ⊎ (some (suc (length bytes)) stops? ≡ false)
+          → some (suc (length bytes)) stops? ≡ true
       by-search (inl found) = found
       by-search (inr none) =
           absurd (omega (arith, four-bytes-each (suc (length bytes)) all, start-inside bytes (suc (length bytes))))
         where
-          all : (e : ℕ) → e < suc (length bytes) → refusalAt bytes e ≡ 0
-          all e l = by-test (test (turns-away e))
+          all : (e : ℕ) → e < suc (length bytes) → recordAt bytes e ≡ passing
+          all e l = by-test (test (stops? e))
             where
-              by-test : (turns-away e ≡ true) ⊎ (turns-away e ≡ false) → refusalAt bytes e ≡ 0
-              by-test (inl h) = false-true (sym none ∙ →some (suc (length bytes)) turns-away e l h)
+              by-test : (stops? e ≡ true) ⊎ (stops? e ≡ false) → recordAt bytes e ≡ passing
+              by-test (inl h) = false-true (sym none ∙ →some (suc (length bytes)) stops? e l h)
               by-test (inr h) = passes-unless e h
 
-  -- the first record that is turned away, or that is not there
+  -- the first number at which no record passes
   record Stops (e : ℕ) : Type 0 where
-    earlier-pass : (i : ℕ) → i < e → refusalAt bytes i ≡ 0
-    turned : refusalAt bytes e ≢ 0
+    earlier-pass : (i : ℕ) → i < e → recordAt bytes i ≡ passing
+    stopped : recordAt bytes e ≢ passing
 
   stop-is : Stops (stop bytes)
-  unfolding stop turns-away
-  stop-is = record { earlier-pass = earlier; turned = eqb-false _ _ (not-true _ (f .passes)) }
+  unfolding stop stops?
+  stop-is = record { earlier-pass = earlier; stopped = λ h. false-true (sym (not-true _ (f .passes)) ∙ ap passing? h) }
     where
-      f : First (suc (length bytes)) turns-away (first (suc (length bytes)) turns-away)
-      f = first-is (suc (length bytes)) turns-away some-turned-away
+      f : First (suc (length bytes)) stops? (first (suc (length bytes)) stops?)
+      f = first-is (suc (length bytes)) stops? some-stops
 
-      earlier : (i : ℕ) → i < first (suc (length bytes)) turns-away → refusalAt bytes i ≡ 0
-      earlier i l = by-test (test (turns-away i))
+      earlier : (i : ℕ) → i < first (suc (length bytes)) stops? → recordAt bytes i ≡ passing
+      earlier i l = by-test (test (stops? i))
         where
-          by-test : (turns-away i ≡ true) ⊎ (turns-away i ≡ false) → refusalAt bytes i ≡ 0
+          by-test : (stops? i ≡ true) ⊎ (stops? i ≡ false) → recordAt bytes i ≡ passing
           by-test (inl h) = absurd (omega (arith, f .smallest i h))
           by-test (inr h) = passes-unless i h
 
-  -- there is one such record
+  -- there is one such number
   stop-unique : (e : ℕ) → Stops e → stop bytes ≡ e
   stop-unique e s = by-order (less? (stop bytes) e) (less? e (stop bytes))
     where
       by-order : (stop bytes < e) ⊎ (e ≤ stop bytes) → (e < stop bytes) ⊎ (stop bytes ≤ e) → stop bytes ≡ e
-      by-order (inl l) m = absurd (stop-is .turned (s .earlier-pass (stop bytes) l))
-      by-order (inr l) (inl m) = absurd (s .turned (stop-is .earlier-pass e m))
+      by-order (inl l) m = absurd (stop-is .stopped (s .earlier-pass (stop bytes) l))
+      by-order (inr l) (inl m) = absurd (s .stopped (stop-is .earlier-pass e m))
       by-order (inr l) (inr m) = omega arith
 
   -- ---- the theorem
 
-  -- behind the last record nothing passes: a record that is read would need four bytes more
-  nothing-behind : (N : ℕ) → AcceptedWith bytes N → Stops N
-  nothing-behind N a =
-      record {
-        earlier-pass = a .all-pass;
-        turned = λ z.
-            let p = passed→ N z in
-            omega (arith, read-grows bytes N (p .x) (p .next) (p .is-read), start-inside bytes (suc N), a .ends);
-      }
+  -- the reading is what is found at the first number e at which no record passes
+  reading-is :
+      (e : ℕ) (f : Found) → ((i : ℕ) → i < e → recordAt bytes i ≡ passing) → recordAt bytes e ≡ f → f ≢ passing
+      → readingOf bytes ≡ readingAt e f
+  unfolding readingOf
+  reading-is e f earlier is other =
+      let stops : Stops e = record { earlier-pass = earlier; stopped = λ h. other (sym is ∙ h) } in
+      rw (stop-unique e stops, is)
 
   pub accepted-exactly : (N : ℕ) → (readingOf bytes ≡ accepted N) ↔ AcceptedWith bytes N
   unfolding readingOf
-  accepted-exactly N = (λ h. to (test (endsAt bytes (stop bytes))) h, from)
+  accepted-exactly N = (λ h. to (recordAt bytes (stop bytes)) refl h, from)
     where
-      to :
-          (endsAt bytes (stop bytes) ≡ true) ⊎ (endsAt bytes (stop bytes) ≡ false)
-          → readingOf bytes ≡ accepted N
-          → AcceptedWith bytes N
-      to (inl ends) h =
-          let is : accepted (stop bytes) ≡ accepted N = rw ends at h in
+      to : (f : Found) → recordAt bytes (stop bytes) ≡ f → readingAt (stop bytes) f ≡ accepted N → AcceptedWith bytes N
+      to noRecord is h =
           let same : stop bytes ≡ N = cc in
-          let p = parts (ltb 0 (stop bytes)) _ ends in
-          record {
-            some-record = rw same at (ltb-true 0 (stop bytes) (p .0));
-            all-pass = λ e l. stop-is .earlier-pass e (omega arith);
-            ends = rw same at (eqb-true (start bytes (stop bytes)) (length bytes) (p .1));
-          }
-      to (inr ends) h =
-          let is : turnedAway (refusalAt bytes (stop bytes)) (stop bytes) ≡ accepted N = rw ends at h in
-          let z : _≡_ {A = ℕ} 0 1 = cc in
-          absurd (omega arith)
+          record { all-pass = λ e l. stop-is .earlier-pass e (omega arith); ends = rw same at is }
+      to (refusedBy k) is h = absurd (clash cc)
+      to passing is h = absurd (stop-is .stopped is)
 
       from : AcceptedWith bytes N → readingOf bytes ≡ accepted N
-      from a =
-          let same : stop bytes ≡ N = stop-unique N (nothing-behind N a) in
-          let ends : endsAt bytes N ≡ true = both _ _ (lt-ltb _ _ (a .some-record)) (eq-eqb _ _ (a .ends)) in
-          rw (same, ends)
+      from a = reading-is N noRecord (a .all-pass) (a .ends) (λ h. clash cc)
 
   pub turned-away-exactly : (k e : ℕ) → (readingOf bytes ≡ turnedAway k e) ↔ TurnedAwayWith bytes k e
   unfolding readingOf
-  turned-away-exactly k e = (λ h. to (test (endsAt bytes (stop bytes))) h, from)
+  turned-away-exactly k e = (λ h. to (recordAt bytes (stop bytes)) refl h, from)
     where
       to :
-          (endsAt bytes (stop bytes) ≡ true) ⊎ (endsAt bytes (stop bytes) ≡ false)
-          → readingOf bytes ≡ turnedAway k e
+          (f : Found) → recordAt bytes (stop bytes) ≡ f → readingAt (stop bytes) f ≡ turnedAway k e
           → TurnedAwayWith bytes k e
-      to (inl ends) h =
-          let is : accepted (stop bytes) ≡ turnedAway k e = rw ends at h in
-          let z : _≡_ {A = ℕ} 0 1 = cc in
-          absurd (omega arith)
-      to (inr ends) h =
-          let is : turnedAway (refusalAt bytes (stop bytes)) (stop bytes) ≡ turnedAway k e = rw ends at h in
+      to noRecord is h = absurd (clash cc)
+      to (refusedBy number) is h =
           let same : stop bytes ≡ e = cc in
-          let number : refusalAt bytes (stop bytes) ≡ k = cc in
-          record {
-            earlier-pass = λ i l. stop-is .earlier-pass i (omega arith);
-            number = rw same at number;
-            some-number = λ z. stop-is .turned (number ∙ z);
-            no-end = rw same at ends;
-          }
+          let numbers : number ≡ k = cc in
+          record { earlier-pass = λ i l. stop-is .earlier-pass i (omega arith); number = rw (same, numbers) at is }
+      to passing is h = absurd (stop-is .stopped is)
 
       from : TurnedAwayWith bytes k e → readingOf bytes ≡ turnedAway k e
-      from t =
-          let stops : Stops e =
-          record { earlier-pass = t .earlier-pass; turned = λ z. t .some-number (sym (t .number) ∙ z) }
-          in
-          let same : stop bytes ≡ e = stop-unique e stops in
-          rw (same, t .no-end, t .number)
+      from t = reading-is e (refusedBy k) (t .earlier-pass) (t .number) (λ h. clash cc)
 
   -- the events of an accepted trace's bytes are an accepted trace
   pub accepted-events : (N : ℕ) → AcceptedWith bytes N → Accepted (events bytes) N
-  accepted-events N a = record { some-record = a .some-record; passes = λ n l. passed→ n (a .all-pass n l) .passes }
+  accepted-events N a =
+      record { some-record = ended→ N (a .ends) .some-record; passes = λ n l. passed→ n (a .all-pass n l) .passes }

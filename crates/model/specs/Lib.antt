@@ -1,7 +1,7 @@
 -- What a reader has to believe of this crate, in document 01's order:
 --   Search         `bit`, `any` and `member` (what counts as of an event), `last`
 --   Trace, Machine, Rules, HappensBefore, Choice
---   Reading        `eventIn`, `refusalIn`, `events`, `refusalAt`, `endsAt`, `AcceptedWith`, `TurnedAwayWith`
+--   Reading        `eventIn`, `refusalIn`, `events`, `Found`, `endsAt`, `recordAt`, `AcceptedWith`, `TurnedAwayWith`
 --   Answers
 --   Judge          the buffers: `smallWork`, `wrongCut`, `cleared`, `workAfter`, `orderWorkAfter`; of `judgeOf`,
 --                  `cutAfter` and `orderOf` that 14 and 15 come first; of `readingStanding` that the trace's refusal is
@@ -13,7 +13,7 @@
 --   Search         `some`, `firstFrom`, `first`, `most`: proofs/Searching.antt
 --   Clocks         happens-before: `clock-is-happens-before`
 --   Verdict        `rulingOf` and all that it is made of: `exact`
---   Reading        `stop`, `Reading`, `readingOf`: `accepted-exactly`, `turned-away-exactly`
+--   Reading        `passing?`, `stop`, `Reading`, `readingAt`, `readingOf`: `accepted-exactly`, `turned-away-exactly`
 --   Judge          `ruledAnswer`, `ruledCut`, `readingAnswer`, `readingCut`, the rest of `judgeOf` and `cutAfter`:
 --                  `judged-as-demanded`, `refused-as-demanded`; `before?`, the rest of `orderOf` and `standing`:
 --                  `before-exactly`, `ordered-as-demanded`

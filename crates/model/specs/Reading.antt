@@ -1,9 +1,8 @@
 -- From bytes to events, and which traces are turned away: document 01, "The trace" and "When a trace is turned away".
 use Prim.Native.Nat.{ℕ, suc, _<_}
 use mathlib.Core.Path.{_≡_}
-use mathlib.Core.Logic.{_≢_}
 use mathlib.Core.List.{List, [], _∷_, _++_}
-use mathlib.Core.Bool.{Bool, false, cond, _&&_, not}
+use mathlib.Core.Bool.{Bool, true, false, _&&_, not}
 use lib.ListN.{length}
 use lib.Dec.{eqb, ltb}
 use Rattle.record.specs.declared.events.Event.{Event}
@@ -12,6 +11,7 @@ use Rattle.record.specs.Answers.{Answer, refused, event, wrote}
 use Rattle.record.specs.Events.{recordOf}
 use Rattle.record.specs.Parts.{start}
 use Rattle.record.specs.Reading.{readAt}
+use Rattle.record.specs.Tests.{_gives_else_}
 use Rattle.model.specs.Search.{first}
 use Rattle.model.specs.Rules.{refusal}
 use Rattle.model.specs.Answers.{tabulate}
@@ -41,21 +41,40 @@ unfoldable pub encode : List Event → List ℕ
 encode [] = []
 encode (e ∷ es) = recordOf e ++ encode es
 
--- what turns record number e away, and 0 if nothing does: "per record length under 2, 2, 3, wrong length", then the
--- rules for its event. "A record that can't be read ends the judging there with its refusal." Where the bytes end there
--- is no record: the record layer's 1
-unfoldable pub refusalAt : List ℕ → ℕ → ℕ
-refusalAt bytes e =
-    let unread = refusalIn (readAt bytes (start bytes e)) in
-    cond (eqb unread 0) (refusal (events bytes) e) unread
-
--- the number of the first record that is turned away, or that is not there
-unfoldable pub stop : List ℕ → ℕ
-stop bytes = first (suc (length bytes)) (λ e. not (eqb (refusalAt bytes e) 0))
+-- what is found at a record number of a trace's bytes
+pub data Found : Type 0 where
+  -- no record: the trace ends there
+  noRecord : Found
+  -- a record that is turned away, with its refusal's number; no bytes at all are 1, "no record", at number 0
+  refusedBy : ℕ → Found
+  -- a record that is read, and whose event no rule forbids
+  passing : Found
 
 -- the bytes end right behind the records before number e, of which there is at least one
 abbrev pub endsAt : List ℕ → ℕ → Bool
 endsAt bytes e = ltb 0 e && eqb (start bytes e) (length bytes)
+
+-- what is found at number e
+unfoldable pub recordAt : List ℕ → ℕ → Found
+recordAt bytes e =
+    let unread = refusalIn (readAt bytes (start bytes e)) in
+    let forbidden = refusal (events bytes) e in
+    endsAt bytes e gives noRecord else
+    -- "per record length under 2, 2, 3, wrong length": "A record that can't be read ends the judging there with its
+    -- refusal."
+    not (eqb unread 0) gives refusedBy unread else
+    -- then the rules for its event
+    not (eqb forbidden 0) gives refusedBy forbidden else
+    passing
+
+abbrev pub passing? : Found → Bool
+passing? noRecord = false
+passing? (refusedBy k) = false
+passing? passing = true
+
+-- the first number at which no record passes
+unfoldable pub stop : List ℕ → ℕ
+stop bytes = first (suc (length bytes)) (λ e. not (passing? (recordAt bytes e)))
 
 -- "A trace is accepted if no refusal over its records (1 to 13 here) applies": accepted, with the number of its
 -- records; or turned away, with the refusal's number and the event number
@@ -63,23 +82,27 @@ pub data Reading : Type 0 where
   accepted : ℕ → Reading
   turnedAway : ℕ → ℕ → Reading
 
+-- by what is found at e, the first number at which no record passes
+abbrev pub readingAt : ℕ → Found → Reading
+readingAt e noRecord = accepted e
+readingAt e (refusedBy k) = turnedAway k e
+-- never found there: `stop-is` of proofs/TurnedAway.antt
+readingAt e passing = turnedAway 0 e
+
 unfoldable pub readingOf : List ℕ → Reading
 readingOf bytes =
     let e = stop bytes in
-    cond (endsAt bytes e) (accepted e) (turnedAway (refusalAt bytes e) e)
+    readingAt e (recordAt bytes e)
 
 -- ---- the same, as relations: `accepted-exactly`, `turned-away-exactly` of proofs/TurnedAway.antt join the two
 
 module _ (bytes : List ℕ) where
-  -- accepted with N records: each passes, and the bytes end right behind them
+  -- accepted with N records: each passes, and behind them there is none
   pub record AcceptedWith (N : ℕ) : Type 0 where
-    pub some-record : 0 < N
-    pub all-pass : (e : ℕ) → e < N → refusalAt bytes e ≡ 0
-    pub ends : start bytes N ≡ length bytes
+    pub all-pass : (e : ℕ) → e < N → recordAt bytes e ≡ passing
+    pub ends : recordAt bytes N ≡ noRecord
 
-  -- turned away with number k at event e: number k applies there, nothing earlier does, and it is not the trace's end
+  -- turned away with number k at event e: the records before it pass, and it has that refusal
   pub record TurnedAwayWith (k e : ℕ) : Type 0 where
-    pub earlier-pass : (i : ℕ) → i < e → refusalAt bytes i ≡ 0
-    pub number : refusalAt bytes e ≡ k
-    pub some-number : k ≢ 0
-    pub no-end : endsAt bytes e ≡ false
+    pub earlier-pass : (i : ℕ) → i < e → recordAt bytes i ≡ passing
+    pub number : recordAt bytes e ≡ refusedBy k

@@ -1,7 +1,7 @@
 -- How many records of a trace can be read, and its threads and finished stretches. `extent-of-accepted`, at the end:
 -- of an accepted trace with N records these are the threads of its begin, 1 to 8, and its crashes, at most 7. Before it
 -- the laws of the loop that counts: nothing counted, one record more, a record that cannot be read. Assumes nothing.
-use Prim.Native.Nat.{ℕ, zero, suc, _+_, _-_, _≤_, _<_, min}
+use Prim.Native.Nat.{ℕ, suc, _+_, _-_, _≤_, _<_, min}
 use native.Mathlib.Omega.{arith}
 use mathlib.Core.Path.{_≡_, refl, sym, ap, _∙_}
 use mathlib.Core.Bool.{true, false, not}
@@ -24,7 +24,7 @@ use Rattle.model.specs.Rules.{Accepted}
 use Rattle.model.specs.Reading.{eventIn, events, AcceptedWith}
 use Rattle.model.proofs.Searching.{false-true, →some, First, first-is, less?, same?}
 use Rattle.model.proofs.Counting.{stretch-mono}
-use Rattle.model.proofs.TurnedAway.{passed→, accepted-events}
+use Rattle.model.proofs.TurnedAway.{passed→, Ended, ended→, four-bytes-each, accepted-events}
 use Rattle.model.proofs.Limits.{some-thread, few-threads, few-crashes}
 use Rattle.report.specs.Extent.{unread, readable, threadsOf, finishedOf}
 
@@ -163,14 +163,12 @@ module _ (bytes : List ℕ) where
       all-read : (e : ℕ) → e < N → unread bytes e ≡ false
       all-read e l = let p = passed→ bytes e (accepted .all-pass e l) in is-read e (p .x) (p .next) (p .is-read)
 
-      at-end : unread bytes N ≡ true
-      at-end = is-unread N 1 (sym (read-past-end bytes (start bytes N) (omega (arith, accepted .ends))))
+      ended : Ended bytes N
+      ended = ended→ bytes N (accepted .ends)
 
-      four-each : (n : ℕ) → n ≤ N → n ≤ start bytes n
-      four-each zero l = omega arith
-      four-each (suc n) l =
-          let p = passed→ bytes n (accepted .all-pass n (omega arith)) in
-          omega (arith, four-each n (omega arith), read-grows bytes n (p .x) (p .next) (p .is-read))
+      at-end : unread bytes N ≡ true
+      at-end = is-unread N 1 (sym (read-past-end bytes (start bytes N) (omega (arith, ended .at-end))))
 
       records-are : readable bytes ≡ N
-      records-are = readable-is N (omega (arith, four-each N (omega arith), accepted .ends)) all-read at-end
+      records-are =
+          readable-is N (omega (arith, four-bytes-each bytes N (accepted .all-pass), ended .at-end)) all-read at-end
