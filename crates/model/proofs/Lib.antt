@@ -27,6 +27,8 @@ pub mod Exactness
 pub mod RulingSteps
 pub mod ChainOrder
 pub mod Lattice
+pub mod Agreement
+pub mod Prefixes
 pub mod Replay
 pub mod Numberings
 pub mod EmbeddedTrace

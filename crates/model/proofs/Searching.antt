@@ -310,3 +310,16 @@ pub last-none : (n : ℕ) (f : ℕ → Bool) → ((q : ℕ) → q < n → f q �
 unfolding last
 last-none zero f none = refl
 last-none (suc n) f none = rw (none n (omega arith)) (last-none n f (λ q l. none q (omega arith)))
+
+-- tests that agree below n find the same
+pub last-same : (n : ℕ) (f g : ℕ → Bool) → ((q : ℕ) → q < n → f q ≡ g q) → last n f ≡ last n g
+unfolding last
+last-same zero f g same = refl
+last-same (suc n) f g same = rw (same n (omega arith), last-same n f g (λ q l. same q (omega arith)))
+
+pub last-within : (n : ℕ) (f : ℕ → Bool) → last n f ≤ n
+last-within n f = by-found (same? (last n f) 0)
+  where
+    by-found : (last n f ≡ 0) ⊎ (last n f ≢ 0) → last n f ≤ n
+    by-found (inl none) = omega arith
+    by-found (inr some) = omega (arith, last-is n f some .0)
