@@ -43,6 +43,7 @@ pub mod TurnedAway
 pub mod Queries
 pub mod Demanded
 pub mod CutPlaces
+pub mod TakenAsTrace
 pub mod Encoding
 pub mod AcceptedBytes
 pub mod RemovedBytes
