@@ -17,9 +17,8 @@ use Rattle.model.specs.Choice.{finished}
 use Rattle.model.specs.Stores.{newestAt, landed}
 use Rattle.model.proofs.Searching.{false-true}
 use Rattle.model.proofs.Counting.{stretch-else}
-use Rattle.model.proofs.Roles.{begin-no-issue}
 use Rattle.model.proofs.ClockSteps.{seen-zero}
-use Rattle.model.proofs.Acceptance.{begins}
+use Rattle.model.proofs.Acceptance.{begins, store-not-0}
 use Rattle.model.proofs.Limits.{few-threads, few-locations}
 use Rattle.model.proofs.StorePlaces.{store-at-none}
 use Rattle.model.proofs.Unchanged.{live, live-away, skipping-away, newest-away, seen-away, landed-away}
@@ -96,9 +95,7 @@ module _ (ev : ℕ → Event) (passes : refusal ev 0 ≡ 0) where
       }
 
   no-store : (p : ℕ) → p < 1 → Issue ev p → ⊥
-  no-store p early store =
-      let is-0 : p ≡ 0 = omega arith in
-      begin-no-issue ev (begins ev 1 accepted) (rw is-0 at store)
+  no-store p early store = store-not-0 ev 1 accepted store (omega arith)
 
   -- ---- over cleared tables
 

@@ -4,7 +4,7 @@
 -- comes from (`own-source`, `commit-source` and `crossing-source`, by case; `source-from`, `counted-source`).
 use Prim.Native.Nat.{ℕ, zero, suc, _≤_, _<_}
 use native.Mathlib.Omega.{arith}
-use mathlib.Core.Path.{_≡_, refl}
+use mathlib.Core.Path.{_≡_, refl, sym, _∙_}
 use mathlib.Core.Bool.{true, false, _&&_, _||_, not}
 use mathlib.Core.Logic.{_⊎_, inl, inr, _≢_}
 use lib.Dec.{eqb, ltb, leb}
@@ -17,8 +17,8 @@ use Rattle.model.specs.Trace.{threads, locations, stretch, commits, plac
 use Rattle.model.specs.Machine.{beside, commitsBefore, queued, oldest, committed, waits, waiting, commitsHere}
 use Rattle.model.specs.Machine.{current, past, sourceFits, crossing, skipping, counted}
 use Rattle.model.specs.Rules.{Rules, pass, _refuses_else_, answer, beginFits, rules, Accepted}
-use Rattle.model.proofs.Searching.{same?, parts, or-cases, or-fails, not-without, last-is}
-use Rattle.model.proofs.Roles.{begin-no-issue}
+use Rattle.model.proofs.Searching.{false-true, same?, parts, or-cases, or-fails, not-without, last-is}
+use Rattle.model.proofs.Roles.{one-kind}
 
 -- ---- the list of refusals, read backwards
 
@@ -77,12 +77,16 @@ module _ (ev : ℕ → Event) where
               no-12 = no-12;
             }
 
-    -- event 0 is a begin, so it is no store
+    -- event 0 is a begin
     pub begins : is ev 1 0 ≡ true
     begins = not-without (eqb 0 0) (is ev 1 0) (passed 0 (accepted .some-record) .no-1) refl
 
+    -- so it is no store and no commit: 0, which a search gives that finds none, names neither
+    pub first-is-no-store-no-commit : (issue? ev 0 ≡ false) × (commit? ev 0 ≡ false)
+    first-is-no-store-no-commit = (one-kind ev 0 1 2 (omega arith) begins, one-kind ev 0 1 3 (omega arith) begins)
+
     pub store-not-0 : {p : ℕ} → Issue ev p → p ≢ 0
-    store-not-0 store is-0 = begin-no-issue ev begins (rw is-0 at store)
+    store-not-0 store is-0 = false-true (sym (first-is-no-store-no-commit .0) ∙ rw is-0 at (store .test))
 
     -- "event 2,049" is turned away
     pub event-bound : (n : ℕ) → n < N → n ≤ 2048

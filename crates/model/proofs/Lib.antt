@@ -1,7 +1,8 @@
 -- Laws and theorems about the definitions. The theorems that others cite: `clock-is-happens-before` (Clocks),
 -- `before-committed` (Committed), `exact`, `unique`, `broken-stays`, `named-load-counts` (Exactness), `min-explains`,
--- `max-explains` (Lattice), `explains-is-replay` (Replay), `accepted-exactly`, `turned-away-exactly` (TurnedAway),
--- `ordered-as-demanded` (Queries), `judged-as-demanded` (Demanded), `accepted-encoded` (AcceptedBytes),
+-- `max-explains` (Lattice), `exact-same` (Prefixes), `explains-is-replay` (Replay), `accepted-exactly`,
+-- `turned-away-exactly` (TurnedAway), `ordered-as-demanded` (Queries), `judged-as-demanded` (Demanded),
+-- `broken-as-trace`, `robust-before-load` (TakenAsTrace), `accepted-encoded` (AcceptedBytes),
 -- `flushes-move-no-verdict` (FlushNeutral), `cases-1-to-11` (Cases), `refusals-1-to-5` (NoTrace) and `random-sessions`
 -- (RandomSessions).
 pub mod Searching

@@ -49,7 +49,7 @@ in-early :
 in-early ev N c fits p is-in = earlier-stretch ev p N (in-finished-stretch ev N c fits p is-in)
 
 module _ {N : ℕ} {ev other : ℕ → Event} (agree : Agree N ev other) where
-  pub finished-same : (j t : ℕ) → finished ev N j t ≡ finished other N j t
+  finished-same : (j t : ℕ) → finished ev N j t ≡ finished other N j t
   unfolding finished
   finished-same j t = rw (stretch-same agree N (omega arith), commits-same agree N j t (omega arith))
 
@@ -135,11 +135,11 @@ module _ {N : ℕ} {ev other : ℕ → Event} (agree : Agree N ev other) where
             explained .forbidden-out p forbidden (in-same (turned agree) c p (omega arith) is-in);
       }
 
-  pub robust-same : Robust ev N → Robust other N
+  robust-same : Robust ev N → Robust other N
   robust-same (c, explains) = (c, explains-same c explains)
 
 module _ {N : ℕ} {ev other : ℕ → Event} (agree : Agree N ev other) where
-  pub least-same : (c : Choice) → Least ev N c → Least other N c
+  least-same : (c : Choice) → Least ev N c → Least other N c
   least-same c least = record {
     explains = explains-same agree c (least .explains);
     least = λ d explains. least .least d (explains-same (turned agree) d explains);
@@ -165,7 +165,7 @@ module _ {N : ℕ} {ev other : ℕ → Event} (agree : Agree N ev other) where
       by-order inside (inr before) = inr (before-same agree inside before)
 
 module _ {N : ℕ} {ev other : ℕ → Event} (agree : Agree N ev other) where
-  pub broken-same :
+  broken-same :
       (load missing observed : ℕ) → Broken ev N load missing observed → Broken other N load missing observed
   broken-same load missing observed it =
       let upto = fewer (suc load) (it .inside) agree in

@@ -4,14 +4,14 @@
 -- In order: what issues, commits and loads are not; the kinds that play no role; the decisions.
 use Prim.Native.Nat.{ℕ, _≤_}
 use native.Mathlib.Omega.{arith}
-use mathlib.Core.Path.{_≡_, sym, _∙_}
+use mathlib.Core.Path.{_≡_}
 use mathlib.Core.Bool.{true, false}
 use mathlib.Core.Logic.{_⊎_, inl, inr, _≢_}
 use borrow.Author.Tests.{eqb-true, ne-eqb}
 use Rattle.record.specs.declared.events.Event.{Event}
 use Rattle.model.specs.Trace.{kind, is, begin?, issue?, commit?, load?, crash?, skipOn?, skipOff?}
 use Rattle.model.specs.Trace.{Issue, Commit, Load}
-use Rattle.model.proofs.Searching.{false-true, test}
+use Rattle.model.proofs.Searching.{test}
 
 module _ (ev : ℕ → Event) where
   -- an event of one kind is of no other
@@ -28,9 +28,6 @@ module _ (ev : ℕ → Event) where
 
   pub load-no-crash : {e : ℕ} → Load ev e → crash? ev e ≡ false
   load-no-crash {e} loads = one-kind e 4 9 (omega arith) (loads .test)
-
-  pub begin-no-issue : {e : ℕ} → is ev 1 e ≡ true → Issue ev e → ⊥
-  begin-no-issue {e} begins store = false-true (sym (one-kind e 1 2 (omega arith) begins) ∙ store .test)
 
   pub begin-no-load : (e : ℕ) → is ev 1 e ≡ true → load? ev e ≡ false
   begin-no-load e = one-kind e 1 4 (omega arith)

@@ -160,7 +160,7 @@ module _
       }
 
   -- the load that a broken answer names is not the begin
-  pub load-not-begin : load ≢ 0
+  load-not-begin : load ≢ 0
   load-not-begin is-0 =
       let loads = counted-crosses (events bytes) load (named-load-counts (events bytes) is-broken) .loads in
       let begun = begins (events bytes) (apart .N) trace in

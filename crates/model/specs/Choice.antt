@@ -28,7 +28,8 @@ module _ (ev : ℕ → Event) where
   unfoldable pub finished : ℕ → Choice
   finished N j t = cond (ltb j (stretch ev N)) (commits ev N j t) 0
 
-  -- "It is closed if each store before one that is in is in too."
+  -- "It is closed if each store before one that is in is in too." Of all numbers, but by `fits` of `Explains` only
+  -- stores of finished stretches are in: `in-finished-stretch` of proofs/Prefixes.antt
   abbrev pub Closed : Choice → Type 0
   Closed c = (p q : ℕ) → Before ev p q → In c q → In c p
 
@@ -94,7 +95,8 @@ module _ (ev : ℕ → Event) where
     pub order : AtOrBefore ev p q
 
   -- "Broken: no closed choice does. Load is the smallest event number for which records 0 to load, taken as a trace,
-  -- have none either. [..] of all such pairs, the smallest missing, then the smallest observed event number."
+  -- have none either. [..] of all such pairs, the smallest missing, then the smallest observed event number." Those
+  -- records are the first load + 1 events, whatever follows: `broken-as-trace` of proofs/TakenAsTrace.antt
   pub record Broken (N load missing observed : ℕ) : Type 0 where
     pub inside : load < N
     pub none : ¬ Robust N

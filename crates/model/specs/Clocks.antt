@@ -17,18 +17,29 @@ module _ (ev : ℕ → Event) where
   unfoldable mutual
     -- before event n, thread t has loaded from, directly or by a chain, this many of u's first stores of the stretch
     pub seen : ℕ → ℕ → ℕ → ℕ
+    -- before the trace it has loaded nothing
     seen zero t u = 0
     seen (suc n) t u =
-        cond (crash? ev n) 0 (cond (joins n t) (max (seen n t u) (clock n (source ev n) u)) (seen n t u))
+        -- a crash: of the new stretch it has loaded nothing
+        cond (crash? ev n) 0
+        -- it loads from a store of the stretch, and so by a chain from what happens before that store
+        (cond (joins n t) (max (seen n t u) (clock n (source ev n) u))
+        -- any other event brings nothing
+        (seen n t u))
 
-    -- the clock of store q, where q is below n
+    -- the clock of store q, where q is below n; of an event that is no store, the clock that a store of its thread
+    -- right behind it would have, that store itself not counted
     pub clock : ℕ → ℕ → ℕ → ℕ
+    -- no event is below 0
     clock zero q u = 0
     clock (suc n) q u =
         cond (eqb q n)
+        -- of its own thread the stores before q, and q itself if it is a store
         (cond (eqb u (thread ev n)) (place ev n + bit (issue? ev n))
+        -- of another thread what its thread has loaded from, by q too if q is such a load
         (cond (joins n (thread ev n)) (max (seen n (thread ev n) u) (clock n (source ev n) u))
         (seen n (thread ev n) u)))
+        -- an earlier event's clock stays
         (clock n q u)
 
   -- the vector clock of store q

@@ -1,7 +1,8 @@
 -- What the machine has done before event n, and which sources a load may have: document 01, "Rules of the machine".
 -- A queue is no list here: it is first in, first out, so of a thread's stores in a stretch the first are committed, as
 -- many as it has commits there, and the others wait. "A thread's state is handed to each record and comes back
--- changed": that state is the code's; here it is what the events before n say.
+-- changed": that state is the code's; here it is what the events before n say. A search for a store or a commit gives 0
+-- if there is none; event 0 is neither (`first-is-no-store-no-commit` of proofs/Acceptance.antt).
 use Prim.Native.Nat.{ℕ, zero, suc}
 use mathlib.Core.Bool.{Bool, false, cond, _&&_, _||_, not}
 use mathlib.Core.List.{List, [], _∷_}
@@ -27,7 +28,8 @@ module _ (ev : ℕ → Event) where
   abbrev pub queued : ℕ → Bool
   queued n = not (eqb (issues ev n (stretch ev n) (thread ev n)) (commitsBefore n))
 
-  -- "Commit: the oldest waiting store of the thread takes effect": the store that commit c makes take effect
+  -- "Commit: the oldest waiting store of the thread takes effect": the store that commit c makes take effect, and 0 if
+  -- there is none
   abbrev pub oldest : ℕ → ℕ → Bool
   oldest c p = beside p c && eqb (place ev p) (commitsBefore c)
 

@@ -16,7 +16,8 @@ use Rattle.model.specs.Search.{first}
 use Rattle.model.specs.Rules.{refusal}
 use Rattle.model.specs.Answers.{tabulate}
 
--- the event that the record layer answers, and a crash where it answers none
+-- the event that the record layer answers. Where it answers none, a crash: the trace ends there or is turned away, and
+-- no ruling depends on what stands behind a trace's last event (`exact-same` of proofs/Prefixes.antt)
 abbrev pub eventIn : Answer → Event
 eventIn (event e n) = e
 eventIn (refused k e) = Crash

@@ -24,7 +24,8 @@ any f (x ∷ xs) = f x || any f xs
 abbrev pub member : ℕ → List ℕ → Bool
 member x xs = any (eqb x) xs
 
--- the largest number below n that passes, and 0 if there is none
+-- the largest number below n that passes, and 0 if there is none. 0 names no store and no commit:
+-- `first-is-no-store-no-commit` of proofs/Acceptance.antt
 unfoldable pub last : ℕ → (ℕ → Bool) → ℕ
 last zero f = 0
 last (suc n) f = cond (f n) n (last n f)

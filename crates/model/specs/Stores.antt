@@ -1,6 +1,6 @@
 -- What a program's tables and marks hold of a trace: a thread's store by its place, the newest store of a thread at a
--- location, the committed stores of a location, and of the forbidden stores those that are committed. No public
--- contract cites them.
+-- location, the committed stores of a location, and of the forbidden stores those that are committed. 0, where there is
+-- none, is no store: `first-is-no-store-no-commit` of proofs/Acceptance.antt. No public contract cites them.
 use Prim.Native.Nat.{ℕ, zero, suc}
 use mathlib.Core.Bool.{Bool, false, cond, _&&_, _||_, not}
 use mathlib.Core.List.{List, [], _∷_}

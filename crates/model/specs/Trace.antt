@@ -15,7 +15,8 @@ use Rattle.record.specs.Fields.{fieldsOf, threadIn, locationIn}
 use Rattle.record.specs.Table.{rowOf}
 use Rattle.model.specs.Search.{bit}
 
--- a list of events as a trace; what it gives past the list's end is in no trace of the list's length
+-- a list of events as a trace. What it gives past the list's end is in no trace of the list's length, and no ruling
+-- depends on it: `exact-same` of proofs/Prefixes.antt
 abbrev pub traceOf : List Event → ℕ → Event
 traceOf es e = getD es e Crash
 

@@ -1,4 +1,4 @@
--- The mathematics that the functions' proofs cite, and the theorems about the definitions: RoundTrips, Starts
+-- The mathematics that the functions' proofs cite, and the theorems about the definitions: RoundTrips, Starts, Fronts
 -- and Scans. TakesApart and GoesThrough have the walks that the reader's functions share.
 pub mod Computed
 pub mod Rows
