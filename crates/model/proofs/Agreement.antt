@@ -28,8 +28,8 @@ abbrev pub Agree : ℕ → (ℕ → Event) → (ℕ → Event) → Type 0
 Agree N ev other = (e : ℕ) → e < N → ev e ≡ other e
 
 -- either way round
-pub turned : {N : ℕ} {ev other : ℕ → Event} → Agree N ev other → Agree N other ev
-turned agree e inside = sym (agree e inside)
+pub reversed : {N : ℕ} {ev other : ℕ → Event} → Agree N ev other → Agree N other ev
+reversed agree e inside = sym (agree e inside)
 
 -- and fewer of them
 pub fewer : {N : ℕ} {ev other : ℕ → Event} → (n : ℕ) → n ≤ N → Agree N ev other → Agree n ev other

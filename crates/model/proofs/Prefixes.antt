@@ -21,7 +21,7 @@ use Rattle.model.proofs.Counting.{earlier-stretch}
 use Rattle.model.proofs.Ordering.{before-lt}
 use Rattle.model.proofs.CountedLoads.{counted-early}
 use Rattle.model.proofs.Closure.{same-stretch}
-use Rattle.model.proofs.Agreement.{Agree, turned, fewer, thread-same, location-same, source-same}
+use Rattle.model.proofs.Agreement.{Agree, reversed, fewer, thread-same, location-same, source-same}
 use Rattle.model.proofs.Agreement.{stretch-same, stretches-same, commits-same, place-same, commitOf-same}
 use Rattle.model.proofs.Agreement.{counting-same, issue-same, before-same}
 
@@ -114,9 +114,9 @@ module _ {N : ℕ} {ev other : ℕ → Event} (agree : Agree N ev other) where
         let inside = in-early other N c fits q is-in in
         let earlier = before-lt other before in
         in-same agree c p (omega arith)
-        (explains .closed p q (before-same (turned agree) inside before) (in-same (turned agree) c q inside is-in));
+        (explains .closed p q (before-same (reversed agree) inside before) (in-same (reversed agree) c q inside is-in));
     loads = λ l counts.
-        let it = counted-same (turned agree) counts in
+        let it = counted-same (reversed agree) counts in
         let inside = counted-early ev N l it in
         at-load l inside (explains .loads l it);
   }
@@ -127,12 +127,12 @@ module _ {N : ℕ} {ev other : ℕ → Event} (agree : Agree N ev other) where
       at-load : (l : ℕ) → l < N → ExplainsLoad ev c l → ExplainsLoad other c l
       at-load l inside explained = record {
         observed-in = λ s observes.
-            let is-in = explained .observed-in s (observes-same (turned agree) inside observes) in
+            let is-in = explained .observed-in s (observes-same (reversed agree) inside observes) in
             in-same agree c s (in-early ev N c (explains .fits) s is-in) is-in;
         forbidden-out = λ p forbids is-in.
-            let forbidden = forbids-same (turned agree) inside forbids in
+            let forbidden = forbids-same (reversed agree) inside forbids in
             let earlier = earlier-stretch ev p l (forbidden .earlier) in
-            explained .forbidden-out p forbidden (in-same (turned agree) c p (omega arith) is-in);
+            explained .forbidden-out p forbidden (in-same (reversed agree) c p (omega arith) is-in);
       }
 
   robust-same : Robust ev N → Robust other N
@@ -142,7 +142,7 @@ module _ {N : ℕ} {ev other : ℕ → Event} (agree : Agree N ev other) where
   least-same : (c : Choice) → Least ev N c → Least other N c
   least-same c least = record {
     explains = explains-same agree c (least .explains);
-    least = λ d explains. least .least d (explains-same (turned agree) d explains);
+    least = λ d explains. least .least d (explains-same (reversed agree) d explains);
   }
 
   -- what is observed and paired with a forbidden store stands in its stretch, before the load that forbids it
@@ -171,12 +171,12 @@ module _ {N : ℕ} {ev other : ℕ → Event} (agree : Agree N ev other) where
       let upto = fewer (suc load) (it .inside) agree in
       record {
         inside = it .inside;
-        none = λ robust. it .none (robust-same (turned agree) robust);
-        none-yet = λ robust. it .none-yet (robust-same (turned upto) robust);
+        none = λ robust. it .none (robust-same (reversed agree) robust);
+        none-yet = λ robust. it .none-yet (robust-same (reversed upto) robust);
         first = λ n within. robust-same (fewer n (omega (arith, it .inside)) agree) (it .first n within);
         pair = pair-same upto missing observed (it .pair);
-        lowest = λ p q pair. it .lowest p q (pair-same (turned upto) p q pair);
-        then-lowest = λ q pair. it .then-lowest q (pair-same (turned upto) missing q pair);
+        lowest = λ p q pair. it .lowest p q (pair-same (reversed upto) p q pair);
+        then-lowest = λ q pair. it .then-lowest q (pair-same (reversed upto) missing q pair);
       }
 
   -- THE RULING OF THE FIRST EVENTS DEPENDS ON NO LATER ONE
