@@ -1,0 +1,68 @@
+-- The invariant: the buffer keeps its length. The measure: the turns that are left. Assumes nothing.
+use mathlib.Core.Path.{_≡_}
+use lib.ListN.{length}
+use native.Mathlib.Omega.{arith}
+use borrow.Author.Needs.{needs}
+use Rattle.verdict.proofs.input.read_some.Statement.{statement}
+use Rattle.verdict.proofs.input.read_some.Tie as tie
+
+abbrev Inv-loop : tie.InvT-loop
+Inv-loop fd buf₀ turns₀ got₀ buf turns got = length buf ≡ length buf₀
+
+abbrev μ-loop : tie.MeasureT-loop
+μ-loop fd buf₀ turns₀ got₀ buf turns got = turns
+
+read-requires : tie.Need-read-requires Inv-loop μ-loop
+read-requires c κs = search needs
+
+loop-holds : tie.Need-loop-holds Inv-loop μ-loop
+loop-holds c = search needs
+
+errno-requires : tie.Need-errno-requires Inv-loop μ-loop
+errno-requires c κs = search needs
+
+read-requires-2 : tie.Need-read-requires-2 Inv-loop μ-loop
+read-requires-2 c κs = search needs
+
+sub-turns : tie.Need-sub-turns Inv-loop μ-loop
+sub-turns c = search needs
+
+loop-less : tie.Need-loop-less Inv-loop μ-loop
+loop-less c = search needs
+
+loop-again : tie.Need-loop-again Inv-loop μ-loop
+loop-again c = search needs
+
+same-length : tie.Need-same-length Inv-loop μ-loop
+same-length c = search needs
+
+returns : tie.Need-returns Inv-loop μ-loop
+returns c = tt
+
+count-requires : tie.Need-count-requires Inv-loop μ-loop
+count-requires c κs = search needs
+
+same-length-2 : tie.Need-same-length-2 Inv-loop μ-loop
+same-length-2 c = search needs
+
+returns-2 : tie.Need-returns-2 Inv-loop μ-loop
+returns-2 c = c .count .ensures .0
+
+pub read-some-spec : {M : Type 1} → statement M
+read-some-spec =
+    tie.close
+    (tie.spec
+    Inv-loop
+    μ-loop
+    read-requires
+    loop-holds
+    errno-requires
+    read-requires-2
+    sub-turns
+    loop-less
+    loop-again
+    same-length
+    returns
+    count-requires
+    same-length-2
+    returns-2)
