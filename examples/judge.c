@@ -1,5 +1,5 @@
 /*
- * Judges the trace in a file: prints one line and exits with 0 robust, 1 broken, 2 refused; 3 if there is no such file.
+ * Judges the trace in a file: prints one line and exits with 0 robust, 1 broken, 2 refused; 3 if it cannot be read.
  *
  *     rt staticlib cabi
  *     cc -Iinclude examples/judge.c target/staticlib/libcabi.a -o target/judge
@@ -22,8 +22,9 @@ static long read_file(const char *path)
     if (file == NULL)
         return -1;
     size_t size = fread(trace, 1, LONGEST, file);
+    int failed = ferror(file);
     fclose(file);
-    return (long)size;
+    return failed ? -1 : (long)size;
 }
 
 int main(int argc, char **argv)
