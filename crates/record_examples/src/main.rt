@@ -1,5 +1,6 @@
 // Calls the record crate on document 01's record-level examples and on the edges of each rule, and prints what each
 // call answers. The file `stdout` beside src/ was worked out from document 01 by hand.
+mod round_trips;
 mod show;
 
 use record::Event;
