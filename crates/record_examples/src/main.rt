@@ -5,6 +5,8 @@ mod show;
 
 use record::Event;
 use record::Fields;
+use show::again;
+use show::back;
 use show::name;
 use show::parts_of;
 use show::read;
@@ -68,7 +70,7 @@ fn kinds() {
     read(b"\x02\x00\x02\x00");
 }
 
-// Every kind, written, read back and framed, with field values from 0 to 65,535.
+// Every kind, written and framed, and both round trips, with field values from 0 to 65,535.
 fn every_kind() {
     title(b"every kind");
     write(Event::Begin {
@@ -123,6 +125,23 @@ fn short_outputs() {
         },
         10,
     );
+}
+
+// Round trips that are refused, and that just fit: refusal 17 of both; then 1 to 4, and a record with other bytes behind it.
+fn refused_trips() {
+    title(b"refused trips");
+    let mut three = [238u8; 3];
+    let mut four = [238u8; 4];
+    let mut twelve = [238u8; 12];
+    back(Event::Crash, &mut three);
+    back(Event::Crash, &mut four);
+    again(b"\x02\x00\x09\x00", &mut three);
+    again(b"\x02\x00\x09\x00", &mut four);
+    again(b"", &mut twelve);
+    again(b"\x08\x00\x01", &mut twelve);
+    again(b"\x02\x00\x63\x00", &mut twelve);
+    again(b"\x04\x00\x09\x00\x00\x00", &mut twelve);
+    again(b"\x04\x00\x03\x00\x05\x00\x07\x07", &mut twelve);
 }
 
 // Record by record through B, an issue and a crash; then at the end, past it, and inside a record.
@@ -201,6 +220,7 @@ fn main() {
     kinds();
     every_kind();
     short_outputs();
+    refused_trips();
     positions();
     scans();
     names();

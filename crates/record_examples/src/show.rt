@@ -1,4 +1,6 @@
-// Prints what a call of the record crate answers, a line a call.
+// Prints what a call of the record crate, or a round trip over its calls, answers, a line a call.
+use crate::round_trips::read_back;
+use crate::round_trips::write_again;
 use libc::STDOUT_FILENO;
 use record::Event;
 use record::Fields;
@@ -86,7 +88,7 @@ fn of_location(name: &[u8], thread: u16, location: u16) {
     value(location);
 }
 
-fn answer(r: Read) {
+fn found(r: Read) {
     match r {
         Read::Record(e, n) => {
             event(e);
@@ -98,6 +100,17 @@ fn answer(r: Read) {
             value(k);
         }
     }
+}
+
+fn answer(r: Read) {
+    found(r);
+    say(b"\n");
+}
+
+fn answer_and_output(r: Read, out: &[u8]) {
+    found(r);
+    say(b", output");
+    hex(out);
     say(b"\n");
 }
 
@@ -199,15 +212,41 @@ pub fn write_short(e: Event, room: usize) {
     }
 }
 
-// An event written into twelve bytes, read back, and framed.
+// An event written into the output and read back, and what the output holds afterwards.
+pub fn back(e: Event, out: &mut [u8]) {
+    say(b"back");
+    event(e);
+    say(b" into");
+    number(out.len() as u64);
+    say(b":");
+    let r = read_back(e, out);
+    answer_and_output(r, out);
+}
+
+// The first record of some bytes read and written again into the output, and what the output holds afterwards.
+pub fn again(s: &[u8], out: &mut [u8]) {
+    say(b"again");
+    hex(s);
+    say(b" into");
+    number(out.len() as u64);
+    say(b":");
+    let r = write_again(s, out);
+    answer_and_output(r, out);
+}
+
+// An event written into twelve bytes and framed; then written and read back, and its record written again.
 pub fn write(e: Event) {
     let mut out = [238u8; 12];
     write_into(e, &mut out);
-    say(b"  read back:");
-    answer(record::read_first(&out));
     say(b"  part 0:");
     hex(record::part(&out, 0));
     say(b"\n");
+    let mut trip = [238u8; 12];
+    say(b"  ");
+    back(e, &mut trip);
+    let mut copy = [238u8; 12];
+    say(b"  ");
+    again(&trip, &mut copy);
 }
 
 fn part(s: &[u8], e: usize) {
