@@ -1,7 +1,7 @@
 /*
- * A `read` for tests/verdict, loaded before the C library's. The letters of the environment variable READS say, call by
- * call, what becomes of it: i a signal interrupts it, f it fails, p it reads at most 7 bytes, r it reads as asked. So does
- * every call behind the last letter.
+ * A `read` for tests/verdict, loaded before the C library's. The letters of the environment variable READS say what
+ * becomes of each call in turn: i a signal interrupts it, f it fails, p it reads at most 7 bytes, r it reads as asked, as
+ * does every call behind the last letter.
  */
 #define _GNU_SOURCE
 #include <errno.h>

@@ -127,7 +127,7 @@ fn short_outputs() {
     );
 }
 
-// Round trips that are refused, and that just fit: refusal 17 of both; then 1 to 4, and a record with other bytes behind it.
+// Round trips with too short an output, and with one that just fits; refusals 1 to 4; other bytes behind a record.
 fn refused_trips() {
     title(b"refused trips");
     let mut three = [238u8; 3];
