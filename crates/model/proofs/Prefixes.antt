@@ -135,7 +135,7 @@ module _ {N : ℕ} {ev other : ℕ → Event} (agree : Agree N ev other) where
             explained .forbidden-out p forbidden (in-same (reversed agree) c p (omega arith) is-in);
       }
 
-  robust-same : Robust ev N → Robust other N
+  pub robust-same : Robust ev N → Robust other N
   robust-same (c, explains) = (c, explains-same c explains)
 
 module _ {N : ℕ} {ev other : ℕ → Event} (agree : Agree N ev other) where

@@ -1,5 +1,5 @@
 // Reads a trace from standard input and prints its verdict. If a read fails it prints none, since a part of a trace may be
-// judged otherwise than the whole, and says so on standard error.
+// judged otherwise than the whole, and says so on standard error. It says there too that a write failed.
 mod input;
 
 use input::Input;
@@ -15,5 +15,7 @@ fn main() {
     };
     let mut out = [0u8; 1024];
     let size = verdict_text::text_of(&buffer[..n], &mut out);
-    io::write_all(STDOUT_FILENO, &out[..size]);
+    if !io::write_all(STDOUT_FILENO, &out[..size]) {
+        os::fail(b"verdict: cannot write standard output");
+    }
 }
