@@ -1,21 +1,23 @@
 """Write a list of sessions as a proof file of the crate `model`: their bytes, their events, and the expected answers.
 
 python3 proof_file.py cases > ../../crates/model/proofs/Cases.antt
+python3 proof_file.py trade > ../../crates/model/proofs/CasesOfTrade.antt
 python3 proof_file.py random SEED COUNT > ../../crates/model/proofs/RandomSessions.antt
 
-The expected answers of the cases are those that sessions.py states by hand from document 01; those of the random
-sessions come from the brute force of oracle.py.
+The expected answers of the cases and of the errors of the trade are those that sessions.py states by hand from
+document 01; those of the random sessions come from the brute force of oracle.py.
 """
 
 from __future__ import annotations
 
+import re
 import sys
 from typing import Iterable
 
 import generate
 import oracle
 from oracle import Event, Refused
-from sessions import CASES
+from sessions import CASES, ERRORS
 
 CONSTRUCTORS = {oracle.BEGIN: "Begin", oracle.ISSUE: "Issue", oracle.COMMIT: "Commit", oracle.LOAD: "Load",
                 oracle.CLFLUSH: "Clflush", oracle.CLFLUSHOPT: "Clwb", oracle.SFENCE: "Sfence", oracle.MFENCE: "Mfence",
@@ -26,6 +28,10 @@ HEADERS = {
 -- Document 01, "Sessions": "Cases 1 to 11 are the proved ones." The definitions give each case's bytes the answer that
 -- document 01 states, and the cut buffer; case 11 stands for both its loads. Shown together as one list, by
 -- computation. Made by tools/oracle/proof_file.py. Assumes nothing.""",
+    "trade": """\
+-- Document 01, "Errors the trade has made": a session for each that has no case of its own, and for rules that no case
+-- needs. The definitions give their bytes the answers that follow from document 01, and the cut buffers. Shown together
+-- as one list, by computation. Made by tools/oracle/proof_file.py. Assumes nothing.""",
     "random": """\
 -- Random sessions: the definitions give their bytes the answers of an independent brute force over all choices
 -- (tools/oracle). Shown together as one list, by computation.
@@ -39,15 +45,15 @@ use Rattle.record.specs.declared.events.Event.{Event}
 %s
 use Rattle.record.specs.Events.{recordOf}
 use Rattle.record.specs.Table.{rowOf}
-use Rattle.model.specs.Search.{some, last, first, firstFrom, most}
+use Rattle.model.specs.Search.{some, any, last, first, firstFrom, most}
 use Rattle.model.specs.Trace.{stretch, count}
-use Rattle.model.specs.Machine.{committed, commitOf, waiting, current, sourceFits, skipping, counted}
+use Rattle.model.specs.Machine.{committed, commitOf, waiting, current, sourceFits, switched, counted, counting}
 use Rattle.model.specs.Rules.{answer, rules}
 use Rattle.model.specs.Choice.{finished}
 use Rattle.model.specs.Clocks.{seen, clock, vc}
 use Rattle.model.specs.Verdict.{forbids?, observes?, forbidden?, observed?, pair?, missing?, bad?, closure}
 use Rattle.model.specs.Verdict.{loadOf, missingOf, observedOf, rulingOf}
-use Rattle.model.specs.Answers.{refused, robust, broken, contradiction, flush}
+use Rattle.model.specs.Answers.{%s}
 use Rattle.model.specs.Answers.{tabulate, cutOf, sum, shareOf}
 use Rattle.model.specs.Reading.{encode}
 use Rattle.model.proofs.Encoding.{readingEvents}
@@ -59,8 +65,8 @@ encoded = refl
 
 computed : map outcomeOfEvents traces ≡ answers
 unfolding traces answers readingEvents some last first firstFrom most stretch count committed commitOf waiting current
-    sourceFits skipping counted answer rules finished seen clock vc forbids? observes? forbidden? observed? pair?
-    missing? bad? closure loadOf missingOf observedOf rulingOf tabulate cutOf sum shareOf rowOf
+    sourceFits switched counted counting any answer rules finished seen clock vc forbids? observes? forbidden?
+    observed? pair? missing? bad? closure loadOf missingOf observedOf rulingOf tabulate cutOf sum shareOf rowOf
 computed = refl
 
 pub %s : map outcomeOf sessions ≡ answers
@@ -83,6 +89,12 @@ def imported(names: list[str]) -> list[str]:
     """The lines that bring in constructors of `Event`, six to a line."""
     groups = [names[first:first + 6] for first in range(0, len(names), 6)]
     return [f"use Rattle.record.specs.declared.events.Event.the-variants.{{{', '.join(group)}}}" for group in groups]
+
+
+def answered(answers: Iterable[str]) -> list[str]:
+    """The constructors of `Answer` and `Fault` that the answers name."""
+    words = set(re.findall(r"\w+", " ".join(answers)))
+    return [name for name in ("refused", "robust", "broken", "contradiction", "flush") if name in words]
 
 
 def wrapped(items: Iterable[str], indent: str) -> str:
@@ -138,12 +150,12 @@ def proof_file(which: str, listed: list[tuple[str, bytes, list[str]]]) -> str:
     """The whole file."""
     kinds = {event.kind for _, data, _ in listed for event in events_of(data)}
     used = "\n".join(imported([CONSTRUCTORS[kind] for kind in sorted(kinds)]))
-    name = {"cases": "cases-1-to-11", "random": "random-sessions"}[which]
+    name = {"cases": "cases-1-to-11", "trade": "errors-of-the-trade", "random": "random-sessions"}[which]
     bytes_ = [(title, wrapped(map(shown_record, events_of(data)), "    ")) for title, data, _ in listed]
     events = [(title, wrapped(map(shown_event, events_of(data)), "    ")) for title, data, _ in listed]
     answers = [(title, shown_answer(lines)) for title, _, lines in listed]
     return "\n\n".join([
-        HEADERS[which] + "\n" + IMPORTS % used,
+        HEADERS[which] + "\n" + IMPORTS % (used, ", ".join(answered(entry for _, entry in answers))),
         "-- the bytes\n" + "pub " + table("sessions", "(List ℕ)", bytes_),
         "-- the events that they are the records of\n" + table("traces", "(List Event)", events),
         "-- the answers, and the cut buffers afterwards\n" + "pub " + table("answers", "Outcome", answers),
@@ -172,8 +184,9 @@ def readable(data: bytes) -> bool:
 def main() -> None:
     """Print the file."""
     which = sys.argv[1]
-    if which == "cases":
-        print(proof_file(which, [(name, data, lines.split(" / ")) for name, data, lines in CASES]), end="")
+    if which in ("cases", "trade"):
+        listed = CASES if which == "cases" else ERRORS
+        print(proof_file(which, [(name, data, lines.split(" / ")) for name, data, lines in listed]), end="")
     else:
         print(proof_file(which, random_sessions(int(sys.argv[2]), int(sys.argv[3]))), end="")
 

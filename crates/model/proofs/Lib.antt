@@ -3,8 +3,8 @@
 -- `max-explains` (Lattice), `exact-same` (Prefixes), `explains-is-replay` (Replay), `accepted-exactly`,
 -- `turned-away-exactly` (TurnedAway), `ordered-as-demanded` (Queries), `judged-as-demanded` (Demanded),
 -- `broken-as-trace`, `robust-before-load` (TakenAsTrace), `accepted-encoded` (AcceptedBytes),
--- `flushes-move-no-verdict` (FlushNeutral), `cases-1-to-11` (Cases), `refusals-1-to-5` (NoTrace) and `random-sessions`
--- (RandomSessions).
+-- `flushes-move-no-verdict` (FlushNeutral), `refusals-14-and-15` (BufferSizes), `cases-1-to-11` (Cases),
+-- `errors-of-the-trade` (CasesOfTrade), `refusals-1-to-5` (NoTrace) and `random-sessions` (RandomSessions).
 pub mod Searching
 pub mod Induction
 pub mod Tabulating
@@ -50,6 +50,8 @@ pub mod AcceptedBytes
 pub mod RemovedBytes
 pub mod FlushNeutral
 pub mod Sessions
+pub mod BufferSizes
 pub mod Cases
+pub mod CasesOfTrade
 pub mod NoTrace
 pub mod RandomSessions
