@@ -97,10 +97,10 @@ pub(crate) fn place_fits(m: Machine, row: usize, t: u16, x: u16) -> bool
 pub(crate) fn place_refusal(m: Machine, row: usize, t: u16) -> u16
     ensures { λ r. ⌜ r ≡ placeRefusal (m .threads) row t ⌝ }
 {
-    if 32768 <= row {
-        return 13;
+    if row < 32768 {
+        return if m.threads <= t { 7 } else { 8 };
     }
-    if m.threads <= t { 7 } else { 8 }
+    13
 }
 
 // ---- fences
