@@ -72,16 +72,16 @@ module _ (counts : List ℕ) (h x s e : ℕ) (breaks : Bool) where
   unfolding noted
   before-broken i differs = by-test breaks
     where
-      by-test : (b : Bool) → countIn (cond b (set with-load brokenCell e) with-load) i ≡ countIn with-load i
-      by-test true = getD-set-other with-load brokenCell i e 0 differs
+      by-test : (b : Bool) → countIn (noted counts h x s e b) i ≡ countIn with-load i
+      by-test true = getD-set-other with-load brokenCell i _ 0 differs
       by-test false = refl
 
   pub noted-size : length after ≡ length counts
   unfolding noted
   noted-size = by-test breaks ∙ with-load-size
     where
-      by-test : (b : Bool) → length (cond b (set with-load brokenCell e) with-load) ≡ length with-load
-      by-test true = length-set with-load brokenCell e
+      by-test : (b : Bool) → length (noted counts h x s e b) ≡ length with-load
+      by-test true = length-set with-load brokenCell _
       by-test false = refl
 
   pub noted-leaves : (i : ℕ) → i ≢ lastCell x → i ≢ sourceCell x → i ≢ brokenCell → countIn after i ≡ countIn counts i
@@ -107,9 +107,7 @@ module _ (counts : List ℕ) (h x s e : ℕ) (breaks : Bool) where
     unfolding noted
     noted-broken = by-test breaks
       where
-        by-test :
-            (b : Bool)
-            → brokenIn (cond b (set with-load brokenCell e) with-load) ≡ cond b e (brokenIn counts)
+        by-test : (b : Bool) → brokenIn (noted counts h x s e b) ≡ cond b e (brokenIn counts)
         by-test true = getD-set-same with-load brokenCell e 0 (omega (arith, with-load-size))
         by-test false =
             getD-set-other (set counts (lastCell x) h) (sourceCell x) brokenCell s 0 (λ same. omega arith)
