@@ -15,25 +15,24 @@ use Rattle.model.specs.Answers.{tabulate, sum, percent, cutOf, shareOf}
 use Rattle.model.proofs.Tabulating.{sum-mono, tabulate-same, tabulate-length}
 use Rattle.model.proofs.Closure.{closure-fits}
 use Rattle.marks.specs.Marks.{Marks, cutCell, countIn}
-use Rattle.marks.specs.Ending.{copied, storesIn}
+use Rattle.marks.specs.Ending.{leastAt, copied, storesIn}
 use Rattle.marks.specs.Matching.{Judging}
 
 -- ---- the buffer
 
 module _ (counts : List ℕ) where
-  abbrev leastAt : ℕ → ℕ
-  leastAt i = countIn counts (8 + i)
-
   -- the first n counts are copied, and the rest of the buffer is as it was
-  copied-front : (n : ℕ) (out : List ℕ) → n ≤ length out → copied n counts out ≡ tabulate n leastAt ++ drop n out
+  copied-front :
+      (n : ℕ) (out : List ℕ) → n ≤ length out
+      → copied n counts out ≡ tabulate n (leastAt counts) ++ drop n out
   unfolding copied tabulate
   copied-front zero out within = refl
   copied-front (suc n) out within =
       rw (copied-front n out (omega arith), drop-cons out n 0 within)
-      (set-at (tabulate n leastAt) _ _ (leastAt n) n (tabulate-length n leastAt)
-      ∙ sym (append-snoc (tabulate n leastAt) (leastAt n) (drop (suc n) out)))
+      (set-at (tabulate n (leastAt counts)) _ _ (leastAt counts n) n (tabulate-length n (leastAt counts))
+      ∙ sym (append-snoc (tabulate n (leastAt counts)) (leastAt counts n) (drop (suc n) out)))
 
-  copied-all : (n : ℕ) (out : List ℕ) → length out ≡ n → copied n counts out ≡ tabulate n leastAt
+  copied-all : (n : ℕ) (out : List ℕ) → length out ≡ n → copied n counts out ≡ tabulate n (leastAt counts)
   copied-all n out size = copied-front n out (omega arith) ∙ rw (← size, drop-length out) (no-rest _)
     where
       no-rest : (xs : List ℕ) → xs ++ [] ≡ xs
@@ -49,7 +48,8 @@ module _ (ev : ℕ → Event) (N : ℕ) where
         least-is : (i : ℕ) → i < 56 → leastAt (m .counts) i ≡ closure ev N (i / 8 + 1) (i % 8)
         least-is i there =
             let at : 8 + i ≡ cutCell (i / 8 + 1) (i % 8) = omega arith in
-            rw at (judging .cuts (i / 8 + 1) (i % 8) (omega arith) (omega arith) (omega arith))
+            ap (λ (cell : ℕ). countIn (m .counts) cell) at
+            ∙ judging .cuts (i / 8 + 1) (i % 8) (omega arith) (omega arith) (omega arith)
 
     -- THE CUT BUFFER
     pub cut-is : (out : List ℕ) → length out ≡ 56 → copied 56 (m .counts) out ≡ cutOf (closure ev N)

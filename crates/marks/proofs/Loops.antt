@@ -18,7 +18,7 @@ use Rattle.marks.specs.Marks.{Marks, marksOf, cutCell, lowCell, flagCell
 use Rattle.marks.specs.Marking.{forbid, lower, marked, walked, seenFrom, loaded}
 use Rattle.marks.specs.Testing.{markHits, walkHits, hits, loadHits}
 use Rattle.marks.specs.Judged.{repeated, noted, judgedNew, judged}
-use Rattle.marks.specs.Ending.{copied}
+use Rattle.marks.specs.Ending.{leastAt, copied}
 
 -- ---- marking and the walk
 
@@ -149,7 +149,7 @@ module _ (p n : ℕ) (f : ℕ → Bool) where
 -- ---- the end
 
 pub copied-more :
-    (i : ℕ) (counts out : List ℕ) → set (copied i counts out) i (countIn counts (8 + i)) ≡ copied (i + 1) counts out
+    (i : ℕ) (counts out : List ℕ) → set (copied i counts out) i (leastAt counts i) ≡ copied (i + 1) counts out
 unfolding copied
 copied-more i counts out = rw add-one
 
