@@ -16,7 +16,7 @@ use Rattle.area.specs.Cells.{eventAt}
 use Rattle.machine.specs.declared.threads.Thread.{Thread}
 use Rattle.machine.specs.Tables.{lastCell, commitsCell, newestCell, stretchCell}
 use Rattle.model.specs.Search.{bit}
-use Rattle.machine.specs.Threads.{fresh, issuedT, committedT, skippedT, threadOf, ofThread}
+use Rattle.machine.specs.Threads.{fresh, issuedT, committedT, skippedT, crashedT, threadOf, ofThread}
 use Rattle.machine.specs.Threads.{putIssued, putCommitted, putSkip, unseen, restarted}
 use Rattle.machine.specs.Effects.{issuedTables, finishedThread, finished}
 use Rattle.machine.proofs.Storing.{Same, Elsewhere, set-leaves, column-after, run, run-size, run-leaves, run-in}
@@ -208,13 +208,14 @@ module _ (tables : List ℕ) (t : ℕ) (few : t < 8) (size : length tables ≡ 3
 
 -- ---- a finished stretch
 
--- a thread that starts afresh has a row of zeros
+-- a thread that a crash has met has a row of zeros
 abbrev zeros : ℕ → ℕ
 zeros _ = 0
 
-restarted-is : (tables : List ℕ) (t : ℕ) → restarted tables t fresh ≡ run (16 * t) 13 zeros tables
+restarted-is :
+    (tables : List ℕ) (t : ℕ) (old : Thread) → restarted tables t (crashedT old) ≡ run (16 * t) 13 zeros tables
 unfolding restarted putSkip unseen run
-restarted-is tables t = refl
+restarted-is tables t old = refl
 
 -- stretch j is finished for threads 0 to k - 1
 pub record Finished (k : ℕ) (tables tables′ : List ℕ) (j : ℕ) : Type 0 where
@@ -232,7 +233,7 @@ module _ (tables : List ℕ) (j : ℕ) (room : length tables ≡ 3008) (from-one
       → Finished (suc k) tables (finishedThread so-far j k) j
   unfolding finishedThread threadOf
   finished-more k so-far few before =
-      rw (restarted-is noted k)
+      rw (restarted-is noted k (threadOf so-far k))
       (record {
         size = run-size (16 * k) zeros noted 13 ∙ noted-size;
         restarts = λ t below u low. last-or-earlier-row t below u low (same? t k);
