@@ -18,8 +18,9 @@ use Rattle.model.specs.Verdict.{forbids?, observes?, forbidden?, observe
 use Rattle.model.specs.Verdict.{loadOf, missingOf, observedOf, rulingOf}
 use Rattle.model.specs.Answers.{robust, broken, contradiction, flush}
 use Rattle.model.specs.Answers.{tabulate, cutOf, sum, shareOf}
-use Rattle.model.proofs.Encoding.{encode, readingEvents}
-use Rattle.model.proofs.Sessions.{lent, zeros, Judged, judged, judgedEvents, judged-all}
+use Rattle.model.specs.Reading.{encode}
+use Rattle.model.proofs.Encoding.{readingEvents}
+use Rattle.model.proofs.Sessions.{lent, zeros, Outcome, outcomeOf, outcomeOfEvents, outcome-all}
 
 -- the bytes
 pub sessions : List (List ℕ)
@@ -143,7 +144,7 @@ traces =
     []
 
 -- the answers, and the cut buffers afterwards
-pub answers : List Judged
+pub answers : List Outcome
 answers =
     -- stretches in between forgotten
     (record { answer = broken 8 8 4 4 contradiction; cut = lent }) ∷
@@ -179,16 +180,16 @@ answers =
     (record { answer = robust 5 100; cut = 1 ∷ zeros 55 }) ∷
     []
 
-written : map encode traces ≡ sessions
+encoded : map encode traces ≡ sessions
 unfolding traces sessions encode recordOf rowOf
-written = refl
+encoded = refl
 
-computed : map judgedEvents traces ≡ answers
+computed : map outcomeOfEvents traces ≡ answers
 unfolding traces answers readingEvents some last first firstFrom most stretch count committed commitOf waiting current
     sourceFits switched counted counting any answer rules finished seen clock vc forbids? observes? forbidden?
     observed? pair? missing? bad? closure loadOf missingOf observedOf rulingOf tabulate cutOf sum shareOf rowOf
 computed = refl
 
-pub errors-of-the-trade : map judged sessions ≡ answers
+pub errors-of-the-trade : map outcomeOf sessions ≡ answers
 unfolding traces
-errors-of-the-trade = ap (map judged) (sym written) ∙ (judged-all traces refl ∙ computed)
+errors-of-the-trade = ap (map outcomeOf) (sym encoded) ∙ (outcome-all traces refl ∙ computed)
