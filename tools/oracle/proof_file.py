@@ -27,15 +27,15 @@ HEADERS = {
     "cases": """\
 -- Document 01, "Sessions": "Cases 1 to 11 are the proved ones." The definitions give each case's bytes the answer that
 -- document 01 states, and the cut buffer; case 11 stands for both its loads. Shown together as one list, by
--- computation. Made by tools/oracle/proof_file.py. Assumes nothing.""",
+-- computation. Made by tools/oracle/proof_file.py.""",
     "trade": """\
 -- Document 01, "Errors the trade has made": a session for each that has no case of its own, and for rules that no case
 -- needs. The definitions give their bytes the answers that follow from document 01, and the cut buffers. Shown together
--- as one list, by computation. Made by tools/oracle/proof_file.py. Assumes nothing.""",
+-- as one list, by computation. Made by tools/oracle/proof_file.py.""",
     "random": """\
 -- Random sessions: the definitions give their bytes the answers of an independent brute force over all choices
 -- (tools/oracle). Shown together as one list, by computation.
--- Made by tools/oracle/proof_file.py. Assumes nothing.""",
+-- Made by tools/oracle/proof_file.py.""",
 }
 
 IMPORTS = """use mathlib.Core.Path.{_≡_, refl, sym, ap, _∙_}

@@ -1,5 +1,5 @@
 -- Numbers joined with a store's clock: each is stored before the next is read, and no two are in one place, so each is
--- the larger of what it was and of the clock's; all others are as they were. Assumes nothing.
+-- the larger of what it was and of the clock's; all others are as they were.
 use mathlib.Core.Path.{_≡_, refl, _∙_}
 use mathlib.Core.Logic.{_⊎_, inl, inr, _≢_}
 use mathlib.Core.List.{List}

@@ -1,6 +1,6 @@
 -- Rows read back: a store leaves its value in its own cell and every other cell as it was, and keeps the length. Rows 1
 -- to 2,048 begin at the multiples of 16, one after the other; 0 shares the last one with 2,048, so that an earlier
--- store's row, which is none of the two, is apart from it. Assumes nothing.
+-- store's row, which is none of the two, is apart from it.
 -- In order: where rows begin; stores by row and column; stores by position, in the row that begins there.
 use mathlib.Core.Path.{_≡_, refl, ap}
 use mathlib.Core.Logic.{_⊎_, inl, inr, _≢_}

@@ -1,5 +1,5 @@
 -- What a kind's number and fields name tells whether the table has the kind: one case for each answer of the table's
--- test. Assumes nothing.
+-- test.
 use mathlib.Core.Path.{_≡_, refl}
 use mathlib.Core.Bool.{Bool, true, false, not}
 use Prim.Native.Nat.{ℕ}

@@ -1,5 +1,5 @@
 -- What judging a load leaves of the counts: the walk stores below number 128, observing stores in the eight numbers of
--- one stretch's cut, and noting stores in its location's two numbers and at the breaking load's. Assumes nothing.
+-- one stretch's cut, and noting stores in its location's two numbers and at the breaking load's.
 use Prim.Native.Nat.{ℕ, zero, suc, _≤_}
 use native.Mathlib.Omega.{arith}
 use mathlib.Core.Path.{_≡_, refl, _∙_}

@@ -1,5 +1,5 @@
 -- The sizes of the lent buffers: document 01's examples of refusals 14 and 15, "Order: 14, 15", and the sizes that
--- pass, whatever the trace. Computed. Assumes nothing.
+-- pass, whatever the trace. Computed.
 use Prim.Native.Nat.{ℕ}
 use mathlib.Core.Path.{_≡_, refl}
 use mathlib.Core.List.{List, [], _∷_}

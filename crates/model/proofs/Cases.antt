@@ -1,6 +1,6 @@
 -- Document 01, "Sessions": "Cases 1 to 11 are the proved ones." The definitions give each case's bytes the answer that
 -- document 01 states, and the cut buffer; case 11 stands for both its loads. Shown together as one list, by
--- computation. Made by tools/oracle/proof_file.py. Assumes nothing.
+-- computation. Made by tools/oracle/proof_file.py.
 use mathlib.Core.Path.{_≡_, refl, sym, ap, _∙_}
 use mathlib.Core.List.{List, [], _∷_, map}
 use Prim.Native.Nat.{ℕ}

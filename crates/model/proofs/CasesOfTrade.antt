@@ -1,6 +1,6 @@
 -- Document 01, "Errors the trade has made": a session for each that has no case of its own, and for rules that no case
 -- needs. The definitions give their bytes the answers that follow from document 01, and the cut buffers. Shown together
--- as one list, by computation. Made by tools/oracle/proof_file.py. Assumes nothing.
+-- as one list, by computation. Made by tools/oracle/proof_file.py.
 use mathlib.Core.Path.{_≡_, refl, sym, ap, _∙_}
 use mathlib.Core.List.{List, [], _∷_, map}
 use Prim.Native.Nat.{ℕ}

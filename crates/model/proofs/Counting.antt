@@ -1,4 +1,4 @@
--- Stretches and counts: how they change from event to event, and that a place has one event. Assumes nothing.
+-- Stretches and counts: how they change from event to event, and that a place has one event.
 use Prim.Native.Nat.{ℕ, zero, suc, _+_, _≤_, _<_}
 use native.Mathlib.Omega.{arith}
 use mathlib.Core.Path.{_≡_, refl}

@@ -1,6 +1,6 @@
 -- Demand 3 of the computed answer: for every accepted trace, with any buffers that refusals 14 and 15 let pass, what
 -- `judgeOf` answers and `cutAfter` leaves in the cut buffer make the claim of specs/Demand.antt. And demand 1: a trace
--- that is turned away is refused, and a refusal leaves the cut buffer as lent. Assumes nothing.
+-- that is turned away is refused, and a refusal leaves the cut buffer as lent.
 use Prim.Native.Nat.{ℕ, _≤_}
 use native.Mathlib.Omega.{arith}
 use mathlib.Core.Path.{_≡_, refl}

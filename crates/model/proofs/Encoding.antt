@@ -1,6 +1,6 @@
 -- A trace written record by record is read as its events: where each record starts, what is read there, and that the
 -- bytes end behind the last one. So what the definitions say of such bytes is what they say of the list of events,
--- which computes at once. Assumes nothing.
+-- which computes at once.
 use Prim.Native.Nat.{ℕ, zero, suc, _+_, _≤_, _<_}
 use native.Mathlib.Omega.{arith}
 use mathlib.Core.Path.{_≡_, refl, sym, ap, _∙_, fun-ext}

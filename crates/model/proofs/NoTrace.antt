@@ -1,5 +1,5 @@
 -- Document 01's examples of bytes that are no trace, each with its refusal: a list of its own, since bytes that are no
--- records are not those of a list of events. Computed. Assumes nothing.
+-- records are not those of a list of events. Computed.
 use Prim.Native.Nat.{ℕ}
 use mathlib.Core.Path.{_≡_, refl}
 use mathlib.Core.List.{List, [], _∷_, map}

@@ -1,6 +1,6 @@
 -- The numbers of a part's events in the whole (specs/Embedding.antt): they keep their order, and a search among those
 -- of the whole finds what it finds among the part's. In order: threads and locations; order; equality and order, as
--- tests; tests and searches. Assumes nothing of events.
+-- tests; tests and searches. No law here speaks of events.
 use Prim.Native.Nat.{ℕ, zero, suc, _≤_, _<_}
 use native.Mathlib.Omega.{arith}
 use mathlib.Core.Path.{_≡_, sym, _∙_, ap}

@@ -1,5 +1,5 @@
 -- The order query is exact: of two stores it answers same, before, after or neither exactly as happens-before has them.
--- The clock of a store covers another exactly if they are equal or the other happens before it. Assumes nothing.
+-- The clock of a store covers another exactly if they are equal or the other happens before it.
 use Prim.Native.Nat.{ℕ, _≤_}
 use native.Mathlib.Omega.{arith}
 use mathlib.Core.Path.{_≡_, sym, _∙_}

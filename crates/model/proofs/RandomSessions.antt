@@ -1,6 +1,6 @@
 -- Random sessions: the definitions give their bytes the answers of an independent brute force over all choices
 -- (tools/oracle). Shown together as one list, by computation.
--- Made by tools/oracle/proof_file.py. Assumes nothing.
+-- Made by tools/oracle/proof_file.py.
 use mathlib.Core.Path.{_≡_, refl, sym, ap, _∙_}
 use mathlib.Core.List.{List, [], _∷_, map}
 use Prim.Native.Nat.{ℕ}

@@ -1,6 +1,6 @@
 -- A choice explains a counted load exactly if the memory into which just its stores were replayed holds the load's
 -- source: the memory holds the last committed of the location's stores that are in, the observed store is one of them,
--- and the forbidden ones are those that were committed after it. Assumes nothing.
+-- and the forbidden ones are those that were committed after it.
 use Prim.Native.Nat.{ℕ, zero, suc, _≤_, _<_}
 use native.Mathlib.Omega.{arith}
 use mathlib.Core.Path.{_≡_, refl, sym, ap, _∙_}

@@ -1,5 +1,5 @@
 -- Tests and bounded searches: what it means that a test is passed, and what each search of specs/Search.antt finds.
--- In order: tests and their connectives; decisions on numbers; `some`, `any`, `most`, `first`, `last`. Assumes nothing.
+-- In order: tests and their connectives; decisions on numbers; `some`, `any`, `most`, `first`, `last`.
 use Prim.Native.Nat.{ℕ, zero, suc, _+_, _≤_, _<_, max}
 use native.Mathlib.Omega.{arith}
 use mathlib.Core.Path.{_≡_, refl, sym, _∙_}

@@ -1,6 +1,6 @@
 -- Sessions: how a list of worked examples is shown of the definitions, from their bytes. The bytes are those of a list
 -- of events, so what the definitions say of the bytes is what they say of the events (proofs/Encoding.antt), and that
--- is computed. Assumes nothing.
+-- is computed.
 use Prim.Native.Nat.{ℕ, _<_}
 use mathlib.Core.Path.{_≡_, refl, ap₂}
 use mathlib.Core.Bool.{Bool, true, _&&_}

@@ -1,4 +1,4 @@
--- Lists made number by number, and sums of such lists of counts. Assumes nothing.
+-- Lists made number by number, and sums of such lists of counts.
 use Prim.Native.Nat.{ℕ, zero, suc, _+_, _≤_, _<_}
 use native.Mathlib.Numerals.{add-one}
 use native.Mathlib.Omega.{arith}

@@ -1,6 +1,6 @@
 -- Refusals are exact: a trace's bytes are accepted with N records, or turned away with number k at event e, exactly if
 -- document 01's conditions hold, and one of the two holds of all bytes. The search for the first number at which no
--- record passes always ends, since each record that is read takes at least four bytes. Assumes nothing.
+-- record passes always ends, since each record that is read takes at least four bytes.
 -- In order: what is found at a number, by what reading answers there, and back; the search; the theorem.
 use Prim.Native.Nat.{ℕ, zero, suc, _*_, _≤_, _<_}
 use native.Mathlib.Omega.{arith}

@@ -1,5 +1,5 @@
 -- Facts about every entry of a list, or about every number, that are shown by computing once: a test over a list; two
--- functions of a number; the numbers that a match has no arm for. So a rule of the table names no row. Assumes nothing.
+-- functions of a number; the numbers that a match has no arm for. So a rule of the table names no row.
 use mathlib.Core.Path.{_≡_, refl}
 use mathlib.Core.Bool.{Bool, true, false, _&&_, _||_}
 use mathlib.Core.List.{List, [], _∷_}

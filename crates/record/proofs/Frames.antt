@@ -1,5 +1,4 @@
 -- What a frame and a record that was read say about the bytes: the definitions' cases, turned round.
--- Assumes nothing.
 use mathlib.Core.Path.{_≡_, refl, sym, ap, _∙_}
 use mathlib.Core.Bool.{Bool, true, false, not}
 use mathlib.Core.List.{List}

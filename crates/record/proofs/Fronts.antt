@@ -1,7 +1,7 @@
 -- "Reading one record alone, the first of the bytes given, ignores what follows it": of bytes that are cut off behind a
 -- record, or later, the record is read as before. Reading looks at the record's length, its kind and its fields, and
 -- each of them ends within the record. So the first records of a trace, cut off behind them, are read as before.
--- In order: the first record; a record at a position; records 0 to n - 1, one after the other. Assumes nothing.
+-- In order: the first record; a record at a position; records 0 to n - 1, one after the other.
 use mathlib.Core.Path.{_≡_, refl, sym, ap, _∙_, fun-ext}
 use mathlib.Core.List.{List}
 use Prim.Native.Nat.{ℕ, zero, suc, _+_, _-_, _≤_, _<_}

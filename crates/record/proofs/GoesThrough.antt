@@ -2,7 +2,7 @@
 -- callee meets the same of a reader (TakesApart has the contracts). A walk of the function's MIR, by hand, once for all
 -- such functions: the reader that `new` returns is held in a local and passed on. In a local of a body MIR erases the
 -- lifetime of the struct's type, so the value is shown to have the type at `erased`: what the struct owns does not say
--- the lifetime's name. Assumes nothing.
+-- the lifetime's name.
 use mathlib.Core.Path.{_≡_, refl, subst}
 use Prim.Native.Nat.{ℕ, _<_, _^_}
 use mathlib.Core.List.{List, [], _∷_}

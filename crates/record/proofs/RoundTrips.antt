@@ -1,5 +1,5 @@
 -- The round trips, theorems about the definitions: `write-read`, an event that was written is read as itself, whatever
--- follows it; `read-write`, a record that was read, written again, has its old bytes. Assumes nothing.
+-- follows it; `read-write`, a record that was read, written again, has its old bytes.
 use mathlib.Core.Path.{_≡_, refl, sym, ap, _∙_, fun-ext}
 use mathlib.Core.List.{List, [], _∷_, _++_}
 use Prim.Native.Nat.{ℕ, zero, suc, _+_, _*_, _/_, _%_, _<_, _≤_}

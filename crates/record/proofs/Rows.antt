@@ -1,6 +1,5 @@
 -- The table of kinds: its rows by number, and that each field of a kind ends within the kind's record.
 -- A rule of the table is one test, computed over all rows, and one lemma that turns it into the rule at each row.
--- Assumes nothing.
 use mathlib.Core.Path.{_≡_, refl, sym}
 use mathlib.Core.Bool.{Bool, false, _||_}
 use mathlib.Core.List.{List, [], _∷_}

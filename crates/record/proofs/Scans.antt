@@ -1,6 +1,5 @@
 -- Scanning: the numbers that a kind's row places at a position are those of the event that is read there, and a record
 -- that is not read is refused by its number. `scan-read`, `scan-refused`: what was scanned is what was read.
--- Assumes nothing.
 use mathlib.Core.Path.{_≡_, refl, sym, ap, _∙_}
 use mathlib.Core.Bool.{false}
 use mathlib.Core.Logic.{_≢_}

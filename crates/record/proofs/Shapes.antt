@@ -1,5 +1,5 @@
 -- How the table lays out each kind's record: facts that hold of every kind of the table, computed over all its rows at
--- once, and facts that hold of every event, by one clause for each variant. Assumes nothing.
+-- once, and facts that hold of every event, by one clause for each variant.
 use mathlib.Core.Path.{_≡_, refl, sym, _∙_}
 use mathlib.Core.List.{List, [], _∷_, _++_}
 use Prim.Native.Nat.{ℕ, zero, suc, _+_, _-_, _*_, _/_, _%_, _≤_}

@@ -1,6 +1,6 @@
 -- Where records start: theorems about the framing definitions. `empty-exactly`: the part is empty exactly if records 0
 -- to e cannot all be framed. `records-to-front`: the parts 0 to e, one after the other, are the front of the trace.
--- `read-next`: reading record e leads to where record e + 1 starts. Assumes nothing.
+-- `read-next`: reading record e leads to where record e + 1 starts.
 use mathlib.Core.Path.{_≡_, refl, sym, ap, _∙_}
 use mathlib.Core.Logic.{_⊎_, inl, inr, _↔_}
 use mathlib.Core.List.{List, []}

@@ -2,7 +2,7 @@
 -- callee meets the same of a slice and a number: T is the enum that both answer with, and Says what an answer says of
 -- the bytes and the position. A walk of the function's MIR, by hand, once for all such functions. The struct is Copy:
 -- what it owns is had twice, one copy is kept whole for the exit, and of the other what `trace` owns goes to the
--- callee, beside the lifetime's token, which comes back. Assumes nothing.
+-- callee, beside the lifetime's token, which comes back.
 use mathlib.Core.Path.{_≡_, refl}
 use Prim.Native.Nat.{ℕ, _<_, _^_}
 use mathlib.Core.List.{List, [], _∷_}

@@ -1,6 +1,6 @@
 -- The round trips from what the calls answer: `back-…` of an event that is written and read back, `again-…` of a record
 -- that is read and written again; `…-refused` where a call refuses. Whether there was room is seen from what writing
--- answers; the rest are the theorems `written-read` and `read-write` of the record crate. Assumes nothing.
+-- answers; the rest are the theorems `written-read` and `read-write` of the record crate.
 use mathlib.Core.Path.{_≡_, refl, ap, _∙_}
 use mathlib.Core.Bool.{Bool, true, false}
 use mathlib.Core.List.{List}

@@ -1,5 +1,5 @@
 -- Numbers in decimal: the last digit stands behind those of n / 10, as the code has it, and a two-byte number has at
--- most five digits. Assumes nothing.
+-- most five digits.
 use Prim.Native.Nat.{ℕ, zero, suc, _+_, _*_, _/_, _%_, _≤_, _<_}
 use native.Mathlib.Omega.{arith}
 use mathlib.Core.Path.{_≡_}

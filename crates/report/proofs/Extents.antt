@@ -1,6 +1,6 @@
 -- How many records of a trace can be read, and its threads and finished stretches. `extent-of-accepted`, at the end:
 -- of an accepted trace with N records these are the threads of its begin, 1 to 8, and its crashes, at most 7. Before it
--- the laws of the loop that counts: nothing counted, one record more, a record that cannot be read. Assumes nothing.
+-- the laws of the loop that counts: nothing counted, one record more, a record that cannot be read.
 use Prim.Native.Nat.{ℕ, suc, _+_, _-_, _≤_, _<_, min}
 use native.Mathlib.Omega.{arith}
 use mathlib.Core.Path.{_≡_, refl, sym, ap, _∙_}

@@ -1,5 +1,5 @@
 -- The parts that a line is put together from, one behind the other, are the line, and the lines of the first j
--- stretches with one more are those of j + 1. Assumes nothing.
+-- stretches with one more are those of j + 1.
 use Prim.Native.Nat.{ℕ, _+_, _-_, _*_, _≤_}
 use native.Mathlib.Omega.{arith}
 use native.Mathlib.Numerals.{add-one}

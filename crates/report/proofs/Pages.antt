@@ -1,5 +1,5 @@
 -- Bytes put on a page: one text behind another is one text, and a text that has room at the start of a buffer stands
--- there, with the rest of the buffer as it was. Assumes nothing.
+-- there, with the rest of the buffer as it was.
 use Prim.Native.Nat.{ℕ, suc, _+_, _/_, _%_, _≤_, _<_}
 use native.Mathlib.Omega.{arith}
 use native.Mathlib.Numerals.{add-one}

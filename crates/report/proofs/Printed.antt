@@ -1,5 +1,5 @@
 -- Document 01, "The program `verdict`": what cases 1 and 2 print in whole, and the line of a refusal, computed by the
--- definitions from the answers of cases 1, 2 and 8. Assumes nothing.
+-- definitions from the answers of cases 1, 2 and 8.
 use mathlib.Core.Path.{_≡_, refl}
 use mathlib.Core.List.{[], _∷_}
 use Rattle.model.specs.Answers.{refused, robust, broken, flush, tabulate}

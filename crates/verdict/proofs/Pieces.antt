@@ -1,5 +1,5 @@
 -- What an answer of `Bytes n` says of the buffer: the bytes lie within it, and, read behind those before them into the
--- rest of a larger one, within that. Assumes nothing.
+-- rest of a larger one, within that.
 use mathlib.Core.Path.{_≡_, _∙_}
 use mathlib.Core.List.{List}
 use Prim.Native.Nat.{ℕ, _+_, _-_, _≤_}

@@ -1,4 +1,4 @@
--- Invariant: the first u numbers are joined, and none is added; measure: the numbers left. Assumes nothing.
+-- Invariant: the first u numbers are joined, and none is added; measure: the numbers left.
 use mathlib.Core.Path.{_≡_, refl, _∙_}
 use mathlib.Core.List.{List}
 use Prim.Native.Nat.{ℕ, _-_, _≤_}

@@ -1,4 +1,4 @@
--- A store past the end changes nothing in both. Assumes nothing.
+-- A store past the end changes nothing in both.
 use mathlib.Core.Path.{sym}
 use lib.Seq.{set-out}
 use borrow.Author.Needs.{needs}

@@ -1,4 +1,4 @@
--- The number at the row's start and the column's remainder. Assumes nothing.
+-- The number at the row's start and the column's remainder.
 use Rattle.area.specs.Cells.{getRow}
 use borrow.Author.Needs.{needs}
 use Rattle.area.proofs.row_get.Statement.{statement}

@@ -1,4 +1,4 @@
--- The definition itself, whose remainder is below 2,048. Assumes nothing.
+-- The definition itself, whose remainder is below 2,048.
 use mathlib.Core.Path.{refl}
 use native.Mathlib.Omega.{arith}
 use Rattle.area.specs.Cells.{rowStart}

@@ -1,4 +1,4 @@
--- A store at the row's start and the column's remainder. Assumes nothing.
+-- A store at the row's start and the column's remainder.
 use Rattle.area.specs.Cells.{putRow}
 use borrow.Author.Needs.{needs}
 use Rattle.area.proofs.row_put.Statement.{statement}

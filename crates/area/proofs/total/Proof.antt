@@ -1,4 +1,4 @@
--- Invariant: the first n numbers are summed, and each is a two-byte number; measure: the numbers left. Assumes nothing.
+-- Invariant: the first n numbers are summed, and each is a two-byte number; measure: the numbers left.
 use mathlib.Core.Path.{_≡_, refl}
 use mathlib.Core.List.{List}
 use Prim.Native.Nat.{ℕ, _+_, _-_, _*_, _≤_}

@@ -1,4 +1,4 @@
--- The part of the buffer that is judged has as many bytes as were read. Assumes nothing.
+-- The part of the buffer that is judged has as many bytes as were read.
 use borrow.Author.Needs.{needs}
 use Rattle.verdict.proofs.Pieces.{bytes-counted}
 use Rattle.verdict.proofs.main.Statement.{statement}

@@ -1,4 +1,4 @@
--- The definition's test. Assumes nothing.
+-- The definition's test.
 use mathlib.Core.Path.{refl}
 use borrow.Author.Tests.{lt-ltb, le-ltb}
 use Rattle.area.specs.Cells.{up}

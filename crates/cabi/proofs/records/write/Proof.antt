@@ -1,5 +1,5 @@
 -- `write` meets its contract: refusal 3 where the numbers name no event, else what the record layer does with the one
--- that they name. Assumes nothing.
+-- that they name.
 use mathlib.Core.Path.{refl, sym, ap, _∙_}
 use borrow.Author.Needs.{needs}
 use Rattle.model.specs.Reading.{refusalIn}

@@ -1,4 +1,4 @@
--- Invariant: the first u columns are the thread's; measure: the columns left. Assumes nothing.
+-- Invariant: the first u columns are the thread's; measure: the columns left.
 use mathlib.Core.Path.{_≡_, refl, _∙_}
 use Prim.Native.Nat.{_-_}
 use native.Mathlib.Numerals.{add-one}

@@ -1,4 +1,4 @@
--- The calls and stores, one after the other. Assumes nothing.
+-- The calls and stores, one after the other.
 use mathlib.Core.Path.{refl}
 use Rattle.machine.specs.Effects.{committedTables, committedWork}
 use borrow.Author.Needs.{needs}

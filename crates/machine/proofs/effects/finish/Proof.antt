@@ -1,4 +1,4 @@
--- Invariant: the first t threads are done; measure: the threads left. Assumes nothing.
+-- Invariant: the first t threads are done; measure: the threads left.
 use mathlib.Core.Path.{_≡_, refl}
 use Prim.Native.Nat.{_-_}
 use native.Mathlib.Numerals.{add-one}

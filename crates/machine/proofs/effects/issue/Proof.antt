@@ -1,4 +1,4 @@
--- The calls and stores, one after the other; a queue that is not empty keeps its oldest store. Assumes nothing.
+-- The calls and stores, one after the other; a queue that is not empty keeps its oldest store.
 use mathlib.Core.Path.{_≡_, refl}
 use mathlib.Core.List.{List}
 use Prim.Native.Nat.{ℕ}

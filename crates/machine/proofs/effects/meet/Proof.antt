@@ -1,4 +1,4 @@
--- The thread's row begins where the clock is joined. Assumes nothing.
+-- The thread's row begins where the clock is joined.
 use borrow.Author.Needs.{needs}
 use Rattle.machine.proofs.effects.meet.Statement.{statement}
 use Rattle.machine.proofs.effects.meet.Tie as tie

@@ -1,4 +1,4 @@
--- The definition's test of the kind. Assumes nothing.
+-- The definition's test of the kind.
 use borrow.Author.Tests.{eq-eqb, ne-eqb}
 use Rattle.machine.specs.Turning.{beginK}
 use borrow.Author.Needs.{needs}

@@ -1,4 +1,4 @@
--- The definition's tests of the kind and of the queue. Assumes nothing.
+-- The definition's tests of the kind and of the queue.
 use borrow.Author.Tests.{eq-eqb, ne-eqb}
 use Rattle.machine.proofs.rules.fence_rule.Statement.{statement}
 use Rattle.machine.proofs.rules.fence_rule.Tie as tie

@@ -1,4 +1,4 @@
--- The definition's two tests, and `past`. Assumes nothing.
+-- The definition's two tests, and `past`.
 use borrow.Author.Tests.{eq-eqb, ne-eqb, lt-ltb, le-ltb}
 use Rattle.machine.specs.Twin.{acrossIn}
 use borrow.Author.Needs.{needs}

@@ -1,4 +1,4 @@
--- The thread's tests, and the location's. Assumes nothing.
+-- The thread's tests, and the location's.
 use mathlib.Core.Bool.{false≢true}
 use mathlib.Core.Path.{refl}
 use borrow.Author.Tests.{not-true, not-false, ltb-true}

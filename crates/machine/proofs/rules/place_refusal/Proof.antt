@@ -1,4 +1,4 @@
--- The definition's tests, in their order. Assumes nothing.
+-- The definition's tests, in their order.
 use borrow.Author.Tests.{le-leb, lt-leb}
 use Rattle.machine.proofs.rules.place_refusal.Statement.{statement}
 use Rattle.machine.proofs.rules.place_refusal.Tie as tie

@@ -1,4 +1,4 @@
--- The definition's tests of the kind and of the thread's skip. Assumes nothing.
+-- The definition's tests of the kind and of the thread's skip.
 use borrow.Author.Tests.{eq-eqb, ne-eqb}
 use Rattle.machine.proofs.rules.skip_rule.Statement.{statement}
 use Rattle.machine.proofs.rules.skip_rule.Tie as tie

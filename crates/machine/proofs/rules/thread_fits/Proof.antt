@@ -1,4 +1,4 @@
--- The definition's tests; an answer that is true has passed both. Assumes nothing.
+-- The definition's tests; an answer that is true has passed both.
 use mathlib.Core.Bool.{false≢true}
 use mathlib.Core.Path.{refl}
 use borrow.Author.Tests.{le-leb, lt-leb, ltb-true}

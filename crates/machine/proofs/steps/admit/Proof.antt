@@ -1,4 +1,4 @@
--- The definition's tests, in their order; the source that is noted is noted already: `set-getD`. Assumes nothing.
+-- The definition's tests, in their order; the source that is noted is noted already: `set-getD`.
 use mathlib.Core.Path.{refl, sym}
 use lib.Seq.{set-getD}
 use borrow.Author.Tests.{not-true, not-false, eq-eqb, ne-eqb}

@@ -1,4 +1,4 @@
--- The tests of the place decide. Assumes nothing.
+-- The tests of the place decide.
 use mathlib.Core.Path.{refl}
 use borrow.Author.Tests.{not-false}
 use Rattle.machine.specs.Effects.{passW}

@@ -1,4 +1,4 @@
--- The tests of the place decide. Assumes nothing.
+-- The tests of the place decide.
 use mathlib.Core.Path.{refl}
 use native.Mathlib.Omega.{arith}
 use borrow.Author.Needs.{needs}

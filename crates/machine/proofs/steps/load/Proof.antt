@@ -1,4 +1,4 @@
--- The tests of the place, then the load rule's three cases. Assumes nothing.
+-- The tests of the place, then the load rule's three cases.
 use mathlib.Core.Path.{_∙_}
 use native.Mathlib.Omega.{arith}
 use borrow.Author.Tests.{not-false, eq-eqb, ne-eqb}

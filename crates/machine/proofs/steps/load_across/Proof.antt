@@ -1,4 +1,4 @@
--- The rule; behind it the source is noted, and brings no clock. Assumes nothing.
+-- The rule; behind it the source is noted, and brings no clock.
 use mathlib.Core.Path.{refl, _∙_}
 use native.Mathlib.Omega.{arith}
 use borrow.Author.Tests.{not-true, not-false}

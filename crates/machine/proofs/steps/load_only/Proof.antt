@@ -1,4 +1,4 @@
--- The rule; behind it the source is the one store that may be, and its clock is met. Assumes nothing.
+-- The rule; behind it the source is the one store that may be, and its clock is met.
 use mathlib.Core.Path.{refl}
 use native.Mathlib.Omega.{arith}
 use borrow.Author.Needs.{needs}

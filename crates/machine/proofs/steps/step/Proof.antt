@@ -1,4 +1,4 @@
--- Each arm is the definition's for that kind; the ranges by ArmLaws. Assumes nothing.
+-- Each arm is the definition's for that kind; the ranges by ArmLaws.
 use mathlib.Core.Path.{_∙_}
 use mathlib.Core.Logic.{⊎-elim}
 use native.Mathlib.Omega.{arith}

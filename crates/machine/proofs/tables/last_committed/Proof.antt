@@ -1,4 +1,4 @@
--- The one read, at the place that `last` gives. Assumes nothing.
+-- The one read, at the place that `last` gives.
 use mathlib.Core.Path.{refl}
 use borrow.Author.Needs.{needs}
 use Rattle.machine.proofs.tables.last_committed.Statement.{statement}

@@ -1,4 +1,4 @@
--- The definition's test. Assumes nothing.
+-- The definition's test.
 use borrow.Author.Tests.{eq-eqb, ne-eqb}
 use Rattle.machine.specs.Threads.{firstOf}
 use Rattle.machine.proofs.threads.first_of.Statement.{statement}

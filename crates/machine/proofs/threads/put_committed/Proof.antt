@@ -1,4 +1,4 @@
--- The stores, one after the other. Assumes nothing.
+-- The stores, one after the other.
 use mathlib.Core.Path.{refl}
 use Rattle.machine.specs.Threads.{putCommitted}
 use borrow.Author.Needs.{needs}

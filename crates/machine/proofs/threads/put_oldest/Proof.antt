@@ -1,4 +1,4 @@
--- Where the queue is not empty, the store is the one that stands there: `set-getD`. Assumes nothing.
+-- Where the queue is not empty, the store is the one that stands there: `set-getD`.
 use mathlib.Core.Path.{refl, sym}
 use lib.Seq.{set-getD}
 use borrow.Author.Needs.{needs}

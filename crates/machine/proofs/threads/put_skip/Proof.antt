@@ -1,4 +1,4 @@
--- The one store. Assumes nothing.
+-- The one store.
 use mathlib.Core.Path.{refl}
 use Rattle.machine.specs.Threads.{putSkip}
 use borrow.Author.Needs.{needs}

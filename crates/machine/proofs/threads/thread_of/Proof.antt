@@ -1,4 +1,4 @@
--- The columns, one by one. Assumes nothing.
+-- The columns, one by one.
 use mathlib.Core.Path.{refl}
 use Rattle.machine.specs.Threads.{threadOf}
 use borrow.Author.Needs.{needs}

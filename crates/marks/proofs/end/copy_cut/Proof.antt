@@ -1,5 +1,4 @@
 -- Invariant: the first i counts are copied, and the buffer has its length. Measure: the counts that are left.
--- Assumes nothing.
 use native.Mathlib.Omega.{arith}
 use Prim.Native.Nat.{_-_, _≤_}
 use mathlib.Core.Path.{_≡_, refl}

@@ -1,4 +1,4 @@
--- The definition's cases, by the total. Assumes nothing.
+-- The definition's cases, by the total.
 use mathlib.Core.Path.{_∙_}
 use Rattle.marks.proofs.Loops.{percent-none, percent-some}
 use borrow.Author.Needs.{needs}

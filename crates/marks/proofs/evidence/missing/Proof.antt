@@ -1,4 +1,4 @@
--- Invariant: the search from p on finds what the whole one finds. Measure: the events that are left. Assumes nothing.
+-- Invariant: the search from p on finds what the whole one finds. Measure: the events that are left.
 use native.Mathlib.Omega.{arith}
 use Prim.Native.Nat.{_-_, _≤_}
 use native.Mathlib.Nat.{sub-zero}

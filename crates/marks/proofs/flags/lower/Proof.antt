@@ -1,4 +1,4 @@
--- The definition's tests, in their order. Assumes nothing.
+-- The definition's tests, in their order.
 use borrow.Author.Tests.{eq-eqb, ne-eqb, lt-ltb, le-ltb}
 use Rattle.marks.proofs.flags.lower.Statement.{statement}
 use Rattle.marks.proofs.flags.lower.Tie as tie

@@ -1,4 +1,4 @@
--- The definition's test. Assumes nothing.
+-- The definition's test.
 use borrow.Author.Tests.{lt-ltb, le-ltb}
 use borrow.Author.Needs.{needs}
 use Rattle.marks.proofs.flags.observe.Statement.{statement}

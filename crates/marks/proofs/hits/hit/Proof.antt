@@ -1,4 +1,4 @@
--- The definition's tests, in their order. Assumes nothing.
+-- The definition's tests, in their order.
 use borrow.Author.Tests.{eq-eqb, ne-eqb}
 use Rattle.marks.proofs.hits.hit.Statement.{statement}
 use Rattle.marks.proofs.hits.hit.Tie as tie

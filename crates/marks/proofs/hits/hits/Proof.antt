@@ -1,5 +1,4 @@
 -- Invariant: what is found is what the search over the first t threads finds. Measure: the threads that are left.
--- Assumes nothing.
 use native.Mathlib.Omega.{arith}
 use Prim.Native.Nat.{_+_, _-_, _≤_}
 use mathlib.Core.Path.{_≡_, refl}

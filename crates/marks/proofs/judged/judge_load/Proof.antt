@@ -1,4 +1,4 @@
--- The calls in their order are the definition's steps. Assumes nothing.
+-- The calls in their order are the definition's steps.
 use Rattle.marks.proofs.Loops.{judged-again, judged-behind, judged-steps}
 use borrow.Author.Needs.{needs}
 use Rattle.marks.proofs.judged.judge_load.Statement.{statement}

@@ -1,4 +1,4 @@
--- The definition's two stores, and the third if the load breaks the trace. Assumes nothing.
+-- The definition's two stores, and the third if the load breaks the trace.
 use Rattle.marks.specs.Judged.{noted}
 use borrow.Author.Needs.{needs}
 use Rattle.marks.proofs.judged.note.Statement.{statement}

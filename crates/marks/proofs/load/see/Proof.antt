@@ -1,4 +1,4 @@
--- The definition's two parts: the flag, and the cut, joined with the store's clock. Assumes nothing.
+-- The definition's two parts: the flag, and the cut, joined with the store's clock.
 use Rattle.marks.specs.Marking.{seenFrom}
 use borrow.Author.Needs.{needs}
 use Rattle.marks.proofs.load.see.Statement.{statement}

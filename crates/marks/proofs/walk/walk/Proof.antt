@@ -1,5 +1,5 @@
 -- Invariant: the walk from here over the turns that are left is the whole walk, and what was found or is found from
--- here on is what the whole walk finds. Measure: the turns that are left. Assumes nothing.
+-- here on is what the whole walk finds. Measure: the turns that are left.
 use native.Mathlib.Omega.{arith}
 use mathlib.Core.Path.{refl}
 use Rattle.marks.specs.Marks.{marksOf}

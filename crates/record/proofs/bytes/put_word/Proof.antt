@@ -1,4 +1,4 @@
--- The first store keeps the length, so that the second is inside too. Assumes nothing.
+-- The first store keeps the length, so that the second is inside too.
 use native.Mathlib.Omega.{arith}
 use lib.ListN.{length-set}
 use borrow.Author.Needs.{needs}

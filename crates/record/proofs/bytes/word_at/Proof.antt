@@ -1,4 +1,4 @@
--- The two bytes are below 256 each, so that neither the casts nor the sum lose anything. Assumes nothing.
+-- The two bytes are below 256 each, so that neither the casts nor the sum lose anything.
 use Prim.Native.Nat.{_+_}
 use native.Mathlib.Omega.{arith}
 use borrow.Author.Needs.{needs}

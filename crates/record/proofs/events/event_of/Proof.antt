@@ -1,4 +1,4 @@
--- The row decides, as in the definition. Assumes nothing.
+-- The row decides, as in the definition.
 use borrow.Author.Tests.{eq-eqb, ne-eqb}
 use borrow.Author.Needs.{needs}
 use Rattle.record.proofs.events.event_of.Statement.{statement}

@@ -1,4 +1,4 @@
--- Each arm is the definition's clause of its variant. Assumes nothing.
+-- Each arm is the definition's clause of its variant.
 use mathlib.Core.Path.{sym, ap, _∙_}
 use Rattle.record.specs.Fields.{fieldsOf}
 use borrow.Author.Needs.{needs}

@@ -1,4 +1,4 @@
--- Each arm is the definition's event at its number; every other number gives a crash in both. Assumes nothing.
+-- Each arm is the definition's event at its number; every other number gives a crash in both.
 use Rattle.record.specs.Fields.{eventOf}
 use Rattle.record.proofs.Shapes.{crash-else}
 use Rattle.record.proofs.events.of_kind.Statement.{statement}

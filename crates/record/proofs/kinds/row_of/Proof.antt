@@ -1,4 +1,4 @@
--- The code's table is the definition's, row by row; past it both give zeros. Assumes nothing.
+-- The code's table is the definition's, row by row; past it both give zeros.
 use mathlib.Core.Path.{_≡_, refl}
 use native.Mathlib.Omega.{arith}
 use Rattle.record.specs.Table.{rowOf}

@@ -1,4 +1,4 @@
--- The part is the bytes from where the record starts to its end. Assumes nothing.
+-- The part is the bytes from where the record starts to its end.
 use Rattle.record.proofs.Starts.{part-is}
 use borrow.Author.Needs.{needs}
 use Rattle.record.proofs.parts.part.Statement.{statement}

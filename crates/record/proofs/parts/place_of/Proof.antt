@@ -1,5 +1,4 @@
 -- The invariant: `at` is where record i starts, and i is at most e. The measure: the records still to pass.
--- Assumes nothing.
 use native.Mathlib.Omega.{arith}
 use mathlib.Core.Path.{_≡_, refl, sym, _∙_}
 use Prim.Native.Nat.{_≤_, _-_, zero-le}

@@ -1,4 +1,4 @@
--- The size is that of the frame of the bytes from the position on. Assumes nothing.
+-- The size is that of the frame of the bytes from the position on.
 use Rattle.record.proofs.Starts.{size-of-tail}
 use borrow.Author.Needs.{needs}
 use Rattle.record.proofs.parts.size_at.Statement.{statement}

@@ -1,5 +1,5 @@
 -- `next` meets its contract: it takes the reader apart and calls `step_at` (TakesApart). All that the proof knows of
--- `step_at` is that it meets its contract. Assumes nothing.
+-- `step_at` is that it meets its contract.
 use mathlib.Core.Path.{_≡_}
 use contract.Running.{givenOf, tables, tablesOf}
 use denote.Triple.Spec.{tripleOf}

@@ -1,5 +1,5 @@
 -- `read_at` meets its contract: it makes a reader and calls `next` on it (GoesThrough). All that the proof knows of
--- `new` and `next` is that each meets its contract. Assumes nothing.
+-- `new` and `next` is that each meets its contract.
 use mathlib.Core.Path.{_≡_}
 use contract.Running.{givenOf, tables, tablesOf}
 use denote.Triple.Spec.{tripleOf}

@@ -1,5 +1,5 @@
 -- `scan` meets its contract: it takes the reader apart and calls `scan_step` (TakesApart). All that the proof knows of
--- `scan_step` is that it meets its contract. Assumes nothing.
+-- `scan_step` is that it meets its contract.
 use mathlib.Core.Path.{_≡_}
 use contract.Running.{givenOf, tables, tablesOf}
 use denote.Triple.Spec.{tripleOf}

@@ -1,5 +1,5 @@
 -- `scan_at` meets its contract: it makes a reader and calls `scan` on it (GoesThrough). All that the proof knows of
--- `new` and `scan` is that each meets its contract. Assumes nothing.
+-- `new` and `scan` is that each meets its contract.
 use mathlib.Core.Path.{_≡_}
 use contract.Running.{givenOf, tables, tablesOf}
 use denote.Triple.Spec.{tripleOf}

@@ -1,4 +1,4 @@
--- Each field is read where the row places it. Assumes nothing.
+-- Each field is read where the row places it.
 use borrow.Author.Needs.{needs}
 use Rattle.record.proofs.reading.fields_at.Statement.{statement}
 use Rattle.record.proofs.reading.fields_at.Tie as tie

@@ -1,4 +1,4 @@
--- Each return has made the definition's tests in their order. Assumes nothing.
+-- Each return has made the definition's tests in their order.
 use borrow.Author.Tests.{eq-eqb, ne-eqb, lt-ltb, le-ltb}
 use Rattle.record.specs.Reading.{frame}
 use borrow.Author.Needs.{needs}

@@ -1,4 +1,4 @@
--- What the frame is decides, as in the definition. Assumes nothing.
+-- What the frame is decides, as in the definition.
 use mathlib.Core.Path.{sym, ap, _∙_}
 use denote.Ref.{now}
 use Rattle.record.specs.Reading.{readFramed, readFirst}

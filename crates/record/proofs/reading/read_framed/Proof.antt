@@ -1,5 +1,4 @@
 -- Each return has made the definition's tests in their order, on the row that the table has for the kind.
--- Assumes nothing.
 use native.Mathlib.Omega.{arith}
 use borrow.Author.Tests.{eq-eqb, ne-eqb}
 use Rattle.record.specs.Reading.{readFramed}

@@ -1,4 +1,4 @@
--- What reading the bytes from the position on answers, moved by the position. Assumes nothing.
+-- What reading the bytes from the position on answers, moved by the position.
 use native.Mathlib.Omega.{arith}
 use Rattle.record.proofs.Starts.{read-of-tail, read-past-end, read-inside}
 use borrow.Author.Needs.{needs}

@@ -1,5 +1,4 @@
 -- Where ten bytes are left nothing refuses yet; past the end there are none; between the two reading tells.
--- Assumes nothing.
 use mathlib.Core.Path.{_≡_, refl}
 use Prim.Native.Nat.{ℕ}
 use native.Mathlib.Omega.{arith}

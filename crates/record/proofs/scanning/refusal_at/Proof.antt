@@ -1,5 +1,4 @@
 -- What reading answers decides, as in the definition: a record has no number, a refusal its own.
--- Assumes nothing.
 use mathlib.Core.Path.{refl, sym, ap, _∙_}
 use Rattle.record.specs.Answers.{readAnswer}
 use borrow.Author.Needs.{needs}

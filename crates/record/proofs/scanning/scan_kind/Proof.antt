@@ -1,5 +1,4 @@
 -- A record that has its kind's length is read, and these are its numbers; any other is refused by its number.
--- Assumes nothing.
 use mathlib.Core.Path.{refl, sym, _∙_}
 use Rattle.record.proofs.Scans.{row-inside, scan-known, wrong-length}
 use borrow.Author.Needs.{needs}

@@ -1,5 +1,4 @@
 -- Each arm has the row of the kind that it takes; a number that no arm takes is refused, as is what the end cuts off.
--- Assumes nothing.
 use mathlib.Core.Path.{refl}
 use Rattle.record.proofs.Scans.{row-at, unknown-kind}
 use borrow.Author.Needs.{needs}

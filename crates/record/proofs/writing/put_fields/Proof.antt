@@ -1,4 +1,4 @@
--- The stores, one after the other, are the definition's. Assumes nothing.
+-- The stores, one after the other, are the definition's.
 use mathlib.Core.Path.{refl}
 use Rattle.record.specs.Fields.{columns, offsetsIn, putFields}
 use Rattle.record.proofs.Shapes.{in-turn}

@@ -1,5 +1,4 @@
 -- The table's length decides whether there is room; the stores by the table put the record at the front.
--- Assumes nothing.
 use native.Mathlib.Omega.{arith}
 use lib.ListN.{length}
 use borrow.Author.Tests.{lt-ltb, le-ltb}

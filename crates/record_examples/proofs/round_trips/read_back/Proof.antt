@@ -1,4 +1,4 @@
--- What writing answers says whether there is an event to read back. Assumes nothing.
+-- What writing answers says whether there is an event to read back.
 use mathlib.Core.Path.{sym, ap, _∙_}
 use borrow.Author.Needs.{needs}
 use Rattle.record.specs.Answers.{writeAnswer}

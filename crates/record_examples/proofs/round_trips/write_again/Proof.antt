@@ -1,4 +1,4 @@
--- What reading and writing answer says how far the record came. Assumes nothing.
+-- What reading and writing answer says how far the record came.
 use mathlib.Core.Path.{sym, ap, _∙_}
 use borrow.Author.Needs.{needs}
 use Rattle.record.specs.Answers.{readAnswer, writeAnswer}

@@ -1,4 +1,4 @@
--- The invariant: the index is at most the length. The measure: the bytes still to print. Assumes nothing.
+-- The invariant: the index is at most the length. The measure: the bytes still to print.
 use Prim.Native.Nat.{_≤_, _-_}
 use lib.ListN.{length}
 use borrow.Author.Needs.{needs}

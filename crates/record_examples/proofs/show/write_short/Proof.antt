@@ -1,4 +1,4 @@
--- The part that is lent has as many bytes as asked for, which the output has. Assumes nothing.
+-- The part that is lent has as many bytes as asked for, which the output has.
 use mathlib.Core.Path.{sym}
 use lib.Seq.{length-take-le}
 use borrow.Author.Needs.{needs}

@@ -1,5 +1,4 @@
 -- The place of stretch j + 1 and thread t in the cut, as in the definition; past the cut's end both give 0.
--- Assumes nothing.
 use Rattle.report.proofs.LineParts.{count-is, count-past-end}
 use borrow.Author.Needs.{needs}
 use Rattle.report.proofs.lines.count_at.Statement.{statement}

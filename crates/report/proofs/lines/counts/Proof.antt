@@ -1,5 +1,5 @@
 -- The invariant: the counts of the first t threads are put, and the buffer keeps its length. The measure: the threads
--- left. Assumes nothing.
+-- left.
 use Prim.Native.Nat.{_+_, _*_, _≤_, _-_}
 use native.Mathlib.Omega.{arith}
 use mathlib.Core.Path.{_≡_, refl, _∙_}

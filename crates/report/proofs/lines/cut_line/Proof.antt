@@ -1,5 +1,4 @@
 -- The word, the stretch's number, the counts and a newline, one behind the other.
--- Assumes nothing.
 use native.Mathlib.Omega.{arith}
 use Rattle.report.specs.Lines.{cutLine}
 use Rattle.report.proofs.Pages.{byte-added, added-both, added-as}

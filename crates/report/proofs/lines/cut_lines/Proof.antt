@@ -1,5 +1,5 @@
 -- The invariant: the lines of the first j stretches are put, and the buffer keeps its length. The measure: the
--- stretches left. Assumes nothing.
+-- stretches left.
 use Prim.Native.Nat.{_*_, _≤_, _-_}
 use native.Mathlib.Omega.{arith}
 use mathlib.Core.Path.{_≡_, refl, _∙_}

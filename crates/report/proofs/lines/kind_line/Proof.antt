@@ -1,5 +1,4 @@
 -- Each kind has its text.
--- Assumes nothing.
 use native.Mathlib.Omega.{arith}
 use Rattle.report.proofs.LineParts.{kind-line-of}
 use borrow.Author.Needs.{needs}

@@ -1,5 +1,4 @@
 -- What the verdict is decides, as in the definition.
--- Assumes nothing.
 use native.Mathlib.Omega.{arith}
 use Rattle.report.proofs.LineParts.{lines-of}
 use borrow.Author.Needs.{needs}

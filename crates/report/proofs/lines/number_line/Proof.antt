@@ -1,5 +1,4 @@
 -- The text, the number and a newline, one behind the other.
--- Assumes nothing.
 use native.Mathlib.Omega.{arith}
 use Rattle.report.proofs.Pages.{byte-added, added-both, added-as}
 use Rattle.report.proofs.LineParts.{one-number}

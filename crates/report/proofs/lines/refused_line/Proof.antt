@@ -1,5 +1,4 @@
 -- The word, the two numbers and a newline, one behind the other.
--- Assumes nothing.
 use native.Mathlib.Omega.{arith}
 use Rattle.report.specs.Lines.{refusedLine}
 use Rattle.report.proofs.Pages.{byte-added, added-both, added-as}

@@ -1,5 +1,4 @@
 -- The lines are few enough to have room, so that they stand at the start of the buffer.
--- Assumes nothing.
 use Rattle.report.proofs.Pages.{from-start}
 use borrow.Author.Needs.{needs}
 use Rattle.report.proofs.lines.report.Statement.{statement}

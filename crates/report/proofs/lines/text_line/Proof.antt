@@ -1,5 +1,4 @@
 -- The text, and a newline behind it.
--- Assumes nothing.
 use native.Mathlib.Omega.{arith}
 use Rattle.report.proofs.Pages.{byte-added, added-both, added-as}
 use Rattle.report.proofs.LineParts.{text-alone}

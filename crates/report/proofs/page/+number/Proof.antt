@@ -1,5 +1,5 @@
 -- The cycle of calls {number}: the measure is the number, which a division by 10 makes smaller. The last digit is put
--- behind those of v / 10, as in the definition. Assumes nothing.
+-- behind those of v / 10, as in the definition.
 use native.Mathlib.Omega.{arith}
 use borrow.Author.Needs.{needs}
 use Rattle.report.proofs.Pages.{only-digit, last-digit}

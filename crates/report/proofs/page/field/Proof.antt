@@ -1,5 +1,4 @@
 -- A space, and the number behind it.
--- Assumes nothing.
 use Rattle.report.proofs.Pages.{byte-added, added-both}
 use borrow.Author.Needs.{needs}
 use Rattle.report.proofs.page.field.Statement.{statement}

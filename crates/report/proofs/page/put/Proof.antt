@@ -1,5 +1,4 @@
 -- A byte is stored where there is room, and else left out, as in the definition.
--- Assumes nothing.
 use borrow.Author.Needs.{needs}
 use Rattle.report.proofs.Pages.{byte-put, byte-left-out}
 use Rattle.report.proofs.page.put.Statement.{statement}

@@ -1,5 +1,4 @@
 -- The invariant: the text's first i bytes are put, and the buffer keeps its length. The measure: the bytes left.
--- Assumes nothing.
 use Prim.Native.Nat.{_≤_, _-_}
 use native.Mathlib.Omega.{arith}
 use mathlib.Core.Path.{_≡_, refl, _∙_}

@@ -1,4 +1,4 @@
--- One more for a crash, as long as there are fewer than 7. Assumes nothing.
+-- One more for a crash, as long as there are fewer than 7.
 use native.Mathlib.Omega.{arith}
 use borrow.Author.Tests.{eq-eqb, ne-eqb}
 use borrow.Author.Needs.{needs}

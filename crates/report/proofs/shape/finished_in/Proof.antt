@@ -1,5 +1,5 @@
 -- The invariant: the records before `at` can be read, and their crashes are counted, up to 7. The measure: the bytes
--- left. Assumes nothing.
+-- left.
 use Prim.Native.Nat.{_≤_, _-_}
 use native.Mathlib.Omega.{arith}
 use mathlib.Core.Path.{sym, ap, _∙_}

@@ -1,4 +1,4 @@
--- The first record's threads, or 0, by whether it can be read. Assumes nothing.
+-- The first record's threads, or 0, by whether it can be read.
 use mathlib.Core.Path.{sym, ap, _∙_}
 use Rattle.record.specs.declared.events.Fields.{Fields}
 use Rattle.record.specs.Answers.{readAnswer}

@@ -1,5 +1,5 @@
 -- The invariant: the bytes that are read so far lie within the buffer, which keeps its length. The measure: the bytes
--- for which there is still room. Assumes nothing.
+-- for which there is still room.
 use mathlib.Core.Path.{_≡_}
 use Prim.Native.Nat.{_≤_, _-_}
 use lib.ListN.{length}

@@ -1,4 +1,4 @@
--- The invariant: the buffer keeps its length. The measure: the turns that are left. Assumes nothing.
+-- The invariant: the buffer keeps its length. The measure: the turns that are left.
 use mathlib.Core.Path.{_≡_}
 use lib.ListN.{length}
 use native.Mathlib.Omega.{arith}

@@ -1,4 +1,4 @@
--- The one store. Assumes nothing.
+-- The one store.
 use mathlib.Core.Path.{refl}
 use borrow.Author.Needs.{needs}
 use Rattle.machine.proofs.state.Machine.next_stretch.Statement.{statement}

@@ -1,4 +1,4 @@
--- The two stores, field by field. Assumes nothing.
+-- The two stores, field by field.
 use Rattle.machine.specs.Threads.{committedT}
 use borrow.Author.Needs.{needs}
 use Rattle.machine.proofs.threads.Thread.commit.Statement.{statement}

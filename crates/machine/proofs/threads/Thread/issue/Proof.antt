@@ -1,4 +1,4 @@
--- The three stores, field by field. Assumes nothing.
+-- The three stores, field by field.
 use Rattle.machine.specs.Threads.{issuedT}
 use borrow.Author.Needs.{needs}
 use Rattle.machine.proofs.threads.Thread.issue.Statement.{statement}

@@ -1,4 +1,4 @@
--- The one store. Assumes nothing.
+-- The one store.
 use mathlib.Core.Path.{refl}
 use Rattle.machine.specs.Threads.{skippedT}
 use Rattle.machine.proofs.threads.Thread.with_skip.Statement.{statement}
