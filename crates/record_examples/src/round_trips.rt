@@ -7,8 +7,8 @@ use record::Event;
 use record::Read;
 use record::Written;
 
-// Writes an event into the output and reads it back from there: the event itself and the number of bytes written; or 17,
-// and the output is as lent.
+// Writes an event into the output and reads it back from there: the event itself and the number of bytes written; or
+// 17, and the output is as lent.
 pub fn read_back(e: Event, out: &mut [u8]) -> Read
     ensures answer { λ r. ⌜ readAnswer r ≡ readBack e (now (out .entry)) ⌝ }
     ensures bytes { λ _. ⌜ now (out .exit) ≡ written e (now (out .entry)) ⌝ }

@@ -1,5 +1,5 @@
-// Reads a trace from standard input and prints its verdict. If a read fails it prints none, since a part of a trace may be
-// judged otherwise than the whole, and says so on standard error. It says there too that a write failed.
+// Reads a trace from standard input and prints its verdict. If a read fails it prints none, since a part of a trace may
+// be judged otherwise than the whole, and says so on standard error. It says there too that a write failed.
 mod input;
 
 use input::Input;

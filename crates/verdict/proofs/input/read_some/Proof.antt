@@ -1,7 +1,6 @@
 -- The invariant: the buffer keeps its length. The measure: the turns that are left.
 use mathlib.Core.Path.{_≡_}
 use lib.ListN.{length}
-use native.Mathlib.Omega.{arith}
 use borrow.Author.Needs.{needs}
 use Rattle.verdict.proofs.input.read_some.Statement.{statement}
 use Rattle.verdict.proofs.input.read_some.Tie as tie
