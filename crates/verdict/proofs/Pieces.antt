@@ -8,16 +8,16 @@ use native.Mathlib.Nat.{le-refl}
 use lib.ListN.{length}
 use borrow.Rule.Slice.PartMut.{midOf, mid-len}
 use Rattle.io.specs.Counts.{Counts}
-use Rattle.verdict.specs.Input.{Within}
+use Rattle.verdict.specs.Input.{Filled}
 use Rattle.verdict.specs.declared.input.Input.{Input}
 use Rattle.verdict.specs.declared.input.Input.the-variants.{Bytes}
 
-pub bytes-counted : (r : Input) (n : ℕ) (buf : List ℕ) → r ≡ Bytes n → Within r buf → Counts n buf
+pub bytes-counted : (r : Input) (n : ℕ) (buf : List ℕ) → r ≡ Bytes n → Filled r buf → Counts n buf
 bytes-counted r n buf is within = rw is at within
 
 pub piece-fits :
     (r : Input) (n done : ℕ) (buf piece : List ℕ)
-    → r ≡ Bytes n → Within r piece
+    → r ≡ Bytes n → Filled r piece
     → length piece ≡ length (midOf done (length buf - done) buf) → done ≤ length buf
     → done + n ≤ length buf
 piece-fits r n done buf piece is within long inside =

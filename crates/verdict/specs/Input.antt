@@ -6,6 +6,6 @@ use Rattle.verdict.specs.declared.input.Input.{Input}
 use Rattle.verdict.specs.declared.input.Input.the-variants.{Bytes, Failed}
 
 -- the bytes that were read are counted from the buffer's start; of a read that failed nothing is said
-abbrev pub Within : Input → List ℕ → Type 0
-Within (Bytes n) buf = Counts n buf
-Within Failed buf = Unit {0}
+abbrev pub Filled : Input → List ℕ → Type 0
+Filled (Bytes n) buf = Counts n buf
+Filled Failed buf = Unit {0}

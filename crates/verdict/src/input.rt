@@ -1,5 +1,5 @@
 // Reading the whole input, which tells a read that fails from the end of the input, as `io::read_full` does not.
-ghost use Rattle.verdict.specs.Input.{Within};
+ghost use Rattle.verdict.specs.Input.{Filled};
 
 // What reading found: how many bytes it put at the start of the buffer, or that a read failed.
 pub enum Input {
@@ -8,15 +8,15 @@ pub enum Input {
 }
 
 // One read, made again while a signal interrupts it; 0 bytes at the end of the input. A proved loop has to end, so this
-// one counts its turns down, from a number that no run uses up.
+// one counts its tries down, from a number that no run uses up.
 fn read_some(fd: i32, buf: &mut [u8]) -> Input
-    ensures { λ r. ⌜ Within r (now (buf .exit)) ⌝ }
+    ensures { λ r. ⌜ Filled r (now (buf .exit)) ⌝ }
 {
-    let mut turns = u64::MAX;
+    let mut tries = u64::MAX;
     let mut got = libc::read(fd, buf);
-    while 0 < turns && got < 0 && os::errno() == libc::EINTR {
+    while 0 < tries && got < 0 && os::errno() == libc::EINTR {
         got = libc::read(fd, buf);
-        turns -= 1;
+        tries -= 1;
     }
     if got < 0 {
         return Input::Failed;
@@ -26,7 +26,7 @@ fn read_some(fd: i32, buf: &mut [u8]) -> Input
 
 // Reads until the buffer is full or the input ends. A read that fails before that ends it, and errno is that read's.
 pub fn read_all(fd: i32, buf: &mut [u8]) -> Input
-    ensures { λ r. ⌜ Within r (now (buf .exit)) ⌝ }
+    ensures { λ r. ⌜ Filled r (now (buf .exit)) ⌝ }
 {
     let mut done = 0;
     while done < buf.len() {

@@ -1,4 +1,4 @@
--- The invariant: the buffer keeps its length. The measure: the turns that are left.
+-- The invariant: the buffer keeps its length. The measure: the tries that are left.
 use mathlib.Core.Path.{_≡_}
 use lib.ListN.{length}
 use borrow.Author.Needs.{needs}
@@ -6,10 +6,10 @@ use Rattle.verdict.proofs.input.read_some.Statement.{statement}
 use Rattle.verdict.proofs.input.read_some.Tie as tie
 
 abbrev Inv-loop : tie.InvT-loop
-Inv-loop fd buf₀ turns₀ got₀ buf turns got = length buf ≡ length buf₀
+Inv-loop fd buf₀ tries₀ got₀ buf tries got = length buf ≡ length buf₀
 
 abbrev μ-loop : tie.MeasureT-loop
-μ-loop fd buf₀ turns₀ got₀ buf turns got = turns
+μ-loop fd buf₀ tries₀ got₀ buf tries got = tries
 
 read-requires : tie.Need-read-requires Inv-loop μ-loop
 read-requires c κs = search needs
@@ -23,8 +23,8 @@ errno-requires c κs = search needs
 read-requires-2 : tie.Need-read-requires-2 Inv-loop μ-loop
 read-requires-2 c κs = search needs
 
-sub-turns : tie.Need-sub-turns Inv-loop μ-loop
-sub-turns c = search needs
+sub-tries : tie.Need-sub-tries Inv-loop μ-loop
+sub-tries c = search needs
 
 loop-less : tie.Need-loop-less Inv-loop μ-loop
 loop-less c = search needs
@@ -57,7 +57,7 @@ read-some-spec =
     loop-holds
     errno-requires
     read-requires-2
-    sub-turns
+    sub-tries
     loop-less
     loop-again
     same-length
