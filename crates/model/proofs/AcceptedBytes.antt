@@ -80,7 +80,7 @@ module _ (bytes : List ℕ) (all-bytes : AllBytes bytes) where
 
   -- ---- the first n records, all read
 
-  pub first-two-byte : (n : ℕ) → ((e : ℕ) → e < n → Passed bytes e) → AllTwoByte (firstEvents bytes n)
+  first-two-byte : (n : ℕ) → ((e : ℕ) → e < n → Passed bytes e) → AllTwoByte (firstEvents bytes n)
   first-two-byte n all-passed = record { two-byte = two-byte }
     where
       two-byte : (e : ℕ) → e < length (firstEvents bytes n) → TwoByte (fieldsOf (traceOf (firstEvents bytes n) e))
