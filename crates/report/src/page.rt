@@ -7,7 +7,7 @@ ghost use lib.ListN.{length};
 ghost use Rattle.report.specs.Decimal.{digits};
 ghost use Rattle.report.specs.Page.{page, putOn, Added};
 
-// One byte.
+// One byte, if the buffer has room at the position.
 pub(crate) fn put(out: &mut [u8], at: usize, b: u8) -> usize
     ensures { λ r. ⌜ page (now (out .exit)) r ≡ putOn (page (now (out .entry)) at) b ⌝ }
 {
