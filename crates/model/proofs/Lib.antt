@@ -1,8 +1,8 @@
 -- Laws and theorems about the definitions. The theorems that others cite: `clock-is-happens-before` (Clocks),
 -- `before-committed` (Committed), `exact`, `unique`, `broken-stays`, `named-load-counts` (Exactness), `min-explains`,
 -- `max-explains` (Lattice), `exact-same` (Prefixes), `explains-is-replay` (Replay), `accepted-exactly`,
--- `turned-away-exactly` (TurnedAway), `ordered-as-demanded` (Queries), `judged-as-demanded` (Demanded),
--- `broken-as-trace`, `robust-before-load` (TakenAsTrace), `accepted-encoded` (AcceptedBytes),
+-- `turned-away-exactly` (TurnedAway), `ordered-as-demanded` (Queries), `judged-as-demanded` (Demanded), `cut-rest`
+-- (CutPlaces), `broken-as-trace`, `robust-before-load` (TakenAsTrace), `accepted-encoded` (AcceptedBytes),
 -- `flushes-move-no-verdict` (FlushNeutral), `refusals-14-and-15` (BufferSizes), `cases-1-to-11` (Cases),
 -- `errors-of-the-trade` (CasesOfTrade), `refusals-1-to-5` (NoTrace) and `random-sessions` (RandomSessions).
 pub mod Searching
