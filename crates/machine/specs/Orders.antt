@@ -12,13 +12,14 @@ use Rattle.area.specs.Cells.{getRow}
 unfoldable pub storeW : List ℕ → ℕ → ℕ → Bool
 storeW l n p = eqb p 0 gives false else ltb n p gives false else not (eqb (getRow l p 10) 0)
 
+-- the clock of store q covers store p: for p's thread it is not below p's own
+abbrev pub coversW : List ℕ → ℕ → ℕ → Bool
+coversW l p q = let t = getRow l p 8 in leb (getRow l p t) (getRow l q t)
+
+-- how store p stands to store q: stores of two stretches are not ordered
 unfoldable pub orderW : List ℕ → ℕ → ℕ → Order
 orderW l p q =
-    let t = getRow l p 8 in
-    let u = getRow l q 8 in
     eqb p q gives Same else
     (eqb (getRow l p 10) (getRow l q 10) gives
-    (leb (getRow l p t) (getRow l q t) gives Before else
-    leb (getRow l q u) (getRow l p u) gives After else
-    Neither) else
+    (coversW l p q gives Before else coversW l q p gives After else Neither) else
     Neither)
