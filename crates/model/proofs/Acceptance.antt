@@ -1,7 +1,8 @@
 -- What an accepted trace has passed, and what that says of its loads: the list of refusals read backwards, for if the
 -- answer of a list of tests is 0, then every test in it failed.
 -- In order: the list read backwards, once; what an event has passed; what a counted load is; where a load's source
--- comes from (`own-source`, `commit-source` and `crossing-source`, by case; `source-from`, `counted-source`).
+-- comes from (`own-source`, `commit-source` and `crossing-source`, by case; `source-from`, `source-early`,
+-- `counted-source`).
 use Prim.Native.Nat.{ℕ, zero, suc, _≤_, _<_}
 use native.Mathlib.Omega.{arith}
 use mathlib.Core.Path.{_≡_, refl, sym, _∙_}
@@ -18,6 +19,7 @@ use Rattle.model.specs.Machine.{beside, commitsBefore, queued, oldest, c
 use Rattle.model.specs.Machine.{current, past, sourceFits, crossing, skipping, counted}
 use Rattle.model.specs.Rules.{Rules, pass, _refuses_else_, answer, beginFits, rules, Accepted}
 use Rattle.model.proofs.Searching.{false-true, same?, parts, or-cases, or-fails, not-without, last-is}
+use Rattle.model.proofs.Counting.{earlier-stretch}
 use Rattle.model.proofs.Roles.{one-kind}
 
 -- ---- the list of refusals, read backwards
@@ -250,6 +252,19 @@ module _ (ev : ℕ → Event) where
         by-case (inl none-waits) (inr commits) = from-commit (commit-source l fits none-waits commits)
         by-case (inl none-waits) (inl none-current) =
             from-past (crossing-source l fits none-waits none-current some)
+
+    -- and it comes no later than the load
+    pub source-early : (l : ℕ) → l < N → Load ev l → source ev l ≤ l
+    source-early l inside loads = by-source (same? (source ev l) 0)
+      where
+        by-case : From l (source ev l) → source ev l ≤ l
+        by-case (from-own from) = omega (arith, from .earlier)
+        by-case (from-commit from) = omega (arith, from .earlier, from .before-load)
+        by-case (from-past from) = omega (arith, earlier-stretch ev (source ev l) l (from .earlier))
+
+        by-source : (source ev l ≡ 0) ⊎ (source ev l ≢ 0) → source ev l ≤ l
+        by-source (inl none) = omega arith
+        by-source (inr some) = by-case (source-from l inside loads some)
 
     -- the source of a counted load, if it is a store
     pub counted-source : (l : ℕ) → l < N → counted ev l ≡ true → source ev l ≢ 0 → FromPast l (source ev l)

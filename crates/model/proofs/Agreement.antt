@@ -12,13 +12,13 @@ use borrow.Author.Tests.{le-ltb}
 use Rattle.record.specs.declared.events.Event.{Event}
 use Rattle.record.specs.declared.events.Fields.{Fields}
 use Rattle.record.specs.Fields.{fieldsOf}
-use Rattle.model.specs.Trace.{thread, location, source, issue?, commit?, Issue, stretch, count}
+use Rattle.model.specs.Trace.{thread, location, source, issue?, commit?, Issue, Load, stretch, count}
 use Rattle.model.specs.Trace.{issues, commits, place}
 use Rattle.model.specs.Machine.{beside, commitsBefore, queued, oldest, committed, commitsIt, commitOf}
 use Rattle.model.specs.Machine.{waits, waiting, commitsHere, current, past, sourceFits, switched, skipping}
 use Rattle.model.specs.Machine.{counted, counting}
 use Rattle.model.specs.Rules.{beginFits, rules, refusal, Accepted}
-use Rattle.model.specs.HappensBefore.{Precedes, own, read, chain, Before}
+use Rattle.model.specs.HappensBefore.{Precedes, own, read, chain, Before, AtOrBefore}
 use Rattle.model.proofs.Searching.{less?, last-same, last-within}
 use Rattle.model.proofs.Counting.{stretch-mono}
 use Rattle.model.proofs.Ordering.{precedes-lt}
@@ -247,6 +247,9 @@ module _ {N : ℕ} {ev other : ℕ → Event} (agree : Agree N ev other) where
   pub issue-same : {e : ℕ} → e < N → Issue ev e → Issue other e
   issue-same {e} inside store = record { test = rw (agree e inside) at (store .test) }
 
+  pub load-same : {e : ℕ} → e < N → Load ev e → Load other e
+  load-same {e} inside loads = record { test = rw (agree e inside) at (loads .test) }
+
   pub stretches-same :
       (e n : ℕ) → e ≤ N → n ≤ N → stretch ev e ≡ stretch ev n → stretch other e ≡ stretch other n
   stretches-same e n e-within n-within same = omega (arith, stretch-same e e-within, stretch-same n n-within)
@@ -260,7 +263,7 @@ module _ {N : ℕ} {ev other : ℕ → Event} (agree : Agree N ev other) where
       (threads-same p n (omega arith) inside by-thread) earlier
   precedes-same {p} {n} inside (read l store in-stretch loads from by-thread load-in-stretch after early) =
       read l (issue-same (omega arith) store) (stretches-same p n (omega arith) (omega arith) in-stretch)
-      (record { test = rw (agree l (omega arith)) at (loads .test) }) (sym (source-same l (omega arith)) ∙ from)
+      (load-same (omega arith) loads) (sym (source-same l (omega arith)) ∙ from)
       (threads-same l n (omega arith) inside by-thread)
       (stretches-same l n (omega arith) (omega arith) load-in-stretch) after early
   precedes-same inside (chain {p} {q} {n} store first second) =
@@ -270,3 +273,7 @@ module _ {N : ℕ} {ev other : ℕ → Event} (agree : Agree N ev other) where
   pub before-same : {p q : ℕ} → q < N → Before ev p q → Before other p q
   before-same inside before =
       record { store = issue-same inside (before .store); precedes = precedes-same inside (before .precedes) }
+
+  pub at-or-before-same : {p q : ℕ} → q < N → AtOrBefore ev p q → AtOrBefore other p q
+  at-or-before-same inside (inl same) = inl same
+  at-or-before-same inside (inr before) = inr (before-same inside before)

@@ -16,11 +16,12 @@ use Rattle.model.specs.Choice.{finished}
 use Rattle.model.specs.Clocks.{seen, clock, vc}
 use Rattle.model.specs.Verdict.{forbids?, observes?, forbidden?, observed?, pair?, missing?, bad?, closure}
 use Rattle.model.specs.Verdict.{loadOf, missingOf, observedOf, rulingOf}
+use Rattle.model.specs.Windows.{none, between, behind, lastCovered, windowOf}
 use Rattle.model.specs.Answers.{refused, robust, broken, contradiction, flush}
-use Rattle.model.specs.Answers.{tabulate, cutOf, sum, shareOf}
+use Rattle.model.specs.Answers.{tabulate, cutOf, sum, shareOf, faultOf}
 use Rattle.model.specs.Reading.{encode}
 use Rattle.model.proofs.Encoding.{readingEvents}
-use Rattle.model.proofs.Sessions.{lent, zeros, Outcome, outcomeOf, outcomeOfEvents, outcome-all}
+use Rattle.model.proofs.Sessions.{lent, zeros, padded, Outcome, outcomeOf, outcomeOfEvents, outcome-all}
 
 -- the bytes
 pub sessions : List (List ℕ)
@@ -120,15 +121,15 @@ traces =
 pub answers : List Outcome
 answers =
     -- case 1
-    (record { answer = broken 11 11 5 7 flush; cut = lent }) ∷
+    (record { answer = broken 11 11 5 7 (flush 0 (padded (between 6 7 ∷ []))); cut = lent }) ∷
     -- case 2
     (record { answer = robust 7 50; cut = 0 ∷ 1 ∷ zeros 54 }) ∷
     -- case 3
     (record { answer = robust 11 100; cut = 4 ∷ zeros 55 }) ∷
     -- case 4
-    (record { answer = broken 10 10 1 3 flush; cut = lent }) ∷
+    (record { answer = broken 10 10 1 3 (flush 0 (padded (between 2 3 ∷ []))); cut = lent }) ∷
     -- case 5
-    (record { answer = broken 8 8 1 4 flush; cut = lent }) ∷
+    (record { answer = broken 8 8 1 4 (flush 0 (padded (none ∷ between 4 4 ∷ []))); cut = lent }) ∷
     -- case 6
     (record { answer = robust 8 50; cut = 0 ∷ 1 ∷ zeros 54 }) ∷
     -- case 7
@@ -152,7 +153,8 @@ encoded = refl
 computed : map outcomeOfEvents traces ≡ answers
 unfolding traces answers readingEvents some last first firstFrom most stretch count committed commitOf waiting current
     sourceFits switched counted counting any answer rules finished seen clock vc forbids? observes? forbidden?
-    observed? pair? missing? bad? closure loadOf missingOf observedOf rulingOf tabulate cutOf sum shareOf rowOf
+    observed? pair? missing? bad? closure loadOf missingOf observedOf rulingOf behind lastCovered windowOf faultOf
+    tabulate cutOf sum shareOf rowOf
 computed = refl
 
 pub cases-1-to-11 : map outcomeOf sessions ≡ answers

@@ -16,11 +16,12 @@ use Rattle.model.specs.Choice.{finished}
 use Rattle.model.specs.Clocks.{seen, clock, vc}
 use Rattle.model.specs.Verdict.{forbids?, observes?, forbidden?, observed?, pair?, missing?, bad?, closure}
 use Rattle.model.specs.Verdict.{loadOf, missingOf, observedOf, rulingOf}
+use Rattle.model.specs.Windows.{none, between, behind, lastCovered, windowOf}
 use Rattle.model.specs.Answers.{robust, broken, contradiction, flush}
-use Rattle.model.specs.Answers.{tabulate, cutOf, sum, shareOf}
+use Rattle.model.specs.Answers.{tabulate, cutOf, sum, shareOf, faultOf}
 use Rattle.model.specs.Reading.{encode}
 use Rattle.model.proofs.Encoding.{readingEvents}
-use Rattle.model.proofs.Sessions.{lent, zeros, Outcome, outcomeOf, outcomeOfEvents, outcome-all}
+use Rattle.model.proofs.Sessions.{lent, zeros, padded, Outcome, outcomeOf, outcomeOfEvents, outcome-all}
 
 -- the bytes
 pub sessions : List (List ℕ)
@@ -155,19 +156,19 @@ answers =
     -- clocks kept over a crash, of a load before it
     (record { answer = robust 11 66; cut = 1 ∷ 0 ∷ 0 ∷ 0 ∷ 0 ∷ 0 ∷ 0 ∷ 0 ∷ 0 ∷ 1 ∷ zeros 46 }) ∷
     -- a read of source 0 taken as free
-    (record { answer = broken 7 7 1 3 flush; cut = lent }) ∷
+    (record { answer = broken 7 7 1 3 (flush 0 (padded (between 2 3 ∷ []))); cut = lent }) ∷
     -- loads in a skip still order
-    (record { answer = broken 9 9 1 5 flush; cut = lent }) ∷
+    (record { answer = broken 9 9 1 5 (flush 0 (padded (none ∷ between 5 5 ∷ []))); cut = lent }) ∷
     -- a chain over three threads
-    (record { answer = broken 11 11 1 7 flush; cut = lent }) ∷
+    (record { answer = broken 11 11 1 7 (flush 0 (padded (none ∷ between 4 4 ∷ between 7 7 ∷ []))); cut = lent }) ∷
     -- a waiting store stays out of the share
     (record { answer = robust 7 100; cut = 1 ∷ zeros 55 }) ∷
     -- share is rounded down
     (record { answer = robust 8 66; cut = 2 ∷ zeros 55 }) ∷
     -- smallest missing goes before smallest observed
-    (record { answer = broken 12 12 1 7 flush; cut = lent }) ∷
+    (record { answer = broken 12 12 1 7 (flush 0 (padded (between 2 7 ∷ []))); cut = lent }) ∷
     -- every load before the issue orders
-    (record { answer = broken 11 11 1 7 flush; cut = lent }) ∷
+    (record { answer = broken 11 11 1 7 (flush 0 (padded (none ∷ none ∷ between 6 7 ∷ []))); cut = lent }) ∷
     -- a skip is a matter of its own thread
     (record { answer = broken 6 6 1 1 contradiction; cut = lent }) ∷
     -- a dropped store in between changes nothing
@@ -187,7 +188,8 @@ encoded = refl
 computed : map outcomeOfEvents traces ≡ answers
 unfolding traces answers readingEvents some last first firstFrom most stretch count committed commitOf waiting current
     sourceFits switched counted counting any answer rules finished seen clock vc forbids? observes? forbidden?
-    observed? pair? missing? bad? closure loadOf missingOf observedOf rulingOf tabulate cutOf sum shareOf rowOf
+    observed? pair? missing? bad? closure loadOf missingOf observedOf rulingOf behind lastCovered windowOf faultOf
+    tabulate cutOf sum shareOf rowOf
 computed = refl
 
 pub errors-of-the-trade : map outcomeOf sessions ≡ answers

@@ -1,18 +1,22 @@
--- Vector clocks compute happens-before (`clock-is-happens-before`, the last here). What a clock counts happens before:
--- it is the thread's own, or a load brought it in. What happens before is counted: clocks grow along happens-before.
+-- Vector clocks compute happens-before (`clock-is-happens-before`, and `covers-exactly` of the test). What a clock
+-- counts happens before: it is the thread's own, or a load brought it in. What happens before is counted: clocks grow
+-- along happens-before.
 -- In order: the stores that a clock counts (`clock-place`); that they happen before; that clocks grow; the theorem.
 use Prim.Native.Nat.{ℕ, zero, suc, _≤_, _<_, max}
 use native.Mathlib.Omega.{arith}
 use mathlib.Core.Path.{_≡_, refl, sym, _∙_}
 use mathlib.Core.Bool.{true, false}
 use mathlib.Core.Logic.{_⊎_, inl, inr, _≢_, _↔_}
+use lib.Dec.{eqb}
+use borrow.Author.Tests.{eqb-true, eq-eqb, ltb-true, lt-ltb}
 use Rattle.record.specs.declared.events.Event.{Event}
 use Rattle.model.specs.Trace.{thread, source, issue?, crash?, Issue, stretch, issues, place}
-use Rattle.model.specs.HappensBefore.{Precedes, Before, own, read, chain}
-use Rattle.model.specs.Clocks.{joins, seen, vc}
-use Rattle.model.proofs.Searching.{test, same?, less?}
+use Rattle.model.specs.HappensBefore.{Precedes, Before, AtOrBefore, own, read, chain}
+use Rattle.model.specs.Clocks.{joins, seen, vc, covers?}
+use Rattle.model.proofs.Searching.{test, both, parts, same?, less?}
 use Rattle.model.proofs.Counting.{stretch-crash, stretch-else, stretch-mono, count-mono, at-place}
 use Rattle.model.proofs.Induction.{from-all-smaller}
+use Rattle.model.proofs.Ordering.{same-stretch}
 use Rattle.model.proofs.Roles.{issue-no-crash, load-no-crash}
 use Rattle.model.proofs.ClockSteps.{Joined, joins→, →joins, seen-zero, seen-crash, seen-join, seen-keep}
 use Rattle.model.proofs.ClockSteps.{vc-here, vc-own, vc-other, seen-bound, vc-bound}
@@ -243,3 +247,18 @@ module _ (ev : ℕ → Event) where
       before-is-counted : (p ≡ q) ⊎ Before ev p q → place ev p < vc ev q (thread ev p)
       before-is-counted (inl is) = rw (← is) itself
       before-is-counted (inr before) = omega (arith, itself, clocks-grow q-here (before .precedes) (thread ev p))
+
+  -- the same of the test
+  pub covers-exactly : (p q : ℕ) → Issue ev p → Issue ev q → (covers? ev p q ≡ true) ↔ AtOrBefore ev p q
+  covers-exactly p q p-store q-store = (to, from)
+    where
+      to : covers? ev p q ≡ true → AtOrBefore ev p q
+      to passes =
+          let (in-stretch, counted) = parts (eqb (stretch ev p) (stretch ev q)) _ passes in
+          clock-is-happens-before q p q-store p-store (eqb-true _ _ in-stretch) .0 (ltb-true _ _ counted)
+
+      from : AtOrBefore ev p q → covers? ev p q ≡ true
+      from order =
+          let in-stretch = same-stretch ev p q order in
+          both _ _ (eq-eqb _ _ in-stretch)
+          (lt-ltb _ _ (clock-is-happens-before q p q-store p-store in-stretch .1 order))

@@ -4,7 +4,7 @@
 -- choice; which stores are in the closure; the closure fits, explains if there is no pair, and is least.
 use Prim.Native.Nat.{ℕ, _≤_, _<_}
 use native.Mathlib.Omega.{arith}
-use mathlib.Core.Path.{_≡_, refl, sym, _∙_, ap, ap₂}
+use mathlib.Core.Path.{_≡_, refl, sym, _∙_, ap₂}
 use mathlib.Core.Bool.{Bool, true, false, _&&_}
 use mathlib.Core.Logic.{_⊎_, inl, inr}
 use lib.Dec.{eqb}
@@ -14,24 +14,20 @@ use Rattle.model.specs.Trace.{thread, source, commit?, Issue, stretch, c
 use Rattle.model.specs.Search.{any}
 use Rattle.model.specs.Machine.{counting}
 use Rattle.model.specs.Rules.{Accepted}
-use Rattle.model.specs.HappensBefore.{Before, AtOrBefore}
+use Rattle.model.specs.HappensBefore.{AtOrBefore}
 use Rattle.model.specs.Choice.{Choice, In, finished, Closed, Observes, Observed, Forbidden, Explains}
 use Rattle.model.specs.Choice.{Robust, Pair}
 use Rattle.model.specs.Clocks.{vc}
 use Rattle.model.specs.Verdict.{observes?, observed?, asks, closure}
 use Rattle.model.proofs.Searching.{test, less?, both, parts, eqb-same, some→, →some, any→, →any, most→, →most}
 use Rattle.model.proofs.Counting.{stretch-mono, earlier-stretch, count-mono}
-use Rattle.model.proofs.Ordering.{before-first, before-last, before-stretch, before-trans}
+use Rattle.model.proofs.Ordering.{before-first, before-last, before-at-or-before, same-stretch}
 use Rattle.model.proofs.Clocks.{clock-is-happens-before, ClockPlace, clock-place}
 use Rattle.model.proofs.Acceptance.{FromPast, counted-source}
 use Rattle.model.proofs.Committed.{Committed, before-committed}
 use Rattle.model.proofs.CountedLoads.{counted-early, counted-load}
 
 module _ (ev : ℕ → Event) where
-  pub same-stretch : (p q : ℕ) → AtOrBefore ev p q → stretch ev p ≡ stretch ev q
-  same-stretch p q (inl same) = ap (λ (e : ℕ). stretch ev e) same
-  same-stretch p q (inr before) = before-stretch ev before
-
   -- ---- the observed stores, as a test
 
   pub observes→ : (l q : ℕ) → observes? ev l q ≡ true → Observes ev l q
@@ -148,7 +144,7 @@ module _ (ev : ℕ → Event) where
     reached-is-in p store reached =
         let q = reached .q in
         let settled = observed-is-committed N accepted q (reached .observed) in
-        let in-stretch : stretch ev p ≡ stretch ev q = same-stretch p q (reached .order) in
+        let in-stretch : stretch ev p ≡ stretch ev q = same-stretch ev p q (reached .order) in
         let in-clock : place ev p < vc ev q (thread ev p) =
         clock-is-happens-before ev q p (settled .store) store in-stretch .1 (reached .order)
         in
@@ -202,7 +198,7 @@ module _ (ev : ℕ → Event) where
     committed-in-finished p q settled order = rw (finished-is (stretch ev p) (thread ev p) done) (p-committed order)
       where
         done : stretch ev p < stretch ev N
-        done = rw (same-stretch p q order) (settled .in-finished)
+        done = rw (same-stretch ev p q order) (settled .in-finished)
 
         p-committed : AtOrBefore ev p q → Committed ev N p
         p-committed (inl same) = rw same (settled .committed)
@@ -223,12 +219,8 @@ module _ (ev : ℕ → Event) where
         (record {
           q = reached .q;
           observed = reached .observed;
-          order = inr (on-to (reached .q) (reached .order));
+          order = inr (before-at-or-before ev before (reached .order));
         })
-      where
-        on-to : (r : ℕ) → AtOrBefore ev q r → Before ev p r
-        on-to r (inl same) = rw same at before
-        on-to r (inr further) = before-trans ev before further
 
     pub closure-explains : ((p q : ℕ) → Pair ev N p q → ⊥) → Explains ev N (closure ev N)
     closure-explains no-pair = record {

@@ -1,31 +1,76 @@
--- Demand 3 of the computed answer: for every accepted trace, with any buffers that refusals 14 and 15 let pass, what
--- `judgeOf` answers and `cutAfter` leaves in the cut buffer make the claim of specs/Demand.antt. And demand 1: a trace
--- that is turned away is refused, and a refusal leaves the cut buffer as lent.
-use Prim.Native.Nat.{ℕ, _≤_}
+-- Demand 3 of the computed answer, and document 02's windows: for every accepted trace, with any buffers that refusals
+-- 14 and 15 let pass, what `judgeOf` answers and `cutAfter` leaves in the cut buffer make the claim of
+-- specs/Demand.antt. And demand 1: a trace that is turned away is refused, and a refusal leaves the cut buffer as lent.
+use Prim.Native.Nat.{ℕ, suc, _≤_}
 use native.Mathlib.Omega.{arith}
-use mathlib.Core.Path.{_≡_, refl}
+use mathlib.Core.Path.{_≡_, refl, _∙_}
 use mathlib.Core.Bool.{Bool, true, false}
+use mathlib.Core.Logic.{inl, inr, _≢_}
 use mathlib.Core.List.{List}
 use lib.ListN.{length}
-use borrow.Author.Tests.{eq-eqb, le-ltb}
+use borrow.Author.Tests.{eq-eqb, ne-eqb, le-ltb}
+use Rattle.record.specs.declared.events.Event.{Event}
 use Rattle.record.specs.Tests.{_gives_else_}
-use Rattle.model.specs.Choice.{Ruling, robust, broken, Exact}
+use Rattle.model.specs.Trace.{thread}
+use Rattle.model.specs.HappensBefore.{Before, AtOrBefore}
+use Rattle.model.specs.Rules.{Accepted}
+use Rattle.model.specs.Choice.{Ruling, robust, broken, Broken, Exact}
+use Rattle.model.specs.Windows.{none, windowOf}
 use Rattle.model.specs.Verdict.{rulingOf}
 use Rattle.model.specs.Reading.{events, Reading, accepted, turnedAway, readingOf}
 use Rattle.model.specs.Reading.{AcceptedWith, TurnedAwayWith}
-use Rattle.model.specs.Answers.{refused}
+use Rattle.model.specs.Answers.{refused, tabulate, faultOf}
 use Rattle.model.specs.Judge.{smallWork, wrongCut, ruledAnswer, ruledCut, readingAnswer, readingCut}
 use Rattle.model.specs.Judge.{judgeOf, cutAfter}
-use Rattle.model.specs.Demand.{Claims}
-use Rattle.model.proofs.Exactness.{exact}
+use Rattle.model.specs.Demand.{FlushClaims, FaultClaims, Claims}
+use Rattle.model.proofs.Tabulating.{tabulate-length, tabulate-at}
+use Rattle.model.proofs.Ordering.{before-lt}
+use Rattle.model.proofs.Ranges.{issue-has-thread, thread-bound}
+use Rattle.model.proofs.Closure.{CommittedEarlier}
+use Rattle.model.proofs.WindowPlaces.{window-is, observed-has-window}
+use Rattle.model.proofs.Exactness.{exact, named-missing, named-observed}
 use Rattle.model.proofs.TurnedAway.{accepted-exactly, turned-away-exactly, accepted-events}
+
+-- the kind that is computed, with its windows, claims what is demanded
+module _ (ev : ℕ → Event) (N : ℕ) (accepted : Accepted ev N) {load p q : ℕ} (it : Broken ev N load p q) where
+  observed-settled : CommittedEarlier ev (suc load) q
+  observed-settled = named-observed ev accepted it
+
+  flush-is : Before ev p q → FlushClaims ev p q (thread ev p) (tabulate 8 (windowOf ev p q))
+  flush-is before = record {
+    differ = λ same. omega (arith, before-lt ev before);
+    primary-is = refl;
+    threads-0-to-7 = tabulate-length 8 (windowOf ev p q);
+    each = λ t below.
+        rw (tabulate-at 8 (windowOf ev p q) t none below)
+        (window-is ev p q t (named-missing ev it) (observed-settled .store));
+    observed-has =
+        let inside = it .inside in
+        let q-thread =
+        thread-bound ev N accepted q (omega (arith, observed-settled .early))
+        (issue-has-thread ev (observed-settled .store))
+        in
+        let (from, to, is) = observed-has-window ev p q before in
+        (from, to, tabulate-at 8 (windowOf ev p q) (thread ev q) none q-thread ∙ is);
+  }
+
+  pub fault-is : FaultClaims ev p q (faultOf ev p q)
+  unfolding faultOf
+  fault-is = by-order (it .pair .order)
+    where
+      by-order : AtOrBefore ev p q → FaultClaims ev p q (faultOf ev p q)
+      by-order (inl same) = rw (eq-eqb p q same) same
+      by-order (inr before) =
+          let differ : p ≢ q = λ same. omega (arith, before-lt ev before) in
+          rw (ne-eqb p q differ) (flush-is before)
 
 module _ (bytes : List ℕ) (N : ℕ) (accepted : AcceptedWith bytes N) where
   ruling-claims :
       (cut : List ℕ) (v : Ruling) → Exact (events bytes) N v
       → Claims (events bytes) N cut (ruledCut (events bytes) N cut v) (ruledAnswer (events bytes) N v)
   ruling-claims cut (robust c) least = (c, least, refl, refl, refl)
-  ruling-claims cut (broken load missing observed) it = (it, refl, refl, refl)
+  ruling-claims cut (broken load missing observed) it =
+      (it, refl, refl, fault-is (events bytes) N (accepted-events bytes N accepted) it)
 
   pub judged-as-demanded :
       (work : ℕ) (cut : List ℕ) → 32768 ≤ work → length cut ≡ 56

@@ -10,7 +10,7 @@ use mathlib.Core.Logic.{_⊎_, inl, inr, _≢_, _↔_}
 use Rattle.record.specs.declared.events.Event.{Event}
 use Rattle.model.specs.Trace.{thread, location, source, issue?, load?, Issue, stretch}
 use Rattle.model.specs.Machine.{commitOf}
-use Rattle.model.specs.HappensBefore.{Precedes, own, read, chain, Before}
+use Rattle.model.specs.HappensBefore.{Precedes, own, read, chain, Before, AtOrBefore}
 use Rattle.model.specs.Choice.{Choice, In, Observes, Newer, Forbids, Observed, Forbidden}
 use Rattle.model.specs.Embedding.{Numbering, Naming, Role, Embedding, Apart, restricted}
 use Rattle.model.proofs.Searching.{same?, less?, test, false-true, excluded}
@@ -38,7 +38,7 @@ module _
     pub stays : via .stores .gap? e ≡ false
     pub holds : P (via .stores .kept e)
 
-  store-at : {p : ℕ} → Issue part p → Issue whole (via .stores .number p)
+  pub store-at : {p : ℕ} → Issue part p → Issue whole (via .stores .number p)
   store-at {p} store = record { test = via .issuing .same p ∙ store .test }
 
   pub store-kept : {p : ℕ} → via .stores .gap? p ≡ false → Issue whole p → Issue part (via .stores .kept p)
@@ -166,6 +166,17 @@ module _
       let last = store-kept event (before .store) in
       let inside = precedes-kept event last (before .precedes) in
       record { stays = inside .stays; holds = record { store = last; precedes = inside .holds } }
+
+  pub at-or-before-at :
+      {p q : ℕ} → AtOrBefore part p q → AtOrBefore whole (via .stores .number p) (via .stores .number q)
+  at-or-before-at (inl same) = inl (ap (via .stores .number) same)
+  at-or-before-at (inr before) = inr (before-at before)
+
+  pub at-or-before-kept :
+      {p q : ℕ} → via .stores .gap? q ≡ false → AtOrBefore whole p q
+      → AtOrBefore part (via .stores .kept p) (via .stores .kept q)
+  at-or-before-kept event (inl same) = inl (ap (via .stores .kept) same)
+  at-or-before-kept event (inr before) = inr (before-kept event before .holds)
 
   -- ---- stores that are in
 

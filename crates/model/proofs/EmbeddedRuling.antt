@@ -4,18 +4,17 @@
 -- In order: the same choices explain both; pairs; exact rulings, `exact-both`.
 use Prim.Native.Nat.{ℕ, suc, _≤_}
 use native.Mathlib.Omega.{arith}
-use mathlib.Core.Path.{_≡_, ap}
+use mathlib.Core.Path.{_≡_}
 use mathlib.Core.Bool.{false}
 use mathlib.Core.Logic.{_⊎_, inl, inr, _↔_}
 use Rattle.record.specs.declared.events.Event.{Event}
-use Rattle.model.specs.HappensBefore.{Before}
 use Rattle.model.specs.Choice.{Choice, Ruling, robust, broken, Counted, Explains, Robust, Least, Observed}
 use Rattle.model.specs.Choice.{Forbidden, Pair, Broken, Exact}
 use Rattle.model.specs.Embedding.{everything, Embedding, Apart, Cover, carryBy}
 use Rattle.model.proofs.Numberings.{kept-mono, kept-lt, number-below, number-le, number-order, kept-past}
 use Rattle.model.proofs.EmbeddedMachine.{counted-kept}
 use Rattle.model.proofs.CountedLoads.{counted-is-load}
-use Rattle.model.proofs.EmbeddedLoads.{Numbered, before-at, before-kept, observes-kept}
+use Rattle.model.proofs.EmbeddedLoads.{Numbered, at-or-before-at, at-or-before-kept, observes-kept}
 use Rattle.model.proofs.EmbeddedLoads.{forbids-kept, observed-at, forbidden-at}
 use Rattle.model.proofs.EmbeddedChoices.{explains-part, explains-whole}
 
@@ -49,12 +48,8 @@ module _
   pair-at N p q pair = record {
     missing = forbidden-at via apart (pair .missing);
     observed = observed-at via apart (pair .observed);
-    order = by-order (pair .order);
+    order = at-or-before-at via (pair .order);
   }
-    where
-      by-order : (p ≡ q) ⊎ Before part p q → (asStore p ≡ asStore q) ⊎ Before whole (asStore p) (asStore q)
-      by-order (inl is) = inl (ap (via .stores .number) is)
-      by-order (inr before) = inr (before-at via before)
 
   -- a load that counts is one of the part, and counts there
   load-of : {N l : ℕ} → Counted whole N l → (m : ℕ) × (asLoad m ≡ l) × Counted part (via .loads .kept N) m
@@ -97,15 +92,9 @@ module _
         pair = record {
           missing = missing .holds;
           observed = observed .holds;
-          order = by-order (observed .stays) (pair .order);
+          order = at-or-before-kept via (observed .stays) (pair .order);
         };
       }
-    where
-      by-order :
-          via .stores .gap? q ≡ false → (p ≡ q) ⊎ Before whole p q
-          → (via .stores .kept p ≡ via .stores .kept q) ⊎ Before part (via .stores .kept p) (via .stores .kept q)
-      by-order stays (inl is) = inl (ap (via .stores .kept) is)
-      by-order stays (inr before) = inr (before-kept via stays before .holds)
 
   -- ---- exact rulings
 

@@ -2,7 +2,8 @@
 -- pair, the closure is the least choice that explains; if there is one, no choice explains, and the searches find the
 -- first event with a pair and the smallest pair there.
 -- In order: a pair or a choice; what the searches find; `exact`, `decided`; `unique`; `broken-stays`: more events mend
--- nothing; `named-load-counts`: the load that a broken ruling names is a counted one.
+-- nothing; `named-load-counts`: the load that a broken ruling names is a counted one; `named-missing`,
+-- `named-observed`: what it names are stores.
 use Prim.Native.Nat.{ℕ, zero, suc, _≤_, _<_}
 use native.Mathlib.Omega.{arith}
 use mathlib.Core.Path.{_≡_, sym, _∙_, ap, fun-ext}
@@ -11,7 +12,7 @@ use mathlib.Core.Logic.{_⊎_, inl, inr}
 use mathlib.Core.List.{[]}
 use borrow.Author.Tests.{lt-ltb, le-ltb}
 use Rattle.record.specs.declared.events.Event.{Event}
-use Rattle.model.specs.Trace.{commit?, stretch}
+use Rattle.model.specs.Trace.{commit?, Issue, stretch}
 use Rattle.model.specs.Search.{any}
 use Rattle.model.specs.Machine.{counted, counting, counts}
 use Rattle.model.specs.Rules.{Accepted}
@@ -22,7 +23,8 @@ use Rattle.model.proofs.Searching.{false-true, test, less?, →some, Fi
 use Rattle.model.proofs.Counting.{stretch-mono, count-mono}
 use Rattle.model.proofs.Acceptance.{prefix}
 use Rattle.model.proofs.CountedLoads.{counted-later, counted-step}
-use Rattle.model.proofs.Closure.{closure-explains, closure-least, pair-leaves-none}
+use Rattle.model.proofs.Closure.{CommittedEarlier, observed-is-committed, closure-explains, closure-least}
+use Rattle.model.proofs.Closure.{pair-leaves-none}
 use Rattle.model.proofs.Pairs.{pair→, →pair, →missing, bad→, →bad}
 
 module _ (ev : ℕ → Event) where
@@ -239,3 +241,14 @@ module _ (ev : ℕ → Event) where
       by-test (inl counts) = counts
       by-test (inr fails) =
           absurd (it .none-yet (uncounted-adds-nothing load (rw fails) (it .first load (omega arith))))
+
+  -- the stores that it names: missing is a store, and observed is one that is committed
+  pub named-missing : {N load missing observed : ℕ} → Broken ev N load missing observed → Issue ev missing
+  named-missing it = it .pair .missing .2 .store
+
+  pub named-observed :
+      {N load missing observed : ℕ} → Accepted ev N → Broken ev N load missing observed
+      → CommittedEarlier ev (suc load) observed
+  named-observed {N} {load} {missing} {observed} accepted it =
+      observed-is-committed ev (suc load) (prefix ev N (suc load) accepted (omega arith) (it .inside)) observed
+      (it .pair .observed)

@@ -1,10 +1,12 @@
 -- Laws and theorems about the definitions. The theorems that others cite: `clock-is-happens-before` (Clocks),
--- `before-committed` (Committed), `exact`, `unique`, `broken-stays`, `named-load-counts` (Exactness), `min-explains`,
--- `max-explains` (Lattice), `exact-same` (Prefixes), `explains-is-replay` (Replay), `accepted-exactly`,
+-- `window-is`, `window-unique`, `window-places`, `observed-has-window` (WindowPlaces), `before-committed` (Committed),
+-- `exact`, `unique`, `broken-stays`, `named-load-counts` (Exactness), `min-explains`, `max-explains` (Lattice),
+-- `exact-same` (Prefixes), `fault-same` (WindowPrefixes), `explains-is-replay` (Replay), `accepted-exactly`,
 -- `turned-away-exactly` (TurnedAway), `ordered-as-demanded` (Queries), `judged-as-demanded` (Demanded), `cut-rest`
 -- (CutPlaces), `broken-as-trace`, `robust-before-load` (TakenAsTrace), `accepted-encoded` (AcceptedBytes),
 -- `flushes-move-no-verdict` (FlushNeutral), `refusals-14-and-15` (BufferSizes), `cases-1-to-11` (Cases),
--- `errors-of-the-trade` (CasesOfTrade), `refusals-1-to-5` (NoTrace) and `random-sessions` (RandomSessions).
+-- `errors-of-the-trade` (CasesOfTrade), `windows-as-worked` (CasesOfWindows), `refusals-1-to-5` (NoTrace) and
+-- `random-sessions` (RandomSessions).
 pub mod Searching
 pub mod Induction
 pub mod Tabulating
@@ -13,6 +15,7 @@ pub mod Roles
 pub mod Ordering
 pub mod ClockSteps
 pub mod Clocks
+pub mod WindowPlaces
 pub mod Acceptance
 pub mod Limits
 pub mod StorePlaces
@@ -30,6 +33,7 @@ pub mod ChainOrder
 pub mod Lattice
 pub mod Agreement
 pub mod Prefixes
+pub mod WindowPrefixes
 pub mod Replay
 pub mod Numberings
 pub mod EmbeddedTrace
@@ -38,6 +42,7 @@ pub mod EmbeddedRules
 pub mod EmbeddedLoads
 pub mod EmbeddedChoices
 pub mod EmbeddedRuling
+pub mod EmbeddedWindows
 pub mod Taking
 pub mod Removing
 pub mod TurnedAway
@@ -53,5 +58,6 @@ pub mod Sessions
 pub mod BufferSizes
 pub mod Cases
 pub mod CasesOfTrade
+pub mod CasesOfWindows
 pub mod NoTrace
 pub mod RandomSessions

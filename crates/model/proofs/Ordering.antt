@@ -1,12 +1,13 @@
 -- Happens-before is a strict order on the stores of a stretch: `Precedes` and `Before` lead from a store to a later
 -- event of its stretch. The clauses `own` and `read` ask for that, and it carries over along chains.
--- In order: the laws of `Precedes`; those of `Before`, which follow.
-use Prim.Native.Nat.{ℕ, _<_}
+-- In order: the laws of `Precedes`; those of `Before` and `AtOrBefore`, which follow.
+use Prim.Native.Nat.{ℕ, _≤_, _<_}
 use native.Mathlib.Omega.{arith}
-use mathlib.Core.Path.{_≡_, _∙_}
+use mathlib.Core.Path.{_≡_, _∙_, ap}
+use mathlib.Core.Logic.{inl, inr}
 use Rattle.record.specs.declared.events.Event.{Event}
 use Rattle.model.specs.Trace.{Issue, stretch}
-use Rattle.model.specs.HappensBefore.{Precedes, Before, own, read, chain}
+use Rattle.model.specs.HappensBefore.{Precedes, Before, AtOrBefore, own, read, chain}
 
 module _ (ev : ℕ → Event) where
   -- ---- Precedes
@@ -46,3 +47,18 @@ module _ (ev : ℕ → Event) where
   pub before-trans : {p q r : ℕ} → Before ev p q → Before ev q r → Before ev p r
   before-trans first second =
       record { store = second .store; precedes = chain (first .store) (first .precedes) (second .precedes) }
+
+  -- ---- AtOrBefore
+
+  pub same-stretch : (p q : ℕ) → AtOrBefore ev p q → stretch ev p ≡ stretch ev q
+  same-stretch p q (inl same) = ap (λ (e : ℕ). stretch ev e) same
+  same-stretch p q (inr before) = before-stretch before
+
+  pub at-or-before-le : (p q : ℕ) → AtOrBefore ev p q → p ≤ q
+  at-or-before-le p q (inl same) = omega arith
+  at-or-before-le p q (inr before) = omega (arith, before-lt before)
+
+  -- what happens before p happens before what is p or happens after it
+  pub before-at-or-before : {o p q : ℕ} → Before ev o p → AtOrBefore ev p q → Before ev o q
+  before-at-or-before earlier (inl same) = rw same at earlier
+  before-at-or-before earlier (inr before) = before-trans earlier before

@@ -10,18 +10,17 @@ use mathlib.Core.Logic.{_⊎_, inl, inr}
 use lib.Dec.{eqb, ltb}
 use borrow.Author.Tests.{eqb-true, eq-eqb, ltb-true, lt-ltb}
 use Rattle.record.specs.declared.events.Event.{Event}
-use Rattle.model.specs.Trace.{thread, location, source, issue?, stretch, place}
+use Rattle.model.specs.Trace.{location, source, issue?, stretch}
 use Rattle.model.specs.Search.{any}
 use Rattle.model.specs.Machine.{counting, commitOf}
 use Rattle.model.specs.Rules.{Accepted}
 use Rattle.model.specs.Choice.{Newer, Forbids, Observed, Forbidden, Pair}
-use Rattle.model.specs.Clocks.{vc}
 use Rattle.model.specs.Verdict.{newer?, forbids?, forbidden?, observed?, pair?, missing?, bad?}
 use Rattle.model.proofs.Searching.{both, parts, or-cases, or-left, or-right, some→, →some, any→, →any}
 use Rattle.model.proofs.Counting.{earlier-stretch}
-use Rattle.model.proofs.Clocks.{clock-is-happens-before}
+use Rattle.model.proofs.Clocks.{covers-exactly}
 use Rattle.model.proofs.CountedLoads.{counted-early}
-use Rattle.model.proofs.Closure.{same-stretch, observed→, →observed, observed-is-committed}
+use Rattle.model.proofs.Closure.{observed→, →observed, observed-is-committed}
 
 module _ (ev : ℕ → Event) where
   -- ---- forbidden stores, as a test
@@ -97,35 +96,23 @@ module _ (ev : ℕ → Event) where
     pub pair→ : (p q : ℕ) → pair? ev N p q ≡ true → Pair ev N p q
     unfolding pair?
     pair→ p q passes =
-        let both-there = forbidden? ev N p && observed? ev N q in
-        let with-clock = parts (both-there && eqb (stretch ev p) (stretch ev q)) _ passes in
-        let with-stretch = parts both-there _ (with-clock .0) in
-        let there = parts (forbidden? ev N p) _ (with-stretch .0) in
+        let (both-there, covered) = parts (forbidden? ev N p && observed? ev N q) _ passes in
+        let there = parts (forbidden? ev N p) _ both-there in
         let missing : Forbidden ev N p = forbidden→ N p (there .0) in
         let observed : Observed ev N q = observed→ ev N q (there .1) in
         let settled = observed-is-committed ev N accepted q observed in
         record {
           missing = missing;
           observed = observed;
-          order =
-              clock-is-happens-before ev q p (settled .store) (missing .2 .store) (eqb-true _ _ (with-stretch .1))
-              .0 (ltb-true _ _ (with-clock .1));
+          order = covers-exactly ev p q (missing .2 .store) (settled .store) .0 covered;
         }
 
     pub →pair : (p q : ℕ) → Pair ev N p q → pair? ev N p q ≡ true
     unfolding pair?
-    →pair p q pair = both _ _ (both _ _ there (eq-eqb _ _ in-stretch)) (lt-ltb _ _ in-clock)
-      where
-        there : (forbidden? ev N p && observed? ev N q) ≡ true
-        there = both _ _ (→forbidden N p (pair .missing)) (→observed ev N q (pair .observed))
-
-        in-stretch : stretch ev p ≡ stretch ev q
-        in-stretch = same-stretch ev p q (pair .order)
-
-        in-clock : place ev p < vc ev q (thread ev p)
-        in-clock =
-            clock-is-happens-before ev q p (observed-is-committed ev N accepted q (pair .observed) .store)
-            (pair .missing .2 .store) in-stretch .1 (pair .order)
+    →pair p q pair =
+        let settled = observed-is-committed ev N accepted q (pair .observed) in
+        both _ _ (both _ _ (→forbidden N p (pair .missing)) (→observed ev N q (pair .observed)))
+        (covers-exactly ev p q (pair .missing .2 .store) (settled .store) .1 (pair .order))
 
     pub →missing : (p q : ℕ) → Pair ev N p q → missing? ev N p ≡ true
     unfolding missing?

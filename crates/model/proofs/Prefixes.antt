@@ -13,17 +13,15 @@ use borrow.Author.Tests.{le-ltb}
 use Rattle.record.specs.declared.events.Event.{Event}
 use Rattle.model.specs.Trace.{thread, source, stretch}
 use Rattle.model.specs.Machine.{commitOf}
-use Rattle.model.specs.HappensBefore.{AtOrBefore}
 use Rattle.model.specs.Choice.{Choice, Ruling, robust, broken, In, finished, Counted, Observes, Newer, Forbids}
 use Rattle.model.specs.Choice.{ExplainsLoad, Explains, Robust, Least, Pair, Broken, Exact}
 use Rattle.model.proofs.Searching.{less?}
 use Rattle.model.proofs.Counting.{earlier-stretch}
-use Rattle.model.proofs.Ordering.{before-lt}
+use Rattle.model.proofs.Ordering.{before-lt, same-stretch}
 use Rattle.model.proofs.CountedLoads.{counted-early}
-use Rattle.model.proofs.Closure.{same-stretch}
 use Rattle.model.proofs.Agreement.{Agree, reversed, fewer, thread-same, location-same, source-same}
 use Rattle.model.proofs.Agreement.{stretch-same, stretches-same, commits-same, place-same, commitOf-same}
-use Rattle.model.proofs.Agreement.{counting-same, issue-same, before-same}
+use Rattle.model.proofs.Agreement.{counting-same, issue-same, before-same, at-or-before-same}
 
 -- ---- stores that are in
 
@@ -157,12 +155,8 @@ module _ {N : ℕ} {ev other : ℕ → Event} (agree : Agree N ev other) where
       record {
         missing = (l, counted-same agree l-counts, forbids-same agree l-inside forbids);
         observed = (k, counted-same agree k-counts, observes-same agree k-inside observes);
-        order = by-order (omega arith) (pair .order);
+        order = at-or-before-same agree (omega arith) (pair .order);
       }
-    where
-      by-order : q < N → AtOrBefore ev p q → AtOrBefore other p q
-      by-order inside (inl same) = inl same
-      by-order inside (inr before) = inr (before-same agree inside before)
 
 module _ {N : ℕ} {ev other : ℕ → Event} (agree : Agree N ev other) where
   broken-same :

@@ -7,19 +7,19 @@ use mathlib.Core.Bool.{true, false, _&&_, not}
 use mathlib.Core.Logic.{_⊎_, inl, inr, _≢_, _↔_}
 use mathlib.Core.List.{List}
 use lib.Dec.{eqb, ltb}
-use borrow.Author.Tests.{eqb-true, eqb-false, eq-eqb, ne-eqb, ltb-true, lt-ltb, le-ltb, not-true}
+use borrow.Author.Tests.{eqb-true, eqb-false, ne-eqb, le-ltb, not-true}
 use Rattle.record.specs.declared.events.Event.{Event}
 use Rattle.record.specs.Tests.{_gives_else_}
-use Rattle.model.specs.Trace.{thread, Issue, stretch, place}
-use Rattle.model.specs.HappensBefore.{Before}
-use Rattle.model.specs.Clocks.{vc}
+use Rattle.model.specs.Trace.{Issue}
+use Rattle.model.specs.HappensBefore.{Before, AtOrBefore}
+use Rattle.model.specs.Clocks.{covers?}
 use Rattle.model.specs.Answers.{refused, before, after, same, neither}
 use Rattle.model.specs.Reading.{events, AcceptedWith, TurnedAwayWith}
 use Rattle.model.specs.Judge.{before?, store?, standing, orderOf}
 use Rattle.model.specs.Demand.{Stands}
 use Rattle.model.proofs.Searching.{false-true, test, both, parts}
-use Rattle.model.proofs.Ordering.{before-lt, before-stretch}
-use Rattle.model.proofs.Clocks.{clock-is-happens-before}
+use Rattle.model.proofs.Ordering.{before-lt}
+use Rattle.model.proofs.Clocks.{covers-exactly}
 use Rattle.model.proofs.TurnedAway.{accepted-exactly, turned-away-exactly}
 
 module _ (ev : ℕ → Event) where
@@ -27,29 +27,20 @@ module _ (ev : ℕ → Event) where
   before-exactly p q p-store q-store = (to, from)
     where
       to : before? ev p q ≡ true → Before ev p q
-      to passes = by-clock (clock-is-happens-before ev q p q-store p-store in-stretch .0 (ltb-true _ _ (three .1)))
+      to passes = by-order (covers-exactly ev p q p-store q-store .0 (two .1))
         where
-          three : ((not (eqb p q) && eqb (stretch ev p) (stretch ev q)) ≡ true)
-              × (ltb (place ev p) (vc ev q (thread ev p)) ≡ true)
-          three = parts (not (eqb p q) && eqb (stretch ev p) (stretch ev q)) _ passes
+          two : (not (eqb p q) ≡ true) × (covers? ev p q ≡ true)
+          two = parts (not (eqb p q)) _ passes
 
-          two : (not (eqb p q) ≡ true) × (eqb (stretch ev p) (stretch ev q) ≡ true)
-          two = parts (not (eqb p q)) _ (three .0)
-
-          in-stretch : stretch ev p ≡ stretch ev q
-          in-stretch = eqb-true _ _ (two .1)
-
-          by-clock : (p ≡ q) ⊎ Before ev p q → Before ev p q
-          by-clock (inl is) = absurd (eqb-false p q (not-true _ (two .0)) is)
-          by-clock (inr earlier) = earlier
+          by-order : AtOrBefore ev p q → Before ev p q
+          by-order (inl is) = absurd (eqb-false p q (not-true _ (two .0)) is)
+          by-order (inr earlier) = earlier
 
       from : Before ev p q → before? ev p q ≡ true
       from earlier =
-          let in-stretch = before-stretch ev earlier in
           let differs : p ≢ q = λ is. omega (arith, before-lt ev earlier) in
           let not-same : not (eqb p q) ≡ true = rw (ne-eqb p q differs) in
-          both _ _ (both _ _ not-same (eq-eqb _ _ in-stretch))
-          (lt-ltb _ _ (clock-is-happens-before ev q p q-store p-store in-stretch .1 (inr earlier)))
+          both _ _ not-same (covers-exactly ev p q p-store q-store .1 (inr earlier))
 
   pub standing-exact :
       (N p q : ℕ) → store? ev N p ≡ true → store? ev N q ≡ true → Stands ev p q (standing ev N p q)

@@ -1,7 +1,7 @@
 -- Records that play no role, taken out of a trace's bytes: the bytes of those that stay are accepted, and the verdict
 -- on the whole trace is that on them, apart from event numbers. For accepted bytes are their events, encoded
 -- (proofs/AcceptedBytes.antt); and the computed ruling is exact, a trace has one exact ruling, which Removing carries
--- over.
+-- over, with the fault of the stores that it names.
 -- In order: fields; the ruling and the share; the answer to a list of events; bytes.
 use Prim.Native.Nat.{ℕ, _+_, _-_, _≤_, _<_}
 use native.Mathlib.Omega.{arith}
@@ -18,7 +18,7 @@ use Rattle.record.specs.Tests.{_gives_else_}
 use Rattle.record.proofs.RoundTrips.{AllBytes}
 use Rattle.model.specs.Trace.{traceOf}
 use Rattle.model.specs.Rules.{Accepted}
-use Rattle.model.specs.Choice.{Choice, Ruling, robust, broken, finished}
+use Rattle.model.specs.Choice.{Choice, Ruling, robust, broken, finished, Exact}
 use Rattle.model.specs.Verdict.{rulingOf}
 use Rattle.model.specs.Answers.{Answer, refused, shareOf}
 use Rattle.model.specs.Reading.{events, firstEvents, encode, AcceptedWith}
@@ -26,13 +26,13 @@ use Rattle.model.specs.Judge.{smallWork, wrongCut, ruledAnswer, ruledCut
 use Rattle.model.specs.Flushes.{carry, shifted, SameVerdict, kept, number, moved, without, taken}
 use Rattle.model.proofs.Tabulating.{tabulate-length}
 use Rattle.model.proofs.Roles.{Quiet}
-use Rattle.model.proofs.Numberings.{number-below, number-eqb, kept-le}
+use Rattle.model.proofs.Numberings.{number-below, kept-le}
 use Rattle.model.proofs.Taking.{event-there, length-kept}
-use Rattle.model.proofs.Exactness.{exact, unique}
+use Rattle.model.proofs.Exactness.{exact, unique, named-missing, named-observed}
 use Rattle.model.proofs.TurnedAway.{accepted-exactly}
 use Rattle.model.proofs.Encoding.{AllTwoByte, same-events, encoded-accepted}
 use Rattle.model.proofs.AcceptedBytes.{accepted-encoded, accepted-two-byte, accepted-list}
-use Rattle.model.proofs.Removing.{numbering, removed-accepted, removed-exact, removed-finished}
+use Rattle.model.proofs.Removing.{numbering, removed-accepted, removed-exact, removed-finished, removed-fault}
 
 -- ---- fields
 
@@ -103,12 +103,16 @@ module _
   more-events = omega (arith, not-longer, removed-accepted es accepted out? quiet .some-record)
 
   ruled-shifted :
-      (v : Ruling)
+      (v : Ruling) → Exact (traceOf short) (length short) v
       → ruledAnswer (traceOf es) (length es) (carry (number out? es) v)
       ≡ shifted (number out? es) (taken out? es) (ruledAnswer (traceOf short) (length short) v)
-  ruled-shifted (robust c) = rw (more-events, removed-share c)
-  ruled-shifted (broken load missing observed) =
-      rw (more-events, number-eqb (numbering es accepted out? quiet) missing observed)
+  ruled-shifted (robust c) least = rw (more-events, removed-share c)
+  ruled-shifted (broken load missing observed) it =
+      let settled = named-observed (traceOf short) (removed-accepted es accepted out? quiet) it in
+      rw (
+        more-events,
+        removed-fault es accepted out? quiet missing observed (named-missing (traceOf short) it) (settled .store),
+      )
 
   ruled-cut-same :
       (cut : List ℕ) (v : Ruling)
@@ -187,7 +191,8 @@ module _
         judged-encoded es whole-small whole-accepted work cut,
         judged-encoded rest rest-small rest-accepted work cut,
         removed-ruling es whole-accepted out? quiet,
-        ruled-shifted es whole-accepted out? quiet (rulingOf (traceOf rest) (length rest)),
+        ruled-shifted es whole-accepted out? quiet (rulingOf (traceOf rest) (length rest))
+            (exact (traceOf rest) (length rest) rest-accepted),
       )
       (shifted-behind (number out? es) (taken out? es) (smallWork work) (wrongCut cut) _)
 

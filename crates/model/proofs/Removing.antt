@@ -1,6 +1,7 @@
 -- Events that play no role, taken out of a list (specs/Flushes.antt): an accepted trace without them is accepted, and a
--- ruling is exact of it exactly if, with its event numbers carried over, it is exact of the whole trace. What stays of
--- the list is a part of it (specs/Embedding.antt): an accepted load's source is a store or event 0, and both stay.
+-- ruling is exact of it exactly if, with its event numbers carried over, it is exact of the whole trace. The fault of
+-- two stores is carried over alike. What stays of the list is a part of it (specs/Embedding.antt): an accepted load's
+-- source is a store or event 0, and both stay.
 -- In order: renumbered events; the embedding; what follows from it.
 use Prim.Native.Nat.{ℕ, _≤_, _<_}
 use mathlib.Core.Path.{_≡_, refl, sym, _∙_, ap}
@@ -14,12 +15,13 @@ use Rattle.record.specs.declared.events.Event.the-variants.{Begin, Issue, Commi
 use Rattle.record.specs.declared.events.Event.the-variants.{Crash, SkipOn, SkipOff}
 use Rattle.record.specs.Events.{kindOf}
 use Rattle.record.specs.Fields.{fieldsOf}
-use Rattle.model.specs.Trace.{traceOf, thread, location, source, issue?, commit?, load?, begin?, skipOn?}
-use Rattle.model.specs.Trace.{skipOff?, crash?, threads, locations}
+use Rattle.model.specs.Trace.{traceOf, source, issue?, commit?, load?, begin?, skipOn?, skipOff?, crash?}
+use Rattle.model.specs.Trace as trace
 use Rattle.model.specs.Machine.{committed}
 use Rattle.model.specs.Rules.{Accepted}
 use Rattle.model.specs.Choice.{Ruling, robust, broken, finished, Exact}
-use Rattle.model.specs.Flushes.{moved, carry, kept, number, without}
+use Rattle.model.specs.Answers.{faultOf}
+use Rattle.model.specs.Flushes.{moved, carry, shiftedFault, kept, number, without}
 use Rattle.model.specs.Embedding.{Numbering, everything, Role, Embedding, Finds, Apart, SameEvent, SameBegin}
 use Rattle.model.specs.Embedding.{Cover, carryBy}
 use Rattle.model.proofs.Searching.{same?, less?, test, false-true, excluded}
@@ -32,6 +34,7 @@ use Rattle.model.proofs.EmbeddedMachine.{committed-at}
 use Rattle.model.proofs.EmbeddedRules.{accepted-part}
 use Rattle.model.proofs.EmbeddedChoices.{finished-kept}
 use Rattle.model.proofs.EmbeddedRuling.{exact-both}
+use Rattle.model.proofs.EmbeddedWindows.{fault-at}
 
 -- ---- renumbered events
 
@@ -275,3 +278,10 @@ module _
       (j t : ℕ)
       → finished (traceOf (without out? es)) (length (without out? es)) j t ≡ finished (traceOf es) (length es) j t
   removed-finished j t = sym (rw length-short at (finished-kept embedding (length es) j t refl))
+
+  -- and two of its stores have the same fault, apart from event numbers
+  pub removed-fault :
+      (p q : ℕ) → trace.Issue (traceOf (without out? es)) p → trace.Issue (traceOf (without out? es)) q
+      → faultOf (traceOf es) (number out? es p) (number out? es q)
+      ≡ shiftedFault (number out? es) (faultOf (traceOf (without out? es)) p q)
+  removed-fault = fault-at embedding (λ e. refl)

@@ -276,6 +276,27 @@ first-is n f h =
     let r = first-from-is 0 n f (w .0) (omega arith) (omega arith) (w .2) in
     record { below = omega (arith, r .below); passes = r .passes; smallest = λ j x. r .smallest j (omega arith) x }
 
+-- where none passes, the search gives n
+first-from-none : (i n : ℕ) (f : ℕ → Bool) → ((k : ℕ) → k < i + n → f k ≡ false) → firstFrom i n f ≡ i + n
+unfolding firstFrom
+first-from-none i zero f none = omega arith
+first-from-none i (suc n) f none =
+    rw (none i (omega arith)) (omega (arith, first-from-none (suc i) n f (λ k below. none k (omega arith))))
+
+-- a number below n that the search gives is the smallest that passes
+pub first-found : (n : ℕ) (f : ℕ → Bool) → first n f < n → First n f (first n f)
+unfolding first
+first-found n f below = by-some (test (some n f))
+  where
+    by-some : (some n f ≡ true) ⊎ (some n f ≡ false) → First n f (first n f)
+    by-some (inl found) = first-is n f found
+    by-some (inr none) =
+        absurd (omega (arith, first-from-none 0 n f (λ k early. fails-below k (omega arith) (test (f k)))))
+      where
+        fails-below : (k : ℕ) → k < n → (f k ≡ true) ⊎ (f k ≡ false) → f k ≡ false
+        fails-below k early (inl passes) = false-true (sym none ∙ →some n f k early passes)
+        fails-below k early (inr fails) = fails
+
 -- ---- last
 
 -- what the largest has, if it is not 0
@@ -305,6 +326,19 @@ last-of (suc n) f p l h largest = by-last (test (f n)) (same? p n) (last-of n f 
     by-last (inl e) w earlier = rw e (omega (arith, largest n (omega arith) e))
     by-last (inr e) (inl w) earlier = false-true (sym e ∙ rw w at h)
     by-last (inr e) (inr w) earlier = rw e (earlier (omega arith) h (λ q z x. largest q (omega arith) x))
+
+-- none that passes is larger
+pub last-largest : (n : ℕ) (f : ℕ → Bool) (p : ℕ) → p < n → f p ≡ true → p ≤ last n f
+unfolding last
+last-largest zero f p below passes = absurd (omega arith)
+last-largest (suc n) f p below passes = by-last (test (f n)) (same? p n) (last-largest n f p)
+  where
+    by-last :
+        (f n ≡ true) ⊎ (f n ≡ false) → (p ≡ n) ⊎ (p ≢ n) → (p < n → f p ≡ true → p ≤ last n f)
+        → p ≤ cond (f n) n (last n f)
+    by-last (inl here) w earlier = rw here (omega arith)
+    by-last (inr fails) (inl is) earlier = false-true (sym fails ∙ rw is at passes)
+    by-last (inr fails) (inr other) earlier = rw fails (earlier (omega arith) passes)
 
 pub last-none : (n : ℕ) (f : ℕ → Bool) → ((q : ℕ) → q < n → f q ≡ false) → last n f ≡ 0
 unfolding last

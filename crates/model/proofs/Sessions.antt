@@ -5,7 +5,7 @@ use Prim.Native.Nat.{ℕ, _<_}
 use mathlib.Core.Path.{_≡_, refl, ap₂}
 use mathlib.Core.Bool.{Bool, true, _&&_}
 use mathlib.Core.List.{List, [], _∷_, map}
-use lib.ListN.{length, replicate}
+use lib.ListN.{length, getD, replicate}
 use lib.Dec.{ltb}
 use borrow.Author.Tests.{ltb-true}
 use Rattle.record.specs.declared.events.Event.{Event}
@@ -13,7 +13,8 @@ use Rattle.record.specs.declared.events.Event.the-variants.{Crash}
 use Rattle.record.specs.Fields.{columns, fieldsOf, TwoByte}
 use Rattle.record.proofs.Computed.{every, every-at, every-each}
 use Rattle.model.specs.Trace.{traceOf}
-use Rattle.model.specs.Answers.{Answer}
+use Rattle.model.specs.Windows.{Places, none}
+use Rattle.model.specs.Answers.{Answer, tabulate}
 use Rattle.model.specs.Reading.{encode}
 use Rattle.model.specs.Judge.{judgeOf, cutAfter}
 use Rattle.model.proofs.Searching.{parts}
@@ -26,6 +27,10 @@ lent = replicate 56 7
 
 abbrev pub zeros : ℕ → List ℕ
 zeros n = replicate n 0
+
+-- the windows of threads 0 to 7: those that are listed, and none for the rest
+abbrev pub padded : List Places → List Places
+padded ws = tabulate 8 (λ t. getD ws t none)
 
 -- what judging a trace's bytes answers, with a work area of 32,768 numbers, and the cut buffer afterwards
 pub record Outcome : Type 0 where

@@ -3,7 +3,7 @@ use Prim.Native.Nat.{ℕ, zero, suc, _+_, _≤_, _<_}
 use native.Mathlib.Numerals.{add-one}
 use native.Mathlib.Omega.{arith}
 use mathlib.Core.Path.{_≡_, refl, _∙_}
-use mathlib.Core.List.{List, [], _∷_, _++_}
+use mathlib.Core.List.{List, [], _∷_, _++_, map, map-append}
 use mathlib.Core.Logic.{_⊎_, inl, inr}
 use lib.ListN.{length, getD, length-append, List·getD-append}
 use lib.Seq.{getD-at}
@@ -38,6 +38,12 @@ unfolding tabulate
 tabulate-same zero f g same = refl
 tabulate-same (suc n) f g same =
     rw (same n (omega arith), tabulate-same n f g (λ i below. same i (omega arith)))
+
+pub tabulate-map :
+    {A B : Type 0} (g : A → B) (n : ℕ) (f : ℕ → A) → map g (tabulate n f) ≡ tabulate n (λ i. g (f i))
+unfolding tabulate
+tabulate-map g zero f = refl
+tabulate-map g (suc n) f = map-append g (tabulate n f) (f n ∷ []) ∙ rw (tabulate-map g n f)
 
 pub tabulate-length : {A : Type 0} (n : ℕ) (f : ℕ → A) → length (tabulate n f) ≡ n
 unfolding tabulate

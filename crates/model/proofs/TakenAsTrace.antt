@@ -27,10 +27,12 @@ use Rattle.model.specs.Answers as answers
 use Rattle.model.specs.Judge.{smallWork, wrongCut, ruledAnswer, readingAnswer, judgeOf}
 use Rattle.model.proofs.Searching.{false-true}
 use Rattle.model.proofs.Roles.{begin-no-load}
+use Rattle.model.proofs.Ordering.{at-or-before-le}
 use Rattle.model.proofs.Acceptance.{prefix, begins, counted-crosses}
-use Rattle.model.proofs.Exactness.{exact, unique, named-load-counts}
+use Rattle.model.proofs.Exactness.{exact, unique, named-load-counts, named-missing, named-observed}
 use Rattle.model.proofs.Agreement.{Agree, refusal-same}
 use Rattle.model.proofs.Prefixes.{exact-same}
+use Rattle.model.proofs.WindowPrefixes.{fault-same}
 use Rattle.model.proofs.TurnedAway.{passing-there, ends-there, passed→, accepted-exactly, accepted-events}
 
 -- ---- records 0 to e of accepted bytes
@@ -95,7 +97,7 @@ module _
     size : wrongCut cut ≡ false
     whole : AcceptedWith bytes N
     ruling : rulingOf (events bytes) N ≡ broken load missing observed
-    kind-is : kind ≡ faultOf missing observed
+    kind-is : kind ≡ faultOf (events bytes) missing observed
 
   apart : Told
   unfolding judgeOf
@@ -143,8 +145,17 @@ module _
   broken-as-trace =
       first-answer bytes (apart .N) (apart .whole) load (is-broken .inside) (broken load missing observed) up-to-load
       work cut (apart .room) (apart .size)
-      ∙ rw (apart .kind-is, last-event)
+      ∙ rw (apart .kind-is, last-event, same-fault)
     where
+      -- observed is a store of those records, and missing comes no later
+      same-fault : faultOf (events bytes) missing observed ≡ faultOf (events (recordsTo bytes load)) missing observed
+      same-fault =
+          let settled = named-observed (events bytes) trace is-broken in
+          let order = at-or-before-le (events bytes) missing observed (is-broken .pair .order) in
+          fault-same (first-agree bytes (apart .N) (apart .whole) load (is-broken .inside))
+          (prefix (events bytes) (apart .N) (suc load) trace (omega arith) (is-broken .inside)) missing observed
+          (omega (arith, settled .early)) (settled .early) (named-missing (events bytes) is-broken) (settled .store)
+
       last-event : suc load - 1 ≡ load
       last-event = omega arith
 

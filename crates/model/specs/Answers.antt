@@ -2,9 +2,14 @@
 -- the code the answer that each of its cases is.
 use Prim.Native.Nat.{ℕ, zero, suc, _+_, _*_, _/_, _%_}
 use mathlib.Core.List.{List, [], _∷_, _++_}
-use mathlib.Core.Bool.{cond}
+use mathlib.Core.Bool.{cond, _&&_}
 use lib.Dec.{eqb}
+use Rattle.record.specs.declared.events.Event.{Event}
+use Rattle.model.specs.Trace.{thread}
 use Rattle.model.specs.Choice.{Choice}
+use Rattle.model.specs.Windows.{Places, none, between, windowOf}
+use Rattle.model.specs.declared.Window.{Window}
+use Rattle.model.specs.declared.Windows.{Windows}
 use Rattle.model.specs.declared.Kind.{Kind}
 use Rattle.model.specs.declared.Kind.the-variants.{Contradiction, Flush}
 use Rattle.model.specs.declared.Verdict.{Verdict}
@@ -40,13 +45,17 @@ shareOf least all = percent (sum (cutOf least)) (sum (cutOf all))
 
 -- ---- judging
 
--- "Kind is "contradiction" if they are equal, else "flush"."
+-- "Kind is "contradiction" if they are equal, else "flush"." A flush fault has a primary thread and the windows of
+-- threads 0 to 7. Document 02, job 1: "Contradictions have none."
 pub data Fault : Type 0 where
   contradiction : Fault
-  flush : Fault
+  flush : ℕ → List Places → Fault
 
-abbrev pub faultOf : ℕ → ℕ → Fault
-faultOf missing observed = cond (eqb missing observed) contradiction flush
+-- "p's thread is marked primary"
+unfoldable pub faultOf : (ℕ → Event) → ℕ → ℕ → Fault
+faultOf ev missing observed =
+    cond (eqb missing observed) contradiction
+    (flush (thread ev missing) (tabulate 8 (windowOf ev missing observed)))
 
 pub data Answer : Type 0 where
   -- "Each refusal carries its event number; 14, 15, 16 and 17 carry 0."
@@ -56,9 +65,19 @@ pub data Answer : Type 0 where
   -- events after begin, load, missing, observed, kind
   broken : ℕ → ℕ → ℕ → ℕ → Fault → Answer
 
+-- 0 and 0 are no window
+abbrev pub windowAnswer : Window → Places
+windowAnswer w = cond (eqb (w .first) 0 && eqb (w .last) 0) none (between (w .first) (w .last))
+
+abbrev pub windowsAnswer : Windows → List Places
+windowsAnswer w =
+    windowAnswer (w .thread0) ∷ windowAnswer (w .thread1) ∷ windowAnswer (w .thread2) ∷ windowAnswer (w .thread3)
+    ∷ windowAnswer (w .thread4) ∷ windowAnswer (w .thread5) ∷ windowAnswer (w .thread6) ∷ windowAnswer (w .thread7)
+    ∷ []
+
 abbrev pub kindAnswer : Kind → Fault
 kindAnswer Contradiction = contradiction
-kindAnswer Flush = flush
+kindAnswer (Flush w) = flush (w .primary) (windowsAnswer w)
 
 abbrev pub verdictAnswer : Verdict → Answer
 verdictAnswer (Refused number event) = refused number event

@@ -45,3 +45,7 @@ module _ (ev : ℕ → Event) where
   -- the vector clock of store q
   unfoldable pub vc : ℕ → ℕ → ℕ
   vc q u = clock (suc q) q u
+
+  -- store p is store q or happens before it, by q's clock
+  abbrev pub covers? : ℕ → ℕ → Bool
+  covers? p q = eqb (stretch ev p) (stretch ev q) && ltb (place ev p) (vc q (thread ev p))

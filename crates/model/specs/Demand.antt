@@ -1,13 +1,34 @@
 -- Demand 3 as a relation over all choices: what the judge's answer to an accepted trace, and the cut buffer afterwards,
 -- claim. "the verdict is broken exactly when no choice of crash points explains the loads, and robust otherwise."
-use Prim.Native.Nat.{ℕ, _-_}
+use Prim.Native.Nat.{ℕ, _-_, _<_}
 use mathlib.Core.Path.{_≡_}
 use mathlib.Core.Logic.{_≢_}
 use mathlib.Core.List.{List}
+use lib.ListN.{length, getD}
 use Rattle.record.specs.declared.events.Event.{Event}
+use Rattle.model.specs.Trace.{thread}
 use Rattle.model.specs.HappensBefore.{Before}
 use Rattle.model.specs.Choice.{Choice, finished, Least, Broken}
+use Rattle.model.specs.Windows.{Places, none, between, WindowIs}
 use Rattle.model.specs.Answers as answers
+
+-- what a broken answer's kind, with missing p and observed q, claims: document 02, job 1
+module _ (ev : ℕ → Event) (p q : ℕ) where
+  -- of a flush fault
+  pub record FlushClaims (primary : ℕ) (windows : List Places) : Type 0 where
+    pub differ : p ≢ q
+    -- "p's thread is marked primary"
+    pub primary-is : primary ≡ thread ev p
+    -- "Each thread gets its window, or none"
+    pub threads-0-to-7 : length windows ≡ 8
+    pub each : (t : ℕ) → t < 8 → WindowIs ev p q t (getD windows t none)
+    -- "The thread of q must always have one."
+    pub observed-has : (from to : ℕ) × (getD windows (thread ev q) none ≡ between from to)
+
+  abbrev pub FaultClaims : answers.Fault → Type 0
+  -- "Contradictions have none."
+  FaultClaims answers.contradiction = p ≡ q
+  FaultClaims (answers.flush primary windows) = FlushClaims primary windows
 
 module _ (ev : ℕ → Event) (N : ℕ) (lent after : List ℕ) where
   abbrev pub Claims : answers.Answer → Type 0
@@ -21,7 +42,7 @@ module _ (ev : ℕ → Event) (N : ℕ) (lent after : List ℕ) where
   -- an observed store which is that store or happens after it"
   Claims (answers.broken events load missing observed kind) =
       Broken ev N load missing observed × (after ≡ lent)
-      × (events ≡ N - 1) × (kind ≡ answers.faultOf missing observed)
+      × (events ≡ N - 1) × FaultClaims ev missing observed kind
 
 -- what the order query's answer about the stores p and q claims, by happens-before itself
 abbrev pub Stands : (ℕ → Event) → ℕ → ℕ → answers.Standing → Type 0

@@ -5,7 +5,7 @@
 use Prim.Native.Nat.{ℕ, zero, suc, _+_, _-_}
 use mathlib.Core.Path.{_≡_}
 use mathlib.Core.Bool.{Bool, true, cond, _||_}
-use mathlib.Core.List.{List, [], _∷_}
+use mathlib.Core.List.{List, [], _∷_, map}
 use lib.ListN.{length}
 use lib.Dec.{eqb}
 use Rattle.record.specs.declared.events.Event.{Event}
@@ -14,6 +14,7 @@ use Rattle.record.specs.Events.{kindOf}
 use Rattle.record.specs.Fields.{fieldsOf}
 use Rattle.model.specs.Trace.{traceOf}
 use Rattle.model.specs.Choice.{Ruling, robust, broken}
+use Rattle.model.specs.Windows.{Places, none, between}
 use Rattle.model.specs.Answers as answers
 use Rattle.model.specs.Judge.{judgeOf, cutAfter}
 
@@ -25,13 +26,24 @@ abbrev pub carry : (ℕ → ℕ) → Ruling → Ruling
 carry f (robust c) = robust c
 carry f (broken load missing observed) = broken (f load) (f missing) (f observed)
 
--- from the answer to the trace without the records to that to the whole trace, which has n records more: the share and
--- the kind stay, and so does a refusal, which an accepted trace only gets for its buffers
+-- a thread's window: its last place is an event; its first place is one behind an event, the missing store or the load
+-- that brings it to the thread, and so it is in the whole trace
+abbrev pub shiftedPlaces : (ℕ → ℕ) → Places → Places
+shiftedPlaces f none = none
+shiftedPlaces f (between first last) = between (suc (f (first - 1))) (f last)
+
+-- a broken answer's kind: it stays, and so does the primary thread; the windows are shifted
+abbrev pub shiftedFault : (ℕ → ℕ) → answers.Fault → answers.Fault
+shiftedFault f answers.contradiction = answers.contradiction
+shiftedFault f (answers.flush primary windows) = answers.flush primary (map (shiftedPlaces f) windows)
+
+-- from the answer to the trace without the records to that to the whole trace, which has n records more: the share
+-- stays, and so does a refusal, which an accepted trace only gets for its buffers
 abbrev pub shifted : (ℕ → ℕ) → ℕ → answers.Answer → answers.Answer
 shifted f n (answers.refused k e) = answers.refused k e
 shifted f n (answers.robust events share) = answers.robust (events + n) share
 shifted f n (answers.broken events load missing observed kind) =
-    answers.broken (events + n) (f load) (f missing) (f observed) kind
+    answers.broken (events + n) (f load) (f missing) (f observed) (shiftedFault f kind)
 
 -- the verdict on the bytes `whole` is that on the bytes `short`, apart from event numbers, whatever buffers are lent:
 -- event e of the short trace is event f e of the whole one, which has n records more

@@ -7,9 +7,9 @@ use lib.ListN.{length, drop, replicate}
 use lib.Dec.{eqb, ltb}
 use Rattle.record.specs.declared.events.Event.{Event}
 use Rattle.record.specs.Tests.{_gives_else_}
-use Rattle.model.specs.Trace.{thread, issue?, stretch, place}
+use Rattle.model.specs.Trace.{issue?}
 use Rattle.model.specs.Choice.{Ruling, robust, broken, finished}
-use Rattle.model.specs.Clocks.{vc}
+use Rattle.model.specs.Clocks.{covers?}
 use Rattle.model.specs.Verdict.{rulingOf}
 use Rattle.model.specs.Reading.{events, Reading, accepted, turnedAway, readingOf}
 use Rattle.model.specs.Answers.{cutOf, shareOf, faultOf}
@@ -34,7 +34,7 @@ module _ (ev : ℕ → Event) (N : ℕ) where
   abbrev pub ruledAnswer : Ruling → answers.Answer
   ruledAnswer (robust c) = answers.robust (N - 1) (shareOf c (finished ev N))
   ruledAnswer (broken load missing observed) =
-      answers.broken (N - 1) load missing observed (faultOf missing observed)
+      answers.broken (N - 1) load missing observed (faultOf ev missing observed)
 
   -- "The least [..] goes to the cut buffer"; broken: "The cut buffer is untouched."
   abbrev pub ruledCut : List ℕ → Ruling → List ℕ
@@ -73,7 +73,7 @@ workAfter work cut = (smallWork (length work) || wrongCut cut) gives work else c
 
 -- store p happens before store q, by q's clock
 abbrev pub before? : (ℕ → Event) → ℕ → ℕ → Bool
-before? ev p q = not (eqb p q) && eqb (stretch ev p) (stretch ev q) && ltb (place ev p) (vc ev q (thread ev p))
+before? ev p q = not (eqb p q) && covers? ev p q
 
 module _ (ev : ℕ → Event) (N : ℕ) where
   -- a query number names a store of the trace

@@ -1,18 +1,22 @@
--- What a reader has to believe of this crate, in document 01's order:
+-- What a reader has to believe of this crate, in the papers' order:
 --   Search         `bit`, `any` and `member` (what counts as of an event), `last`
 --   Trace, Machine, Rules, HappensBefore, Choice
 --   Reading        `eventIn`, `refusalIn`, `events`, `Found`, `endsAt`, `recordAt`, `AcceptedWith`, `TurnedAwayWith`
---   Answers
+--   Windows        but for what computes
+--   Answers        but for `faultOf`
 --   Judge          the buffers: `smallWork`, `wrongCut`, `cleared`, `workAfter`, `orderWorkAfter`; of `judgeOf`,
 --                  `cutAfter` and `orderOf` that 14 and 15 come first; of `readingStanding` that the trace's refusal is
 --                  next; of `store?` and `standing` that then comes 16
 --   Demand
--- and, for theorems that no contract cites, Memory, Flushes, and of Reading `firstEvents` and `encode`.
+-- and, for theorems that no contract cites, Memory, Flushes, of Reading `firstEvents` and `encode`, and of Windows
+-- `PlaceIn`, `Has` and `Reaches`.
 --
 -- What only computes, and the theorem that says what:
 --   Search         `some`, `firstFrom`, `first`, `most`: proofs/Searching.antt
---   Clocks         happens-before: `clock-is-happens-before`
+--   Clocks         happens-before: `clock-is-happens-before`, `covers-exactly`
 --   Verdict        `rulingOf` and all that it is made of: `exact`
+--   Windows        `brings?`, `behind`, `lastCovered`, `windowOf`: `window-is`
+--   Answers        `faultOf`: `fault-is`
 --   Reading        `passing?`, `stop`, `Reading`, `readingAt`, `readingOf`: `accepted-exactly`, `turned-away-exactly`
 --   Judge          `ruledAnswer`, `ruledCut`, `readingAnswer`, `readingCut`, the rest of `judgeOf` and `cutAfter`:
 --                  `judged-as-demanded`, `refused-as-demanded`; `before?`, the rest of `orderOf` and `standing`:
@@ -28,6 +32,7 @@ pub mod Choice
 pub mod Memory
 pub mod Flushes
 pub mod Reading
+pub mod Windows
 pub mod Answers
 pub mod Demand
 pub mod Clocks

@@ -6,10 +6,10 @@ use mathlib.Core.Bool.{Bool, cond, _&&_, _||_, not}
 use lib.Dec.{eqb, ltb}
 use Rattle.record.specs.declared.events.Event.{Event}
 use Rattle.model.specs.Search.{some, any, most, first}
-use Rattle.model.specs.Trace.{thread, location, source, issue?, stretch, place}
+use Rattle.model.specs.Trace.{location, source, issue?, stretch}
 use Rattle.model.specs.Machine.{counting, commitOf}
 use Rattle.model.specs.Choice.{Choice, Ruling, robust, broken}
-use Rattle.model.specs.Clocks.{vc}
+use Rattle.model.specs.Clocks.{vc, covers?}
 
 module _ (ev : ℕ → Event) where
   -- ---- forbidden and observed stores
@@ -43,8 +43,7 @@ module _ (ev : ℕ → Event) where
   -- `Pair`: p is forbidden, q is observed, and q's clock covers p: they are equal or p happens before q
   unfoldable pub pair? : ℕ → ℕ → ℕ → Bool
   pair? N p q =
-      forbidden? N p && observed? N q && eqb (stretch ev p) (stretch ev q)
-      && ltb (place ev p) (vc ev q (thread ev p))
+      forbidden? N p && observed? N q && covers? ev p q
 
   -- p is the missing store of some pair of the first N events
   unfoldable pub missing? : ℕ → ℕ → Bool
