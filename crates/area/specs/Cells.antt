@@ -2,10 +2,10 @@
 -- total. Every number has a row, so `getRow` and `putRow` stay among the first 32,768 numbers (`start-inside` of
 -- proofs/ReadBack.antt); `noStore` and `joined` store where they are told, wherever that is.
 use Prim.Native.Nat.{ℕ, zero, suc, _+_, _*_, _/_, _%_, max}
-use mathlib.Core.Bool.{cond}
+use mathlib.Core.Bool.{Bool, cond, _&&_}
 use mathlib.Core.List.{List}
 use lib.ListN.{getD, set}
-use lib.Dec.{ltb}
+use lib.Dec.{eqb, leb, ltb}
 use Rattle.model.specs.Answers.{tabulate, sum}
 
 -- where row e begins; 0, which is no store's number, goes round to the last row
@@ -19,6 +19,13 @@ getRow l e k = getD l (rowStart e + k % 16) 0
 -- l with v there
 unfoldable pub putRow : List ℕ → ℕ → ℕ → ℕ → List ℕ
 putRow l e k v = set l (rowStart e + k % 16) v
+
+-- store p is store q or happens before it: they are of the same stretch, and q's clock for p's thread is not below p's
+-- own
+abbrev pub coversW : List ℕ → ℕ → ℕ → Bool
+coversW l p q =
+    let t = getRow l p 8 in
+    eqb (getRow l p 10) (getRow l q 10) && leb (getRow l p t) (getRow l q t)
 
 -- the number of the event whose row begins there
 abbrev pub eventAt : ℕ → ℕ

@@ -6,7 +6,8 @@
 ghost use mathlib.Core.Path.{_≡_};
 ghost use Prim.Native.Nat.{_+_, _*_, _≤_};
 ghost use lib.ListN.{getD, set, length, replicate};
-ghost use Rattle.area.specs.Cells.{rowStart, getRow, putRow, eventAt, noStore, total, joined};
+ghost use Rattle.area.specs.Cells.{rowStart, getRow, putRow, coversW, eventAt, noStore};
+ghost use Rattle.area.specs.Cells.{total, joined};
 
 pub mod numbers;
 
@@ -73,6 +74,18 @@ pub fn row_put(work: &mut [u16], e: u16, k: u16, v: u16)
     ensures { λ _. ⌜ now (work .exit) ≡ putRow (now (work .entry)) e k v ⌝ }
 {
     put(work, row_of(e) + ((k % 16) as usize), v);
+}
+
+// Store p is store q or happens before it: they are of the same stretch, and q's clock for p's thread is not below p's
+// own.
+pub fn covers(work: &[u16], p: u16, q: u16) -> bool
+    ensures { λ r. ⌜ r ≡ coversW (now (work .entry)) p q ⌝ }
+{
+    if row_get(work, p, 10) != row_get(work, q, 10) {
+        return false;
+    }
+    let t = row_get(work, p, 8);
+    row_get(work, p, t) <= row_get(work, q, t)
 }
 
 // The number of the event whose row begins there; 2,049 behind the last row.

@@ -1,46 +1,37 @@
 -- The order query under `Sim`: a row says whether an event is a store (`store-is`), and the answer for two stores is
--- the definitions' (`order-is`), for a store's clock of its own thread is one more than its place.
+-- the definitions' (`order-is`), for the rows' test of two stores is the clocks'.
 use mathlib.Core.Path.{_≡_, refl}
 use mathlib.Core.Bool.{Bool, true, false, _&&_, not}
 use mathlib.Core.Logic.{_⊎_, inl, inr, _≢_}
 use Prim.Native.Nat.{ℕ, _-_, _≤_, _<_}
 use native.Mathlib.Omega.{arith}
 use borrow.Author.Tests.{eq-eqb, ne-eqb, lt-ltb, le-ltb, ltb-true}
-use lib.Dec.{eqb, ltb, leb}
+use lib.Dec.{eqb, ltb}
 use Rattle.record.specs.declared.events.Event.{Event}
 use Rattle.record.specs.Tests.{_gives_else_}
 use Rattle.model.specs.declared.Order.the-variants.{Before, After, Same, Neither}
-use Rattle.model.specs.Trace.{thread, issue?, Issue, stretch, place}
-use Rattle.model.specs.Clocks.{vc}
+use Rattle.model.specs.Trace.{issue?, Issue, stretch}
+use Rattle.model.specs.Clocks.{covers?}
 use Rattle.model.specs.Answers.{before, after, same, neither, orderAnswer}
 use Rattle.model.specs.Judge.{store?, standing}
 use Rattle.model.proofs.Searching.{same?, less?, both, parts, second-fails, eqb-turned}
 use Rattle.model.proofs.Roles.{issue-or-not}
-use Rattle.model.proofs.ClockSteps.{vc-own}
 use Rattle.model.proofs.Acceptance.{store-not-0}
-use Rattle.model.proofs.Ranges.{issue-has-thread, thread-bound}
 use Rattle.model.proofs.StorePlaces.{stretch-some}
-use Rattle.area.specs.Cells.{getRow}
+use Rattle.area.proofs.Covering.{covers-is}
 use Rattle.machine.specs.Twin.{World}
 use Rattle.machine.specs.Orders.{storeW, orderW}
 use Rattle.machine.specs.Sim.{Sim}
-use Rattle.machine.proofs.Searches.{leb-suc}
 
 -- the machine's tests and the definitions', in their orders
 standing-by-tests :
-    (equal one-stretch earlier later : Bool)
-    → orderAnswer
-    (equal gives Same else
-    (one-stretch gives (earlier gives Before else later gives After else Neither) else Neither))
-    ≡ (equal gives same else
-    (not equal && one-stretch && earlier) gives before else
-    (not equal && one-stretch && later) gives after else
-    neither)
-standing-by-tests true one-stretch earlier later = refl
-standing-by-tests false true true later = refl
-standing-by-tests false true false true = refl
-standing-by-tests false true false false = refl
-standing-by-tests false false earlier later = refl
+    (equal earlier later : Bool)
+    → orderAnswer (equal gives Same else earlier gives Before else later gives After else Neither)
+    ≡ (equal gives same else (not equal && earlier) gives before else (not equal && later) gives after else neither)
+standing-by-tests true earlier later = refl
+standing-by-tests false true later = refl
+standing-by-tests false false true = refl
+standing-by-tests false false false = refl
 
 module _ (ev : ℕ → Event) (n : ℕ) (w : World) (sim : Sim ev n w) where
   abbrev begun : 0 < n
@@ -76,20 +67,6 @@ module _ (ev : ℕ → Event) (n : ℕ) (w : World) (sim : Sim ev n w) where
           )
           refl
 
-  -- p's clock of its own thread is covered by q's exactly if q's counts p
-  covered :
-      (p q : ℕ) → p < n → Issue ev p → q < n → Issue ev q
-      → leb (getRow (w .work) p (thread ev p)) (getRow (w .work) q (thread ev p))
-      ≡ ltb (place ev p) (vc ev q (thread ev p))
-  covered p q p-early p-store q-early q-store =
-      let few = thread-bound ev n (sim .limits .accepted) p p-early (issue-has-thread ev p-store) in
-      rw (
-        sim .rows .stores p p-early p-store .clock-is (thread ev p) few,
-        vc-own ev p (thread ev p) p-store refl,
-        sim .rows .stores q q-early q-store .clock-is (thread ev p) few,
-      )
-      (leb-suc (place ev p) (vc ev q (thread ev p)))
-
   -- THE ANSWER FOR TWO STORES IS THE DEFINITIONS'
   pub order-is :
       (p q : ℕ) → store? ev n p ≡ true → store? ev n q ≡ true
@@ -102,18 +79,11 @@ module _ (ev : ℕ → Event) (n : ℕ) (w : World) (sim : Sim ev n w) where
       let q-early = ltb-true q n (q-parts .0) in
       let p-store : Issue ev p = record { test = p-parts .1 } in
       let q-store : Issue ev q = record { test = q-parts .1 } in
-      let p-row = sim .rows .stores p p-early p-store in
-      let q-row = sim .rows .stores q q-early q-store in
+      let by-rows = covers-is ev n (sim .limits .accepted) (w .work) (sim .rows) in
       rw (
         both _ _ p-is q-is,
-        p-row .thread-is,
-        q-row .thread-is,
-        p-row .stretch-is,
-        q-row .stretch-is,
-        covered p q p-early p-store q-early q-store,
-        covered q p q-early q-store p-early p-store,
+        by-rows p q p-early p-store q-early q-store,
+        by-rows q p q-early q-store p-early p-store,
         eqb-turned q p,
-        eqb-turned (stretch ev q) (stretch ev p),
       )
-      (standing-by-tests (eqb p q) (eqb (stretch ev p) (stretch ev q)) (ltb (place ev p) (vc ev q (thread ev p)))
-      (ltb (place ev q) (vc ev p (thread ev q))))
+      (standing-by-tests (eqb p q) (covers? ev p q) (covers? ev q p))

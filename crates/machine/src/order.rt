@@ -1,6 +1,6 @@
 // How two stores stand, from their rows.
 ghost use mathlib.Core.Path.{_≡_};
-ghost use Rattle.machine.specs.Orders.{storeW, coversW, orderW};
+ghost use Rattle.machine.specs.Orders.{storeW, orderW};
 use model::Order;
 
 // Event p is a store, one of events 1 to n. The row of an event that has not come is not looked at.
@@ -16,28 +16,17 @@ pub fn is_store(work: &[u16], n: u16, p: u16) -> bool
     area::row_get(work, p, 10) != 0
 }
 
-// The clock of store q covers store p: for p's thread it is not below p's own.
-fn covers(work: &[u16], p: u16, q: u16) -> bool
-    ensures { λ r. ⌜ r ≡ coversW (now (work .entry)) p q ⌝ }
-{
-    let t = area::row_get(work, p, 8);
-    area::row_get(work, p, t) <= area::row_get(work, q, t)
-}
-
-// How store p stands to store q: by the clocks of the two, if they are of the same stretch.
+// How store p stands to store q: by the clocks of the two.
 pub fn order_of(work: &[u16], p: u16, q: u16) -> Order
     ensures { λ r. ⌜ r ≡ orderW (now (work .entry)) p q ⌝ }
 {
     if p == q {
         return Order::Same;
     }
-    if area::row_get(work, p, 10) != area::row_get(work, q, 10) {
-        return Order::Neither;
-    }
-    if covers(work, p, q) {
+    if area::covers(work, p, q) {
         return Order::Before;
     }
-    if covers(work, q, p) {
+    if area::covers(work, q, p) {
         return Order::After;
     }
     Order::Neither

@@ -6,25 +6,24 @@ use mathlib.Core.Path.{_≡_, refl, sym, _∙_, ap}
 use mathlib.Core.Bool.{Bool, true, false, _&&_}
 use mathlib.Core.Logic.{_⊎_, inl, inr}
 use mathlib.Core.List.{List}
-use lib.Dec.{eqb, ltb}
 use Rattle.record.specs.declared.events.Event.{Event}
 use Rattle.model.specs.Search.{bit, first, firstFrom}
-use Rattle.model.specs.Trace.{thread, stretch, place}
 use Rattle.model.specs.Rules.{Accepted}
-use Rattle.model.specs.Clocks.{vc}
+use Rattle.model.specs.Clocks.{covers?}
 use Rattle.model.specs.Stores.{marked?}
 use Rattle.model.specs.Verdict.{forbidden?, observed?, pair?, missing?, bad?, closure, missingOf, observedOf}
-use Rattle.model.proofs.Searching.{false-true, test, parts, first-is, eqb-turned}
+use Rattle.model.proofs.Searching.{false-true, test, parts, first-is}
 use Rattle.model.proofs.Acceptance.{event-bound}
 use Rattle.model.proofs.StorePlaces.{fails}
 use Rattle.model.proofs.Closure.{observed→, observed-is-committed}
 use Rattle.model.proofs.RulingSteps.{marked-over, hit?, hit→, hit-is-missing}
-use Rattle.area.specs.Cells.{getRow}
-use Rattle.area.specs.Rows.{StoreRow, Rows}
+use Rattle.area.specs.Cells.{coversW}
+use Rattle.area.specs.Rows.{Rows}
+use Rattle.area.proofs.Covering.{covers-is}
 use Rattle.marks.specs.Marks.{Marks, flagIn}
 use Rattle.marks.specs.Testing.{inCut, isForbidden, isObserved, missingIn, observedIn, missingBy, observedBy}
 use Rattle.marks.specs.Matching.{Judging}
-use Rattle.marks.proofs.Says.{Fit, fits, row, own-is, in-cut}
+use Rattle.marks.proofs.Says.{Fit, fits, row, in-cut}
 
 -- searches by tests that agree find the same
 first-from-same :
@@ -96,30 +95,19 @@ module _
     fit : Fit ev N p
     fit = marked-fits p marked
 
-    its-row : StoreRow ev l p
-    its-row = row ev N l rows p fit
-
     observed-is-pair : (q : ℕ) → q ≤ 2048 → observedIn l (m .flags) p q ≡ pair? ev N p q
     unfolding pair? marked?
     observed-is-pair q to-2048 =
-        rw (flag-observed q to-2048, own-is ev N l rows p fit, parts (forbidden? ev N p) _ marked .0)
+        rw (flag-observed q to-2048, parts (forbidden? ev N p) _ marked .0)
         (by-test (test (observed? ev N q)))
       where
         by-test :
             (observed? ev N q ≡ true) ⊎ (observed? ev N q ≡ false)
-            → (observed? ev N q && eqb (getRow l q 10) (getRow l p 10) && ltb (place ev p) (getRow l q (getRow l p 8)))
-            ≡ (observed? ev N q && eqb (stretch ev p) (stretch ev q) && ltb (place ev p) (vc ev q (thread ev p)))
+            → (observed? ev N q && coversW l p q) ≡ (observed? ev N q && covers? ev p q)
         by-test (inr not-observed) = rw not-observed
         by-test (inl observed) =
             let settled = observed-is-committed ev N accepted q (observed→ ev N q observed) in
-            let q-row = rows .stores q (settled .early) (settled .store) in
-            rw (
-              its-row .thread-is,
-              its-row .stretch-is,
-              q-row .stretch-is,
-              q-row .clock-is (thread ev p) (fit .thread-below-8),
-              eqb-turned (stretch ev q) (stretch ev p),
-            )
+            rw (covers-is ev N accepted l rows p q (fit .early) (fit .store) (settled .early) (settled .store))
 
   pub observed-is : bad? ev N ≡ true → observedBy l (m .flags) N (missingOf ev N) ≡ observedOf ev N
   unfolding observedBy observedOf missingOf bad?

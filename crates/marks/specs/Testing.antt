@@ -8,7 +8,7 @@ use mathlib.Core.List.{List}
 use lib.Dec.{eqb, leb}
 use lib.ListN.{set}
 use Rattle.model.specs.Search.{some, first}
-use Rattle.area.specs.Cells.{getRow}
+use Rattle.area.specs.Cells.{getRow, coversW}
 use Rattle.marks.specs.Marks.{Marks, cutCell, lowCell, countIn, flagIn}
 use Rattle.marks.specs.Marking.{lower, ownIn, lowIn, loaded}
 
@@ -65,8 +65,7 @@ missingIn l m p = isForbidden (flagIn (m .flags) p) && inCut l (m .counts) p
 
 -- store q is observed, and is m or happens after it
 abbrev pub observedIn : List ℕ → List ℕ → ℕ → ℕ → Bool
-observedIn l flags m q =
-    isObserved (flagIn flags q) && eqb (getRow l q 10) (getRow l m 10) && leb (ownIn l m) (getRow l q (getRow l m 8))
+observedIn l flags m q = isObserved (flagIn flags q) && coversW l m q
 
 -- over the events below n, and n if there is none
 unfoldable pub missingBy : List ℕ → Marks → ℕ → ℕ

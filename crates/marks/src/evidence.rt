@@ -38,7 +38,7 @@ pub fn missing(marks: &Marks, flags: &Flags, rows: &[u16], n: u16) -> u16
     p
 }
 
-// Store q is the observed one of a pair with m: it is observed, of m's stretch, and its clock covers m.
+// Store q is the observed one of a pair with m: it is observed, and is m or happens after it.
 fn observed_in(flags: &Flags, rows: &[u16], m: u16, q: u16) -> bool
     ensures { λ r. ⌜ r ≡ observedIn (now (rows .entry)) (now (flags .entry)) m q ⌝ }
 {
@@ -46,14 +46,7 @@ fn observed_in(flags: &Flags, rows: &[u16], m: u16, q: u16) -> bool
     if f < 2 {
         return false;
     }
-    let t = area::row_get(rows, m, 8);
-    let own = area::row_get(rows, m, t);
-    let known = area::row_get(rows, q, t);
-    if area::row_get(rows, q, 10) == area::row_get(rows, m, 10) {
-        own <= known
-    } else {
-        false
-    }
+    area::covers(rows, m, q)
 }
 
 // For the missing store m, over the events below n; n if there is none.
