@@ -8,5 +8,6 @@ pub mod RoundTrips
 pub mod Starts
 pub mod Fronts
 pub mod Scans
+pub mod Loads
 pub mod TakesApart
 pub mod GoesThrough

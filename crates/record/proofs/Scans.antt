@@ -28,7 +28,7 @@ use Rattle.record.proofs.Shapes.{made}
 use Rattle.record.proofs.Starts.{tail-is, from-event, read-at-answers, read-past-end}
 
 -- the number at an offset of the bytes from a position on
-word-drop : (s : List ℕ) (at i : ℕ) → word (drop at s) i ≡ word s (at + i)
+pub word-drop : (s : List ℕ) (at i : ℕ) → word (drop at s) i ≡ word s (at + i)
 word-drop s at i =
     let next : at + (i + 1) ≡ at + i + 1 = omega arith in
     rw (getD-drop at s i 0, getD-drop at s (i + 1) 0, next)

@@ -1,9 +1,16 @@
--- Record number e of a trace: document 01, "The trace".
+-- Record number e of a trace: document 01, "The trace". And the loads of a trace.
 use mathlib.Core.List.{List, _++_}
 use mathlib.Core.Path.{_≡_}
 use Prim.Native.Nat.{ℕ, zero, suc, _+_, _≤_}
+use mathlib.Core.Bool.{true, false, _&&_}
 use lib.ListN.{take, drop}
+use lib.Dec.{eqb}
+use Rattle.record.specs.Bytes.{word}
+use Rattle.record.specs.Table.{rowOf, lengthOf}
+use Rattle.record.specs.Fields.{offsetsIn}
+use Rattle.record.specs.Tests.{_gives_else_}
 use Rattle.record.specs.Reading.{frame}
+use Rattle.record.specs.declared.parts.LoadAt.{LoadAt}
 use Rattle.record.specs.declared.parts.Place.{Place}
 use Rattle.record.specs.declared.reading.Frame.{Frame}
 use Rattle.record.specs.declared.reading.Frame.the-variants.{Size, Unframed}
@@ -38,3 +45,25 @@ pub record AllFramed (s : List ℕ) (e : ℕ) : Type 0 where
 unfoldable pub recordsTo : List ℕ → ℕ → List ℕ
 recordsTo s zero = recordPart s 0
 recordsTo s (suc e) = recordsTo s e ++ recordPart s (suc e)
+
+-- ---- the loads of a trace, without reading its other records
+
+-- a record that is no load, and the position past it
+abbrev pub noLoad : ℕ → LoadAt
+noLoad past = record { loads = false; thread = 0; source = 0; next = past }
+
+-- a load of kind 4's length: its thread and its source stand where the table says. Of a record that can be read this is
+-- what reading answers: `load-at-read` of proofs/Loads.antt
+unfoldable pub loadAt : List ℕ → ℕ → LoadAt
+loadAt s at =
+    let offsets = offsetsIn (rowOf 4) in
+    let past = at + sizeAt s at in
+    (eqb (sizeAt s at) (lengthOf 4 + 2) && eqb (word s (at + 2)) 4) gives
+    record {
+      loads = true;
+      thread = word s (at + offsets .thread);
+      source = word s (at + offsets .source);
+      next = past;
+    }
+    else
+    noLoad past

@@ -1,8 +1,14 @@
-// Where record number e stands in a trace, and the record as a part of it.
+// Where record number e stands in a trace, the record as a part of it, and what a load says that stands at a position.
 ghost use mathlib.Core.Path.{_≡_};
 ghost use Prim.Native.Nat.{_+_, _≤_};
 ghost use lib.ListN.{length};
-ghost use Rattle.record.specs.Parts.{sizeAt, placeOf, recordPart};
+ghost use Rattle.record.specs.Parts.{sizeAt, placeOf, recordPart, noLoad, loadAt};
+use crate::bytes::wide;
+use crate::bytes::word_at;
+use crate::kinds::KINDS;
+use crate::kinds::LENGTH;
+use crate::kinds::SOURCE;
+use crate::kinds::THREAD;
 use crate::reading::Frame;
 use crate::reading::frame_of;
 
@@ -51,4 +57,48 @@ pub fn part(trace: &[u8], e: usize) -> &[u8]
     let start = p.start;
     let end = start + p.size;
     &trace[start..end]
+}
+
+// What the record at a position says if it is a load: its thread and its source; and the position past the record.
+pub struct LoadAt {
+    pub loads: bool,
+    pub thread: u16,
+    pub source: u16,
+    pub next: usize,
+}
+
+// A record that is no load.
+fn no_load(next: usize) -> LoadAt
+    ensures { λ r. ⌜ r ≡ noLoad next ⌝ }
+{
+    LoadAt {
+        loads: false,
+        thread: 0,
+        source: 0,
+        next,
+    }
+}
+
+// The record at a position, by its length bytes: for a pass over a trace that was read before, and that wants the loads
+// alone. A record that cannot be framed has no size, so the position past it is its own.
+pub fn load_at(trace: &[u8], at: usize) -> LoadAt
+    ensures { λ r. ⌜ r ≡ loadAt (now (trace .entry)) at ⌝ }
+{
+    if trace.len() < at {
+        return no_load(at);
+    }
+    let row = KINDS[4];
+    let size = size_at(trace, at);
+    if size != wide(row[LENGTH]) + 2 {
+        return no_load(at + size);
+    }
+    if word_at(trace, at + 2) != 4 {
+        return no_load(at + size);
+    }
+    LoadAt {
+        loads: true,
+        thread: word_at(trace, at + wide(row[THREAD])),
+        source: word_at(trace, at + wide(row[SOURCE])),
+        next: at + size,
+    }
 }
