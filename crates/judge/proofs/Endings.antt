@@ -2,26 +2,28 @@
 -- the machine has events, and the marks give the verdict and the cut buffer; and the rows of two stores say how these
 -- stand.
 use mathlib.Core.Path.{_≡_, refl, sym, ap, _∙_, subst}
-use mathlib.Core.Bool.{Bool, true, false, cond}
+use mathlib.Core.Bool.{Bool, true, false}
 use mathlib.Core.Logic.{_⊎_, inl, inr, _≢_}
 use mathlib.Core.List.{List}
 use Prim.Native.Nat.{ℕ, suc, _-_, _≤_}
 use native.Mathlib.Omega.{arith}
 use borrow.Author.Tests.{eq-eqb, ne-eqb}
-use lib.Dec.{eqb}
 use lib.ListN.{length}
 use Rattle.record.specs.Tests.{_gives_else_}
-use Rattle.model.specs.declared.Kind.the-variants.{Contradiction, Flush}
 use Rattle.model.specs.declared.Order.the-variants as order
 use Rattle.model.specs.declared.Verdict.{Verdict}
 use Rattle.model.specs.declared.Verdict.the-variants.{Refused, Robust, Broken}
 use Rattle.model.specs.Answers as answers
 use Rattle.model.specs.Rules.{Accepted}
-use Rattle.model.specs.Choice.{Ruling, robust, broken}
+use Rattle.model.specs.HappensBefore.{AtOrBefore}
+use Rattle.model.specs.Choice.{Ruling, robust, broken, Exact}
+use Rattle.model.specs.Choice as choice
 use Rattle.model.specs.Verdict.{rulingOf}
 use Rattle.model.specs.Reading.{Reading, accepted, turnedAway, events, readingOf, TurnedAwayWith}
 use Rattle.model.specs.Judge.{ruledAnswer, readingAnswer, readingCut, store?, standing, readingStanding}
 use Rattle.model.proofs.Searching.{false-true, same?}
+use Rattle.model.proofs.Ordering.{before-lt}
+use Rattle.model.proofs.Exactness.{exact, named-observed}
 use Rattle.model.proofs.TurnedAway.{accepted-exactly, turned-away-exactly, accepted-events}
 use Rattle.area.proofs.ReadBack.{up-is}
 use Rattle.machine.specs.Orders.{storeW, orderW}
@@ -30,23 +32,13 @@ use Rattle.machine.specs.Sim.{Sim}
 use Rattle.machine.proofs.Standings.{store-is, order-is}
 use Rattle.machine.proofs.Closing.{committed-is}
 use Rattle.marks.specs.Marks.{Marks, brokenIn}
-use Rattle.marks.specs.Testing.{missingBy}
 use Rattle.marks.proofs.Matched.{broken-at-ruling, unbroken-robust}
+use Rattle.windows.proofs.Answered.{flush-answered}
 use Rattle.judge.specs.declared.verdict.End.{End}
 use Rattle.judge.specs.Runs.{worldOf, AllRead, Stopped, AnswersAsDefined}
 use Rattle.judge.specs.Judging.{evidenceAt}
 use Rattle.judge.specs.Standings.{standBy, standingAfter}
 use Rattle.judge.specs.Verdicts.{kindBy, verdictAfter, cutFrom}
-
--- the code's kind is the definitions'
-kind-is : (missing observed : ℕ) → answers.kindAnswer (kindBy missing observed) ≡ answers.faultOf missing observed
-kind-is missing observed = by-test (eqb missing observed)
-  where
-    by-test :
-        (same : Bool)
-        → answers.kindAnswer (cond same Contradiction Flush) ≡ cond same answers.contradiction answers.flush
-    by-test true = refl
-    by-test false = refl
 
 -- of an answer: whether it is a refusal, how that reads of a query, and the events after the begin otherwise
 abbrev refused? : answers.Answer → Bool
@@ -122,6 +114,27 @@ module _ (bytes : List ℕ) where
           (w, (refl, subst (λ (K : ℕ). Sim (events bytes) K w) same (all .state)));
     }
 
+    -- the code's kind is the definitions', windows included, for the pair that the ruling names
+    kind-is :
+        (l p q : ℕ) → rulingOf (events bytes) N ≡ broken l p q
+        → answers.kindAnswer (kindBy bytes work p q) ≡ answers.faultOf (events bytes) p q
+    unfolding answers.faultOf
+    kind-is l p q is = by-order (it .pair .order)
+      where
+        it : choice.Broken (events bytes) N l p q
+        it = subst (Exact (events bytes) N) is (exact (events bytes) N whole)
+
+        by-order :
+            AtOrBefore (events bytes) p q
+            → answers.kindAnswer (kindBy bytes work p q) ≡ answers.faultOf (events bytes) p q
+        by-order (inl same) = rw (eq-eqb p q same) refl
+        by-order (inr before) =
+            let differ : p ≢ q = λ same. omega (arith, before-lt (events bytes) before) in
+            let observed = named-observed (events bytes) whole it in
+            rw (ne-eqb p q differ)
+            (flush-answered bytes N (all .accepted) work (all .state .rows) p q before
+            (omega (arith, observed .early, it .inside)))
+
     abbrev load : ℕ
     load = brokenIn (m .counts)
 
@@ -133,18 +146,18 @@ module _ (bytes : List ℕ) where
       abbrev cut' : List ℕ
       cut' = cutFrom endAt (m .counts) cut
 
-      broken-with-cut : load ≢ 0 → AnsweredWithCut (verdictAfter endAt tables m work) cut cut'
+      broken-with-cut : load ≢ 0 → AnsweredWithCut (verdictAfter bytes endAt tables m work) cut cut'
       unfolding verdictAfter cutFrom evidenceAt
       broken-with-cut some-load =
           let some = ne-eqb load 0 some-load in
           let early = all .loads .early some-load in
           let few : load ≤ 2049 = omega (arith, all .state .limits .few-events) in
           let ruling = broken-at-ruling (events bytes) N work m whole (all .state .rows) (all .loads) some-load in (
-            rw (some, is-accepted, up-is load few, ruling, kind-is (missingBy work m (suc load)) _) refl,
+            rw (some, is-accepted, up-is load few, ruling, kind-is load _ _ ruling) refl,
             rw (some, is-accepted, ruling) refl,
           )
 
-      robust-with-cut : load ≡ 0 → AnsweredWithCut (verdictAfter endAt tables m work) cut cut'
+      robust-with-cut : load ≡ 0 → AnsweredWithCut (verdictAfter bytes endAt tables m work) cut cut'
       unfolding verdictAfter cutFrom
       robust-with-cut none-found =
           let none = eq-eqb load 0 none-found in
@@ -155,15 +168,15 @@ module _ (bytes : List ℕ) where
           )
 
       -- THE VERDICT AFTER ALL RECORDS, AND THE CUT BUFFER, ARE THE DEFINITIONS'
-      all-with-cut : AnsweredWithCut (verdictAfter endAt tables m work) cut cut'
+      all-with-cut : AnsweredWithCut (verdictAfter bytes endAt tables m work) cut cut'
       all-with-cut = by-load (same? load 0)
         where
-          by-load : (load ≡ 0) ⊎ (load ≢ 0) → AnsweredWithCut (verdictAfter endAt tables m work) cut cut'
+          by-load : (load ≡ 0) ⊎ (load ≢ 0) → AnsweredWithCut (verdictAfter bytes endAt tables m work) cut cut'
           by-load (inl none-found) = robust-with-cut none-found
           by-load (inr some-load) = broken-with-cut some-load
 
-      all-answers : AnswersAsDefined bytes (verdictAfter endAt tables m work) work
-      all-answers = rows-there (verdictAfter endAt tables m work) (all-with-cut .0)
+      all-answers : AnswersAsDefined bytes (verdictAfter bytes endAt tables m work) work
+      all-answers = rows-there (verdictAfter bytes endAt tables m work) (all-with-cut .0)
 
   -- ---- a run that is over before record n, by number k
 
@@ -178,7 +191,7 @@ module _ (bytes : List ℕ) where
       abbrev Over : Verdict → List ℕ → Type 0
       Over v cut' = AnsweredWithCut v cut cut' × AnswersAsDefined bytes v work
 
-      over : (k ≡ 1) ⊎ (k ≢ 1) → Over (verdictAfter endBy tables m work) (cutFrom endBy (m .counts) cut)
+      over : (k ≡ 1) ⊎ (k ≢ 1) → Over (verdictAfter bytes endBy tables m work) (cutFrom endBy (m .counts) cut)
       unfolding verdictAfter cutFrom
       over (inl is-1) =
           let all = stopped .all-read is-1 in
@@ -190,10 +203,11 @@ module _ (bytes : List ℕ) where
           let away = stopped .turned-away not-1 in
           rw (ne-eqb k 1 not-1) (refused-with-cut k n away cut, refused-answers k n away work)
 
-      pub stopped-with-cut : AnsweredWithCut (verdictAfter endBy tables m work) cut (cutFrom endBy (m .counts) cut)
+      pub stopped-with-cut :
+          AnsweredWithCut (verdictAfter bytes endBy tables m work) cut (cutFrom endBy (m .counts) cut)
       stopped-with-cut = over (same? k 1) .0
 
-      pub stopped-answers : AnswersAsDefined bytes (verdictAfter endBy tables m work) work
+      pub stopped-answers : AnswersAsDefined bytes (verdictAfter bytes endBy tables m work) work
       stopped-answers = over (same? k 1) .1
 
   -- ---- the order query

@@ -1,5 +1,5 @@
 -- The verdict at the end of a run, and the cut buffer: the run's refusal, the evidence of the load that broke the
--- trace, or the least choice.
+-- trace and where a flush may go, or the least choice.
 use Prim.Native.Nat.{ℕ, _-_, min}
 use mathlib.Core.Bool.{cond, _&&_}
 use mathlib.Core.List.{List}
@@ -13,25 +13,29 @@ use Rattle.model.specs.declared.Verdict.the-variants.{Refused, Robust, Broken}
 use Rattle.machine.specs.Tables.{committedIn}
 use Rattle.marks.specs.Marks.{Marks, brokenIn}
 use Rattle.marks.specs.Ending.{copied, storesIn}
+use Rattle.windows.specs.Finding.{windowsBy}
 use Rattle.judge.specs.declared.loads.Evidence.{Evidence}
 use Rattle.judge.specs.declared.verdict.End.{End}
 use Rattle.judge.specs.Judging.{evidenceAt}
 
-abbrev pub kindBy : ℕ → ℕ → Kind
-kindBy missing observed = cond (eqb missing observed) Contradiction Flush
+abbrev pub kindBy : List ℕ → List ℕ → ℕ → ℕ → Kind
+kindBy bytes work missing observed =
+    cond (eqb missing observed) Contradiction (Flush (windowsBy bytes work missing observed))
 
-abbrev pub brokenBy : ℕ → Evidence → Verdict
-brokenBy events f = Broken events (f .load) (f .missing) (f .observed) (kindBy (f .missing) (f .observed))
+abbrev pub brokenBy : List ℕ → List ℕ → ℕ → Evidence → Verdict
+brokenBy bytes work events f =
+    Broken events (f .load) (f .missing) (f .observed) (kindBy bytes work (f .missing) (f .observed))
 
 abbrev pub shareBy : List ℕ → List ℕ → ℕ
 shareBy counts tables = min (percent (storesIn counts) (committedIn tables)) 65535
 
-unfoldable pub verdictAfter : End → List ℕ → Marks → List ℕ → Verdict
-verdictAfter t tables m work =
+unfoldable pub verdictAfter : List ℕ → End → List ℕ → Marks → List ℕ → Verdict
+verdictAfter bytes t tables m work =
     let events = t .event - 1 in
     let load = brokenIn (m .counts) in
     eqb (t .number) 1 gives
-    (eqb load 0 gives Robust events (shareBy (m .counts) tables) else brokenBy events (evidenceAt work m load))
+    (eqb load 0 gives Robust events (shareBy (m .counts) tables) else
+    brokenBy bytes work events (evidenceAt work m load))
     else
     Refused (t .number) (t .event)
 

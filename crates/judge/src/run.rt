@@ -185,7 +185,7 @@ pub(crate) fn run(trace: &[u8], work: &mut [u16], cut: &mut [u16]) -> Verdict
                 number: number_in(r),
                 event: area::event_at(t.row),
             };
-            return verdict::verdict(end, &tables, &marks, &flags, &work[..size], cut);
+            return verdict::verdict(trace, end, &tables, &marks, &flags, &work[..size], cut);
         };
         t = next;
     }

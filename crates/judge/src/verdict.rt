@@ -27,22 +27,22 @@ fn preceding(x: u16) -> u16
     if x == 0 { 0 } else { x - 1 }
 }
 
-// "contradiction" if they are equal, else "flush".
-fn kind_of(missing: u16, observed: u16) -> Kind
-    ensures { λ r. ⌜ r ≡ kindBy missing observed ⌝ }
+// "contradiction" if they are equal, else "flush", with its windows.
+fn kind_of(trace: &[u8], work: &[u16], missing: u16, observed: u16) -> Kind
+    ensures { λ r. ⌜ r ≡ kindBy (now (trace .entry)) (now (work .entry)) missing observed ⌝ }
 {
     if missing == observed {
         Kind::Contradiction
     } else {
-        Kind::Flush
+        Kind::Flush(windows::windows(trace, work, missing, observed))
     }
 }
 
 // The answer of a broken trace, with its evidence.
-fn broken(events: u16, f: Evidence) -> Verdict
-    ensures { λ r. ⌜ r ≡ brokenBy events f ⌝ }
+fn broken(trace: &[u8], work: &[u16], events: u16, f: Evidence) -> Verdict
+    ensures { λ r. ⌜ r ≡ brokenBy (now (trace .entry)) (now (work .entry)) events f ⌝ }
 {
-    let kind = kind_of(f.missing, f.observed);
+    let kind = kind_of(trace, work, f.missing, f.observed);
     Verdict::Broken {
         events,
         load: f.load,
@@ -59,8 +59,9 @@ fn share(marks: &Marks, tables: &Tables) -> u16
     end::percentage(end::stores_in(marks), machine::all_committed(tables))
 }
 
-// Only a robust trace changes the cut buffer.
+// The verdict on the trace whose run ended so. Only a robust trace changes the cut buffer.
 pub(crate) fn verdict(
+    trace: &[u8],
     t: End,
     tables: &Tables,
     marks: &Marks,
@@ -69,7 +70,7 @@ pub(crate) fn verdict(
     cut: &mut [u16],
 ) -> Verdict
     requires { ⌜ length (now cut) ≡ 56 ⌝ }
-    ensures { λ r. ⌜ (r ≡ verdictAfter t
+    ensures { λ r. ⌜ (r ≡ verdictAfter (now (trace .entry)) t
         (now (tables .entry)) (marksOf (now (marks .entry)) (now (flags .entry))) (now (work .entry))) ⌝ }
     ensures { λ _. ⌜ now (cut .exit) ≡ cutFrom t (now (marks .entry)) (now (cut .entry)) ⌝ }
 {
@@ -82,7 +83,12 @@ pub(crate) fn verdict(
     let events = preceding(t.event);
     let load = marks::broken_at(marks);
     if load != 0 {
-        return broken(events, loads::evidence_at(marks, flags, work, load));
+        return broken(
+            trace,
+            work,
+            events,
+            loads::evidence_at(marks, flags, work, load),
+        );
     }
     end::copy_cut(marks, cut);
     let share = share(marks, tables);

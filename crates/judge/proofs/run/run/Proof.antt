@@ -54,7 +54,7 @@ answered :
     → cut ≡ cut₀
     → part ≡ work
     → end ≡ record { number = k; event = n }
-    → v ≡ verdictAfter end tables m part
+    → v ≡ verdictAfter bytes end tables m part
     → cut' ≡ cutFrom end (m .counts) cut
     → AnswersAsDefined bytes v work × (cut' ≡ readingCut bytes cut₀ (readingOf bytes))
 answered bytes threads locations n k tables m work part cut₀ cut cut' end v stopped size lent all end-is v-is cut-is =
@@ -175,7 +175,7 @@ same-length-2 c =
     let at-told = at-verdict .before .before .before .before .before .before .before .before in
     let at-record = at-told .before .before .before .before in
     let here = at-record .before .before .before .before .before .loop in
-    at-verdict .verdict .kept .1 .1 .1 .1 .1 .0 ∙ ap length (here .inv .as-lent)
+    at-verdict .verdict .kept .1 .1 .1 .1 .1 .1 .0 ∙ ap length (here .inv .as-lent)
 
 returns-2 : tie.Need-returns-2 Inv-loop μ-loop
 returns-2 c =

@@ -11,7 +11,7 @@ use Rattle.judge.proofs.verdict.verdict.Tie as tie
 returns : tie.Need-returns
 unfolding verdictAfter cutFrom
 returns c =
-    let entry = c .before .before .before .before in
+    let entry = c .before .before .before .before .before in
     let some = ne-eqb (entry .args .t .number) 1 (λ is-1. omega arith) in
     (rw some refl, rw some refl)
 
@@ -33,7 +33,7 @@ returns-2 c =
     let at-evidence = c .before in
     let at-load = at-evidence .before .before in
     let at-events = at-load .before in
-    let entry = at-events .before .before .before .before .before in
+    let entry = at-events .before .before .before .before .before .before in
     let all-read = eq-eqb (entry .args .t .number) 1 (omega arith) in
     let load-is = at-load .broken-at .ensures in
     let some = ne-eqb (brokenIn (entry .args .marks .now)) 0 (λ none. omega (arith, load-is)) in (
@@ -64,7 +64,7 @@ returns-3 c =
     let at-copy = c .before .before .before in
     let at-load = at-copy .before .before .before in
     let at-events = at-load .before in
-    let entry = at-events .before .before .before .before .before in
+    let entry = at-events .before .before .before .before .before .before in
     let all-read = eq-eqb (entry .args .t .number) 1 (omega arith) in
     let none = eq-eqb (brokenIn (entry .args .marks .now)) 0 (omega (arith, at-load .broken-at .ensures)) in (
       rw (all-read, none, c .share .ensures, at-events .preceding .ensures) refl,

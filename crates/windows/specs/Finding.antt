@@ -1,0 +1,75 @@
+-- How the windows are found, as total functions: what is noted of a record, of the records behind the missing store,
+-- and the windows that this gives. The numbers found are thread t's first place at t and its last at 8 + t, 0 for none
+-- yet.
+use Prim.Native.Nat.{ℕ, zero, suc, _+_, _-_, _%_}
+use mathlib.Core.Bool.{not, _&&_}
+use mathlib.Core.List.{List}
+use lib.ListN.{getD, set, replicate}
+use lib.Dec.{eqb, leb}
+use Rattle.record.specs.declared.parts.LoadAt.{LoadAt}
+use Rattle.record.specs.Parts.{start, loadAt}
+use Rattle.record.specs.Tests.{_gives_else_}
+use Rattle.model.specs.declared.Window.{Window}
+use Rattle.model.specs.declared.Windows.{Windows}
+use Rattle.area.specs.Cells.{getRow, coversW, up}
+
+-- ---- what is noted
+
+-- the missing store p of thread t
+abbrev pub notedMissing : List ℕ → ℕ → ℕ → List ℕ
+notedMissing found t p = set found (t % 8) (up p)
+
+-- store e of thread t, which is the observed store or happens before it
+abbrev pub notedStore : List ℕ → ℕ → ℕ → List ℕ
+notedStore found e t = not (eqb (getD found (t % 8) 0) 0) gives set found (8 + t % 8) e else found
+
+-- load e of thread t from s
+abbrev pub notedLoad : List ℕ → ℕ → List ℕ → ℕ → ℕ → ℕ → List ℕ
+notedLoad work p found e t s =
+    (eqb (getD found (t % 8) 0) 0 && (leb p s && coversW work p s)) gives set found (t % 8) (up e) else found
+
+-- event e, with what its record says if it is a load. A store is known by its row: the stretch of any other event is 0
+unfoldable pub noted : List ℕ → ℕ → ℕ → List ℕ → ℕ → LoadAt → List ℕ
+noted work p q found e l =
+    coversW work e q gives notedStore found e (getRow work e 8) else
+    (l .loads) gives notedLoad work p found e (l .thread) (l .source) else
+    found
+
+-- ---- the records
+
+module _ (bytes work : List ℕ) (p q : ℕ) where
+  -- the next n records, from event e at a position on
+  unfoldable pub lookedFrom : ℕ → ℕ → ℕ → List ℕ → List ℕ
+  lookedFrom zero e at found = found
+  lookedFrom (suc n) e at found =
+      let l = loadAt bytes at in
+      lookedFrom n (up e) (l .next) (noted work p q found e l)
+
+  -- the records behind p, up to q
+  unfoldable pub looked : List ℕ → List ℕ
+  looked found = lookedFrom (q - p) (up p) (start bytes (up p)) found
+
+-- ---- the windows
+
+unfoldable pub windowIn : List ℕ → ℕ → Window
+windowIn found t =
+    eqb (getD found (8 + t) 0) 0 gives record { first = 0; last = 0 } else
+    record { first = getD found t 0; last = getD found (8 + t) 0 }
+
+abbrev pub windowsIn : ℕ → List ℕ → Windows
+windowsIn primary found = record {
+  primary = primary;
+  thread0 = windowIn found 0;
+  thread1 = windowIn found 1;
+  thread2 = windowIn found 2;
+  thread3 = windowIn found 3;
+  thread4 = windowIn found 4;
+  thread5 = windowIn found 5;
+  thread6 = windowIn found 6;
+  thread7 = windowIn found 7;
+}
+
+unfoldable pub windowsBy : List ℕ → List ℕ → ℕ → ℕ → Windows
+windowsBy bytes work p q =
+    let primary = getRow work p 8 in
+    windowsIn primary (looked bytes work p q (notedMissing (replicate 16 0) primary p))
