@@ -1,5 +1,6 @@
 /*
- * Judges the trace in a file: prints one line and exits with 0 robust, 1 broken, 2 refused; 3 if it cannot be read.
+ * Judges the trace in a file: prints a line and exits with 0 robust, 1 broken, 2 refused; 3 if it cannot be read. If a
+ * flush is missing, more lines say where it may go.
  *
  *     rt staticlib cabi
  *     cc -Iinclude examples/judge.c target/staticlib/libcabi.a -o target/judge
@@ -27,6 +28,17 @@ static long read_file(const char *path)
     return failed ? -1 : (long)size;
 }
 
+/* Prints the primary thread, and for each thread with a window the events in front of which it may flush. */
+static void print_windows(const uint16_t *answer)
+{
+    printf("primary thread %d\n", answer[GORBUZTE_PRIMARY] - 1);
+    for (int thread = 0; thread < 8; thread++) {
+        const uint16_t *window = answer + GORBUZTE_WINDOWS + 2 * thread;
+        if (window[0] != 0)
+            printf("thread %d may flush in front of events %d to %d\n", thread, window[0], window[1]);
+    }
+}
+
 int main(int argc, char **argv)
 {
     uint16_t answer[GORBUZTE_ANSWER_SIZE];
@@ -44,6 +56,8 @@ int main(int argc, char **argv)
         printf("broken at load %d: store %d is missing, store %d was observed (%s)\n", answer[GORBUZTE_LOAD],
                answer[GORBUZTE_MISSING], answer[GORBUZTE_OBSERVED],
                answer[GORBUZTE_KIND] == GORBUZTE_FLUSH ? "flush" : "contradiction");
+        if (answer[GORBUZTE_KIND] == GORBUZTE_FLUSH)
+            print_windows(answer);
         return 1;
     default:
         printf("refused %d at event %d\n", answer[GORBUZTE_REFUSAL], answer[GORBUZTE_EVENT]);

@@ -30,8 +30,16 @@ enum gorbuzte_answer {
     GORBUZTE_MISSING,  /* broken: the store that a load forbids */
     GORBUZTE_OBSERVED, /* broken: the store that a load observes */
     GORBUZTE_KIND,     /* broken: one of gorbuzte_kind */
-    GORBUZTE_ANSWER_SIZE
+    GORBUZTE_PRIMARY,  /* flush: the thread of the missing store, plus 1 */
+    GORBUZTE_WINDOWS,  /* flush: the windows of threads 0 to 7, two numbers each */
+    GORBUZTE_ANSWER_SIZE = GORBUZTE_WINDOWS + 16
 };
+
+/*
+ * A flush fault says where the line of the missing store may be flushed: thread t may do so in front of the events from
+ * answer[GORBUZTE_WINDOWS + 2 * t] to answer[GORBUZTE_WINDOWS + 2 * t + 1]; both are 0 if it has no window. The thread
+ * of the observed store always has one. The thread of the missing store, which is primary, may have none.
+ */
 
 enum gorbuzte_verdict { GORBUZTE_REFUSED = 0, GORBUZTE_ROBUST = 1, GORBUZTE_BROKEN = 2 };
 

@@ -1,21 +1,35 @@
 -- Answers as two-byte numbers in a lent array: its layout, which gorbuzte.h gives names to.
-use Prim.Native.Nat.{ℕ}
-use mathlib.Core.List.{List, [], _∷_}
+use Prim.Native.Nat.{ℕ, _+_, _%_}
+use mathlib.Core.List.{List, [], _∷_, _++_}
+use lib.ListN.{replicate}
+use Rattle.model.specs.Windows.{Places, none, between}
 use Rattle.model.specs.Answers.{Fault, contradiction, flush, Answer, robust, broken, Standing, before, after, same}
 use Rattle.model.specs.Answers.{neither}
 use Rattle.model.specs.Answers as answers
 
-abbrev pub kindNumber : Fault → ℕ
-kindNumber contradiction = 1
-kindNumber flush = 2
+-- a window: its first and its last place, 0 and 0 for none
+abbrev pub windowNumbers : Places → List ℕ
+windowNumbers none = 0 ∷ 0 ∷ []
+windowNumbers (between first last) = first ∷ last ∷ []
+
+-- windows, one thread after the other
+abbrev pub windowsNumbers : List Places → List ℕ
+windowsNumbers [] = []
+windowsNumbers (w ∷ ws) = windowNumbers w ++ windowsNumbers ws
+
+-- a fault: 1 contradiction or 2 flush; the primary thread + 1, where 0 comes after 65,535; the windows. What a
+-- contradiction does not have is 0
+abbrev pub faultNumbers : Fault → List ℕ
+faultNumbers contradiction = 1 ∷ replicate 17 0
+faultNumbers (flush primary windows) = 2 ∷ (primary + 1) % 65536 ∷ windowsNumbers windows
 
 -- a verdict: the refusal's number or 0, its event; 0 refused, 1 robust or 2 broken; events, share; load, missing,
--- observed, kind. What an answer does not have is 0
+-- observed, and the fault's numbers. What an answer does not have is 0
 abbrev pub verdictNumbers : Answer → List ℕ
-verdictNumbers (answers.refused number event) = number ∷ event ∷ 0 ∷ 0 ∷ 0 ∷ 0 ∷ 0 ∷ 0 ∷ 0 ∷ []
-verdictNumbers (robust events share) = 0 ∷ 0 ∷ 1 ∷ events ∷ share ∷ 0 ∷ 0 ∷ 0 ∷ 0 ∷ []
+verdictNumbers (answers.refused number event) = number ∷ event ∷ replicate 24 0
+verdictNumbers (robust events share) = 0 ∷ 0 ∷ 1 ∷ events ∷ share ∷ replicate 21 0
 verdictNumbers (broken events load missing observed fault) =
-    0 ∷ 0 ∷ 2 ∷ events ∷ 0 ∷ load ∷ missing ∷ observed ∷ kindNumber fault ∷ []
+    0 ∷ 0 ∷ 2 ∷ events ∷ 0 ∷ load ∷ missing ∷ observed ∷ faultNumbers fault
 
 -- how two stores stand: the refusal's number or 0, its event; 1 before, 2 after, 3 same, 4 neither
 abbrev pub standingNumbers : Standing → List ℕ

@@ -24,7 +24,7 @@ pub extern "C" fn gorbuzte_judge(
     trace: &[u8],
     work: &mut [u16],
     cut: &mut [u16],
-    answer: &mut [u16; 9],
+    answer: &mut [u16; 26],
 )
     ensures answer { λ _. ⌜ (now (answer .exit) ≡ verdictNumbers
         (judgeOf (now (trace .entry)) (length (now (work .entry))) (length (now (cut .entry))))) ⌝ }
