@@ -64,7 +64,7 @@ robustLines events share n f cut =
 
 abbrev pub kindText : Fault → String
 kindText contradiction = "kind contradiction"
-kindText flush = "kind flush"
+kindText (flush primary windows) = "kind flush"
 
 -- as case 1 prints: "`events 11`, `verdict broken`, `load 11`, `missing 5`, `observed 7`, `kind flush`, a line each"
 unfoldable pub brokenLines : ℕ → ℕ → ℕ → ℕ → Fault → List ℕ

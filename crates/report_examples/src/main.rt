@@ -3,6 +3,8 @@
 use libc::STDOUT_FILENO;
 use model::Kind;
 use model::Verdict;
+use model::Window;
+use model::Windows;
 
 // Prints the report of a verdict.
 fn print(v: Verdict, threads: u16, finished: u16, cut: &[u16]) {
@@ -28,6 +30,22 @@ fn print_broken(events: u16, load: u16, missing: u16, observed: u16, kind: Kind)
     print(v, 1, 1, &[0]);
 }
 
+// The windows of case 1: thread 0 may flush in front of records 6 and 7, the others in front of none.
+fn windows() -> Windows {
+    let none = Window { first: 0, last: 0 };
+    Windows {
+        primary: 0,
+        thread0: Window { first: 6, last: 7 },
+        thread1: none,
+        thread2: none,
+        thread3: none,
+        thread4: none,
+        thread5: none,
+        thread6: none,
+        thread7: none,
+    }
+}
+
 // Prints the report of a refusal.
 fn print_refused(number: u16, event: u16) {
     print(Verdict::Refused { number, event }, 1, 1, &[0]);
@@ -44,7 +62,7 @@ fn print_shape(trace: &[u8]) {
 
 fn main() {
     // cases 1, 2, 7, 8 and 9
-    print_broken(11, 11, 5, 7, Kind::Flush);
+    print_broken(11, 11, 5, 7, Kind::Flush(windows()));
     print_robust(7, 50, 2, 1, &[0, 1]);
     print_broken(5, 5, 1, 1, Kind::Contradiction);
     print_refused(9, 3);

@@ -3,6 +3,7 @@ ghost use mathlib.Core.Path.{_≡_};
 ghost use Prim.Native.Nat.{_≤_, _<_};
 ghost use lib.ListN.{length};
 use crate::lines;
+use crate::windows;
 use libc::STDOUT_FILENO;
 use model::Order;
 use model::Verdict;
@@ -23,6 +24,16 @@ fn judge(trace: &[u8]) {
     let mut out = [0u8; 1024];
     let n = verdict_text::text_of(trace, &mut out);
     io::write_all(STDOUT_FILENO, &out[..n]);
+}
+
+// Judges a trace, and prints behind the lines of its verdict those of its windows.
+fn judge_windows(trace: &[u8]) {
+    let mut work = [0u16; 32768];
+    let mut cut = [0u16; 56];
+    let v = judge::judge(trace, &mut work, &mut cut);
+    let s = report::shape_of(trace);
+    print_verdict(v, s.threads, s.finished, &cut);
+    windows::print_windows_of(v);
 }
 
 fn one_if_zero(x: u16) -> usize
@@ -90,10 +101,14 @@ fn order(trace: &[u8], first: u16, second: u16) {
 
 // ---- a line
 
-// A session by its letter: j, or with two numbers before the trace o or b.
+// A session by its letter: j or w, or with two numbers before the trace o or b.
 fn answer(letter: u8, bytes: &[u8]) {
     if letter == b'j' {
         judge(bytes);
+        return;
+    }
+    if letter == b'w' {
+        judge_windows(bytes);
         return;
     }
     if bytes.len() < 4 {

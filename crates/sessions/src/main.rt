@@ -2,6 +2,7 @@
 // printed as it stands, or a session: a letter and hexadecimal digits, two to a byte.
 //   # COMMENT
 //   jTRACE               judge the trace, as the program `verdict` does
+//   wTRACE               judge the trace and print its windows behind the lines
 //   oFIRSTSECONDTRACE    four digits each: the order query
 //   bWORKCUTTRACE        four digits each: judge with a work area of 7s and a cut buffer of 9s of these lengths
 ghost use mathlib.Core.Path.{_≡_};
@@ -9,6 +10,7 @@ ghost use lib.ListN.{length};
 
 mod answers;
 mod lines;
+mod windows;
 
 use libc::STDIN_FILENO;
 
