@@ -4,7 +4,7 @@
 use crate::fast::Fast;
 use crate::generator::Random;
 use crate::reference::{self, Accepted};
-use crate::types::{Event, Kind, Order, Refusal, Verdict, CUT, LARGEST_RECORD, WORK};
+use crate::types::{Event, Kind, Order, Refusal, Verdict, Window, CUT, LARGEST_RECORD, WORK};
 use crate::{ffi, wrapper};
 use std::fmt::Debug;
 
@@ -18,8 +18,12 @@ const CHOICES: usize = 2_000;
 const ALL_PAIRS: u16 = 8;
 const ALL_PAIRS_AT_TIMES: u16 = 20;
 
-/// What the numbers of the library's verdict are.
-const JUDGE: &str = "library: refusal, event, verdict, events, share, load, missing, observed, kind";
+/// What the numbers of the library's verdict are, up to the places of the windows.
+const JUDGE: &str = "library: refusal, event, verdict, events, share, load, missing, observed, kind, primary + 1";
+
+/// Where the primary thread and the places of the windows stand among the numbers of the library's verdict.
+const PRIMARY: usize = 9;
+const PLACES: usize = 10;
 
 /// What was met in a comparison.
 #[derive(Clone, Debug, Default, PartialEq, Eq)]
@@ -34,6 +38,10 @@ pub struct Counts {
     pub contradiction: u64,
     /// Traces judged broken by a missing flush.
     pub flush: u64,
+    /// Those whose primary thread has no window.
+    pub primary_without_window: u64,
+    /// Those with windows of several threads.
+    pub several_windows: u64,
     /// Refused traces, by the number of the refusal.
     pub refused: [u64; 14],
     /// Accepted traces that were also judged by trying all choices.
@@ -119,7 +127,13 @@ impl Comparison {
         *match answer {
             Ok(Verdict::Robust { .. }) => &mut self.counts.robust,
             Ok(Verdict::Broken { kind: Kind::Contradiction, .. }) => &mut self.counts.contradiction,
-            Ok(Verdict::Broken { kind: Kind::Flush, .. }) => &mut self.counts.flush,
+            Ok(Verdict::Broken { kind: Kind::Flush(windows), .. }) => {
+                let there = windows.threads.iter().flatten().count();
+                self.counts.primary_without_window +=
+                    u64::from(windows.threads[usize::from(windows.primary)].is_none());
+                self.counts.several_windows += u64::from(there > 1);
+                &mut self.counts.flush
+            }
             Err(refusal) => &mut self.counts.refused[usize::from(refusal.number)],
         } += 1;
     }
@@ -155,7 +169,7 @@ impl Comparison {
         let lent = WORK + random.below(EXTRA + 1);
         self.cut.fill(pattern);
         let answer = ffi::judge(trace, &mut self.work[..lent], &mut self.cut[..CUT]);
-        same(JUDGE, answer, answer_of(expected))?;
+        same_answer(&answer, &answer_of(expected))?;
         let cut = match expected {
             Ok(Verdict::Robust { cut, .. }) => *cut,
             _ => [pattern; CUT],
@@ -305,14 +319,32 @@ fn check_frame(trace: &[u8], e: usize) -> Result<(), String> {
     same("library, position of a frame", library.map(<[u8]>::as_ptr), expected.map(<[u8]>::as_ptr))
 }
 
+/// All numbers of the library's answer; the windows thread by thread, so that a difference names the thread.
+fn same_answer(answer: &[u16; ffi::ANSWER], expected: &[u16; ffi::ANSWER]) -> Result<(), String> {
+    same(JUDGE, &answer[..PLACES], &expected[..PLACES])?;
+    let pairs = answer[PLACES..].chunks_exact(2).zip(expected[PLACES..].chunks_exact(2));
+    pairs.enumerate().try_for_each(|(thread, (window, expected))| {
+        same(&format!("library, window of thread {thread}: first, last"), window, expected)
+    })
+}
+
 /// The numbers of the library's answer that belong to an answer.
 fn answer_of(answer: &Result<Verdict, Refusal>) -> [u16; ffi::ANSWER] {
-    match *answer {
+    let front = match *answer {
         Err(Refusal { number, event }) => [number, event, 0, 0, 0, 0, 0, 0, 0],
         Ok(Verdict::Robust { events, share, .. }) => [0, 0, 1, events, share, 0, 0, 0, 0],
         Ok(Verdict::Broken { events, load, missing, observed, kind }) => {
             let kind = if kind == Kind::Contradiction { 1 } else { 2 };
             [0, 0, 2, events, 0, load, missing, observed, kind]
         }
+    };
+    let mut numbers = [0; ffi::ANSWER];
+    numbers[..PRIMARY].copy_from_slice(&front);
+    if let Ok(Verdict::Broken { kind: Kind::Flush(windows), .. }) = answer {
+        numbers[PRIMARY] = windows.primary + 1;
+        for (places, window) in numbers[PLACES..].chunks_exact_mut(2).zip(&windows.threads) {
+            places.copy_from_slice(&window.map_or([0, 0], |Window { first, last }| [first, last]));
+        }
     }
+    numbers
 }

@@ -1,5 +1,5 @@
 //! A judge that is written for speed: one pass over the trace with vector clocks, in tables that are kept between
-//! calls.
+//! calls; for a flush fault a second one, over the records between its two stores.
 //!
 //! A store is named by its event number. The stores of a thread are linked in the order of their issues, and numbered
 //! from 1 over the whole trace. A clock gives for each thread the number of its last store that happens before; a
@@ -7,11 +7,10 @@
 //! last issue: so a store waits exactly if its name is above the last committed one of its thread. With that a crash
 //! leaves clocks and locations as they are.
 
-use crate::types::{Kind, Refusal, Verdict, CUT};
+use crate::types::{Kind, Refusal, Verdict, Window, Windows, CUT, THREADS};
 
 /// The most events after the begin.
 const EVENTS: i16 = 2_048;
-const THREADS: usize = 8;
 const LOCATIONS: usize = 256;
 const STRETCHES: usize = 8;
 
@@ -160,6 +159,14 @@ impl Fast {
     ///
     /// The refusal (1 to 13) if the trace is not accepted.
     pub fn judge(&mut self, trace: &[u8]) -> Result<Verdict, Refusal> {
+        let events = self.run(trace)?;
+        Ok(self.verdict(trace, events))
+    }
+
+    /// Takes all records. Gives the number of events after the begin. On its own, so that the loop does not keep the
+    /// start of the trace, which only windows ask for.
+    #[inline(never)]
+    fn run(&mut self, trace: &[u8]) -> Result<u16, Refusal> {
         let mut rest = self.begin(trace).map_err(|number| Refusal { number, event: 0 })?;
         let mut event = 1;
         while let Some(record) = rest.first_chunk() {
@@ -207,7 +214,7 @@ impl Fast {
 
     /// The end of the trace: fewer bytes than the largest record has, or a record too many. A record is read from a
     /// copy that is filled up.
-    fn finish(&mut self, mut event: Name, mut rest: &[u8]) -> Result<Verdict, Refusal> {
+    fn finish(&mut self, mut event: Name, mut rest: &[u8]) -> Result<u16, Refusal> {
         while !rest.is_empty() {
             let refused = |number| Refusal { number, event: event as u16 };
             if let Some(number) = unreadable(rest).or((event > EVENTS).then_some(13)) {
@@ -218,7 +225,7 @@ impl Fast {
             rest = self.record(event, &record, rest).map_err(refused)?;
             event += 1;
         }
-        Ok(self.verdict(event as u16 - 1))
+        Ok(event as u16 - 1)
     }
 
     /// Takes the record that the bytes start with. Gives the bytes behind it.
@@ -421,9 +428,43 @@ impl Fast {
         Ok(())
     }
 
-    fn verdict(&self, events: u16) -> Verdict {
+    /// The windows of a flush fault, by a pass over the records behind the missing store up to the observed one, which are
+    /// of one stretch. A store whose clock, for the missing store's thread, is not below that store's own happens after
+    /// it. A window opens behind the thread's first load of such a store, and ends at its last issue that the observed
+    /// store's clock reaches.
+    #[cold]
+    fn windows(&self, trace: &[u8], missing: Name, observed: Name) -> Windows {
+        let [p, q] = [missing, observed].map(|name| &self.stores[at(name)]);
+        let primary = p.thread();
+        let mut open = [0; THREADS];
+        open[primary] = missing + 1;
+        let mut threads = [None; THREADS];
+        let mut rest = (0..missing + 1).fold(trace, |rest, _| behind(rest));
+        for event in missing + 1..observed + 1 {
+            let record = rest.first_chunk().expect("a crash and a load come behind the observed store");
+            let thread = usize::from(record[4]) & (THREADS - 1);
+            let first = open[thread];
+            match record[2] {
+                2 if first != 0 && self.stores[at(event)].clock[thread] <= q.clock[thread] => {
+                    threads[thread] = Some(Window { first: first as u16, last: event as u16 });
+                }
+                4 if first == 0 && self.stores[at(field(record, 8) as Name)].clock[primary] >= p.clock[primary] => {
+                    open[thread] = event + 1;
+                }
+                _ => {}
+            }
+            rest = behind(rest);
+        }
+        Windows { primary: primary as u16, threads }
+    }
+
+    fn verdict(&self, trace: &[u8], events: u16) -> Verdict {
         if let Some(Evidence { load, missing, observed }) = self.evidence {
-            let kind = if missing == observed { Kind::Contradiction } else { Kind::Flush };
+            let kind = if missing == observed {
+                Kind::Contradiction
+            } else {
+                Kind::Flush(self.windows(trace, missing, observed))
+            };
             let [load, missing, observed] = [load, missing, observed].map(|name| name as u16);
             return Verdict::Broken { events, load, missing, observed, kind };
         }
@@ -492,6 +533,13 @@ fn header(record: &[u8; 10]) -> u32 {
 #[inline(always)]
 fn field(record: &[u8; 10], at: usize) -> u16 {
     u16::from_le_bytes([record[at], record[at + 1]])
+}
+
+/// The bytes behind the record that the bytes start with, which can be framed.
+#[inline(always)]
+fn behind(bytes: &[u8]) -> &[u8] {
+    let length = bytes.first_chunk().map_or(0, |length| u16::from_le_bytes(*length));
+    &bytes[2 + usize::from(length)..]
 }
 
 /// The refusal of a record that cannot be read, or 5 if it is a begin; `None` otherwise. There is at least one byte.

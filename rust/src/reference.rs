@@ -1,4 +1,5 @@
-//! A judge that is independent of the library: each function states a sentence of document 01, quoted in its comment.
+//! A judge that is independent of the library: each function states a sentence of document 01 or 02, quoted in its
+//! comment.
 //!
 //! Queues are queues, happens-before is a search in a graph, and the least choice is what the observed stores and all
 //! stores before them need. [`judge_by_all_choices`] answers the same question by trying every choice. Nothing here is
@@ -8,11 +9,13 @@ mod choice;
 mod machine;
 mod order;
 mod records;
+mod windows;
 
 use crate::types::{Kind, Order, Refusal, Verdict, CUT};
 use choice::{all_choices, demand_of, Demand, Explanation};
 use machine::{Machine, Store};
 use order::Precedence;
+use windows::windows;
 
 pub use records::{frame, read_at, write};
 
@@ -127,7 +130,7 @@ impl Accepted {
 
     /// "Missing is a store that some counted load of those records forbids, observed one that some counted load there
     /// observes, and they are equal or missing happens before observed; of all such pairs, the smallest missing, then
-    /// the smallest observed event number. Kind is "contradiction" if they are equal, else "flush"."
+    /// the smallest observed event number."
     fn broken(&self, load: u16, observed: &[bool], forbidden: &[bool], events: u16) -> Verdict {
         let stores = 0..self.machine.stores.len();
         let before: Vec<Option<Vec<bool>>> =
@@ -135,13 +138,23 @@ impl Accepted {
         for p in stores.clone().filter(|&store| forbidden[store]) {
             for (q, earlier) in before.iter().enumerate() {
                 if earlier.as_ref().is_some_and(|earlier| p == q || earlier[p]) {
-                    let kind = if p == q { Kind::Contradiction } else { Kind::Flush };
+                    let kind = self.kind(p, q);
                     let [missing, observed] = [p, q].map(|store| self.machine.stores[store].event);
                     return Verdict::Broken { events, load, missing, observed, kind };
                 }
             }
         }
         panic!("no pair of a forbidden and an observed store, though the trace is broken");
+    }
+
+    /// "Kind is "contradiction" if they are equal, else "flush"." Document 02, job 1: "broken gains the windows", and
+    /// "Contradictions have none."
+    fn kind(&self, p: usize, q: usize) -> Kind {
+        if p == q {
+            Kind::Contradiction
+        } else {
+            Kind::Flush(windows(&self.machine, &self.precedence, p, q))
+        }
     }
 
     /// What each counted load observes and forbids.

@@ -6,6 +6,9 @@ pub const WORK: usize = 32_768;
 /// The number of two-byte numbers of a cut buffer.
 pub const CUT: usize = 56;
 
+/// The most threads of a trace.
+pub const THREADS: usize = 8;
+
 /// The number of bytes of the largest record, its length bytes included.
 pub const LARGEST_RECORD: usize = 10;
 
@@ -31,7 +34,7 @@ pub enum Verdict {
         missing: u16,
         /// The event number of the smallest store that a counted load observes and that `missing` is or happens before.
         observed: u16,
-        /// Whether the two stores are one.
+        /// Whether the two stores are one; if not, where the flush may go.
         kind: Kind,
     },
 }
@@ -42,7 +45,25 @@ pub enum Kind {
     /// One store is forbidden and observed.
     Contradiction,
     /// The forbidden store happens before the observed one.
-    Flush,
+    Flush(Windows),
+}
+
+/// Where the line of the missing store may be flushed.
+#[derive(Clone, Copy, Debug, PartialEq, Eq)]
+pub struct Windows {
+    /// The thread of the missing store. It may have no window itself.
+    pub primary: u16,
+    /// The window of each thread, if it has one.
+    pub threads: [Option<Window>; THREADS],
+}
+
+/// The records in front of which a thread may flush: from the first to the last, both included.
+#[derive(Clone, Copy, Debug, PartialEq, Eq)]
+pub struct Window {
+    /// The event number of the first record.
+    pub first: u16,
+    /// The event number of the last record, not below `first`.
+    pub last: u16,
 }
 
 /// Why a trace, a call or a record is turned away.

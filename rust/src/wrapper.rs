@@ -1,7 +1,7 @@
 //! Safe calls to the proved library, with answers as Rust types.
 
 use crate::ffi;
-use crate::types::{Event, Kind, Order, Refusal, Verdict, CUT, WORK};
+use crate::types::{Event, Kind, Order, Refusal, Verdict, Window, Windows, CUT, THREADS, WORK};
 
 /// Judges a trace. Each call allocates a work area; [`Judge`] keeps one for many calls.
 ///
@@ -69,7 +69,8 @@ impl Judge {
 /// 14 if the work area is smaller than [`WORK`] numbers, 15 if the cut buffer is not [`CUT`] numbers (both change
 /// nothing), or the refusal (1 to 13) if the trace is not accepted.
 pub fn judge_with(trace: &[u8], work: &mut [u16], cut: &mut [u16]) -> Result<Verdict, Refusal> {
-    let [refusal, event, verdict, events, share, load, missing, observed, kind] = ffi::judge(trace, work, cut);
+    let [refusal, event, verdict, events, share, load, missing, observed, kind, primary, places @ ..] =
+        ffi::judge(trace, work, cut);
     if refusal != 0 {
         return Err(Refusal { number: refusal, event });
     }
@@ -78,7 +79,7 @@ pub fn judge_with(trace: &[u8], work: &mut [u16], cut: &mut [u16]) -> Result<Ver
             let cut = cut.try_into().expect("a robust answer has a cut buffer of 56 numbers");
             Ok(Verdict::Robust { events, share, cut })
         }
-        2 => Ok(Verdict::Broken { events, load, missing, observed, kind: kind_of(kind) }),
+        2 => Ok(Verdict::Broken { events, load, missing, observed, kind: kind_of(kind, primary, &places) }),
         _ => unreachable!("no such verdict: {verdict}"),
     }
 }
@@ -137,13 +138,21 @@ pub fn frame(trace: &[u8], e: usize) -> Option<&[u8]> {
     }
 }
 
-/// The kind of a broken trace by its number.
-fn kind_of(number: u16) -> Kind {
+/// The kind of a broken trace by its number, the number of its primary thread and the places of its windows.
+fn kind_of(number: u16, primary: u16, places: &[u16; 2 * THREADS]) -> Kind {
     match number {
         1 => Kind::Contradiction,
-        2 => Kind::Flush,
+        2 => Kind::Flush(Windows {
+            primary: primary - 1,
+            threads: std::array::from_fn(|thread| window_of(places[2 * thread], places[2 * thread + 1])),
+        }),
         _ => unreachable!("no such kind: {number}"),
     }
+}
+
+/// The window of a thread by its places; 0 and 0 are none.
+fn window_of(first: u16, last: u16) -> Option<Window> {
+    (first != 0 || last != 0).then_some(Window { first, last })
 }
 
 /// The event of a record's numbers; `None` if the kind is no number from 1 to 11.

@@ -22,6 +22,7 @@ fn the_judges_agree() {
     assert!(counts.robust > TRACES / 5 && counts.contradiction + counts.flush > TRACES / 5);
     assert!(counts.robust_with_stores > TRACES / 20 && counts.contradiction > 0 && counts.flush > 0);
     assert!(counts.refused[1..].iter().all(|&number| number > 0), "{:?}", counts.refused);
+    assert!(counts.primary_without_window > TRACES / 200 && counts.several_windows > TRACES / 200);
     assert!(counts.all_choices > TRACES / 5 && counts.all_choices_broken > 0);
     assert!(counts.all_pairs > 0 && counts.queries > 0 && counts.wrong_buffers > 0 && counts.records > 0);
 }
@@ -69,7 +70,7 @@ fn limits_are_met_from_both_sides() {
             }
             Ok(Verdict::Broken { events, kind, .. }) => {
                 most_events = most_events.max(events);
-                kinds.insert(kind == Kind::Flush);
+                kinds.insert(kind == Kind::Contradiction);
             }
         }
     }

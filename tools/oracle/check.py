@@ -1,18 +1,18 @@
 """Random checks of the oracle itself: `python3 check.py SEED COUNT [switches of generate.py]`.
 
-For each generated session it checks what document 01 and the demands say of all traces, and counts what was met.
+For each generated session it checks what the documents and the demands say of all traces, and counts what was met.
 """
 
 from __future__ import annotations
 
-import sys
 from collections import Counter
-from random import Random
+from dataclasses import replace
+from typing import Optional
 
 import generate
 import oracle
 import sessions
-from oracle import Answer, Broken, Event, Machine, Refused, Robust
+from oracle import Answer, Broken, Event, Machine, Refused, Robust, Window
 
 
 def read_events(data: bytes) -> list[Event]:
@@ -47,7 +47,13 @@ def check_neutral(data: bytes, answer: Answer, kinds: tuple[int, ...]) -> None:
         assert other == Robust(max(new.values()), answer.cut, answer.share)
     else:
         assert other == Broken(max(new.values()), new[answer.load], new[answer.missing], new[answer.observed],
-                               answer.kind)
+                               answer.kind, answer.primary, carried(answer.windows, new))
+
+
+def carried(windows: tuple[Optional[Window], ...], new: dict[int, int]) -> tuple[Optional[Window], ...]:
+    """The windows of a trace without some records: the last place is an issue, the first is one past the record that
+    brought the missing store."""
+    return tuple(ends and (new[ends[0] - 1] + 1, new[ends[1]]) for ends in windows)
 
 
 def check_prefixes(data: bytes, answer: Answer) -> None:
@@ -57,7 +63,26 @@ def check_prefixes(data: bytes, answer: Answer) -> None:
         broken = isinstance(answer, Broken) and last >= answer.load
         assert isinstance(short, Broken) == broken
         if broken:
-            assert short == Broken(last, answer.load, answer.missing, answer.observed, answer.kind)
+            assert short == replace(answer, events=last)
+
+
+def check_windows(data: bytes, answer: Broken) -> None:
+    """ "The thread of q must always have one. Contradictions have none." Every place of a window is a record of the
+    stretch, behind one that brought p to the thread, and at or in front of a store of it that is q or happens before q. """
+    if answer.kind == "contradiction":
+        assert answer.primary is None and answer.windows == ()
+        return
+    events, m, p, q = read_events(data), oracle.run(data), answer.missing, answer.observed
+    assert answer.primary == m.stores[p].thread and answer.windows[m.stores[q].thread] is not None
+    assert all(event.kind != oracle.CRASH for event in events[p:q + 1])
+    for thread, ends in enumerate(answer.windows):
+        if ends is not None:
+            first, last = ends
+            brought = events[first - 1]
+            assert p < first <= last <= q
+            assert events[last].kind == oracle.ISSUE and events[last].get("thread") == brought.get("thread") == thread
+            assert oracle.order(data, last, q) in ("same", "before")
+            assert first - 1 == p or oracle.order(data, p, brought.get("source")) in ("same", "before")
 
 
 def check_order(data: bytes, m: Machine) -> None:
@@ -108,12 +133,27 @@ def features(m: Machine, answer: Answer) -> list[str]:
         found += ["broken: pair of two threads"] if missing.thread != observed.thread else []
         found += ["broken: pair of a later stretch"] if missing.stretch > 1 else []
         found += ["broken: events after load"] if answer.load < answer.events else []
+        found += window_features(m, answer) if answer.kind == "flush" else []
     dropped = [s for s in m.stores.values() if s.commit is None and s.stretch < m.stretch]
     found += ["dropped stores"] if dropped else []
     found += ["dropped store forbidden"] if any(oracle.forbids(m, load) & {s.event for s in dropped}
                                                 for load in counted) else []
     found += ["crossing load in a skip"] if any(load.crossing and not load.counted for load in m.loads) else []
     return found + [f"crashes {m.stretch - 1}"]
+
+
+def window_features(m: Machine, answer: Broken) -> list[str]:
+    """Names of what the windows of a flush fault show."""
+    before, pair = oracle.happens_before(m), {m.stores[answer.missing].thread, m.stores[answer.observed].thread}
+    found = ["windows: primary has none"] if answer.windows[answer.primary] is None else []
+    found += ["windows: longer than a record"] if any(ends and ends[0] < ends[1] for ends in answer.windows) else []
+    for thread in set(range(m.threads)) - pair:
+        first = oracle.first_place(m, before, answer.missing, thread)
+        last = oracle.last_place(m, before, answer.observed, thread)
+        kind = ("neither end" if first is None and last is None else "no last place" if last is None else
+                "no first place" if first is None else "out of order" if first > last else "a window")
+        found.append("windows: third thread, " + kind)
+    return found
 
 
 def check(data: bytes, answer: Answer, counts: Counter) -> None:
@@ -130,6 +170,8 @@ def check(data: bytes, answer: Answer, counts: Counter) -> None:
     check_neutral(data, answer, (oracle.CLFLUSH, oracle.CLFLUSHOPT))
     check_neutral(data, answer, (oracle.CLFLUSH, oracle.CLFLUSHOPT, oracle.SFENCE, oracle.MFENCE))
     check_prefixes(data, answer)
+    if isinstance(answer, Broken):
+        check_windows(data, answer)
     check_order(data, m)
 
 

@@ -37,8 +37,8 @@ class Limits:
 MODES = ["strict", "strict", "weak", "weak", "torn", "torn", "late", "wild", "wild"]
 
 # Weights of the actions: in a part with stores, and in a part with mostly loads.
-STORING = {"issue": 6.0, "commit": 7.0, "load": 3.0, "relay": 3.0, "flush": 1.2, "fence": 0.7, "skip": 0.4,
-           "skipped": 0.6}
+STORING = {"issue": 6.0, "commit": 7.0, "load": 3.0, "relay": 3.0, "chain": 1.0, "flush": 1.2, "fence": 0.7,
+           "skip": 0.4, "skipped": 0.6}
 LOADING = {"issue": 0.8, "commit": 0.6, "load": 6.0, "recover": 3.0, "relay": 0.1, "flush": 0.6, "fence": 0.4,
            "skip": 0.5, "skipped": 0.6}
 
@@ -50,7 +50,8 @@ class Builder:
         """Draw the mode, the threads and the locations, and add the begin."""
         self.rng, self.limits = rng, limits
         self.mode = rng.choice(MODES)
-        self.storing = STORING | {"relay": rng.choice([9.0, 18.0] if self.mode == "torn" else [0.5, 3.0, 9.0])}
+        relays = rng.choice([9.0, 18.0] if self.mode == "torn" else [0.5, 3.0, 9.0])
+        self.storing = STORING | {"relay": relays, "chain": relays / 3}
         self.machine, self.events = Machine(), []
         self.image: dict[int, int] = {}  # location -> the store that a load after the crash sees
         self.relayed: list[tuple[int, int]] = []  # a store, and a store of a thread that loaded it before
@@ -130,8 +131,27 @@ class Builder:
             if not oracle.own_refusal(m, event):  # the store may come first and then be the source
                 self.add(event)
         self.relayed.append((source, max(m.stores)))
-        while m.queues[thread] and self.rng.random() < 0.8:
+        self.commit_some(thread)
+
+    def commit_some(self, thread: int) -> None:
+        """Commit stores of a thread, mostly all of them."""
+        while self.machine.queues[thread] and self.rng.random() < 0.8:
             self.add(Event(oracle.COMMIT, (thread,)))
+
+    def chain(self) -> None:
+        """A relay, and a relay of what it stored: what the first one loaded came to the last one by two steps."""
+        known = len(self.relayed)
+        self.relay()
+        if len(self.relayed) == known:
+            return
+        source, middle = self.relayed[-1]
+        further = [(thread, location) for thread, location, stored in self.relays() if stored == middle]
+        if further:
+            thread, location = self.rng.choice(further)
+            self.load(location, thread)
+            self.add(Event(oracle.ISSUE, (thread, self.rng.choice(self.used))))
+            self.relayed.append((source, max(self.machine.stores)))
+            self.commit_some(thread)
 
     def flush(self) -> None:
         """Either kind of flush."""
@@ -349,7 +369,8 @@ def damaged(rng: Random, limits: Limits) -> bytes:
 
 # ---- The stream of sessions ----
 
-WISHES = ["any"] * 2 + ["robust"] * 4 + ["flush"] * 3 + ["contradiction"] * 2 + ["two threads"] * 2 + ["later stretch"]
+WISHES = (["any"] * 2 + ["robust"] * 4 + ["flush"] * 3 + ["contradiction"] * 2 + ["two threads"] * 2
+          + ["later stretch"] + ["third thread"])
 
 
 def labels(data: bytes) -> set[str]:
@@ -357,8 +378,10 @@ def labels(data: bytes) -> set[str]:
     m, answer = oracle.run(data), oracle.judge_closure(data)
     if isinstance(answer, Broken):
         missing, observed = m.stores[answer.missing], m.stores[answer.observed]
+        with_window = {thread for thread, ends in enumerate(answer.windows) if ends is not None}
         return {"any", answer.kind, "two threads" if missing.thread != observed.thread else "one thread",
-                "later stretch" if missing.stretch > 1 else "first stretch"}
+                "later stretch" if missing.stretch > 1 else "first stretch",
+                "third thread" if with_window - {missing.thread, observed.thread} else "no third thread"}
     return {"any", "robust"} if any(load.counted and load.stretch > 1 for load in m.loads) else {"any"}
 
 

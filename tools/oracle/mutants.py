@@ -8,7 +8,8 @@ from __future__ import annotations
 
 from collections import deque
 from contextlib import contextmanager
-from typing import Callable, Iterator
+from dataclasses import replace
+from typing import Callable, Iterator, Optional
 
 import generate
 import oracle
@@ -16,7 +17,8 @@ from oracle import Event, Load, Machine, Store
 
 TRUE = {name: getattr(oracle, name) for name in ("directly_before", "happens_before", "forbids", "observes",
                                                 "legal_sources", "take_effect", "own_refusal", "smallest_pair",
-                                                "robust_answer")}
+                                                "robust_answer", "broken_answer", "first_place", "last_place",
+                                                "window")}
 
 
 def loaded(m: Machine, q: Store, when: int) -> set[int]:
@@ -180,6 +182,65 @@ def greatest_share(m: Machine, choice: oracle.Choice) -> oracle.Robust:
     return oracle.Robust(true.events, true.cut, 100 * sum(choice) // issued if issued else 100)
 
 
+def first_at_missing(m: Machine, before: dict[int, set[int]], p: int, thread: int) -> Optional[int]:
+    """The first place is p in p's thread, and not behind it."""
+    return p if thread == m.stores[p].thread else TRUE["first_place"](m, before, p, thread)
+
+
+def first_at_load(m: Machine, before: dict[int, set[int]], p: int, thread: int) -> Optional[int]:
+    """The first place is the load that brings p, and not one past it."""
+    true = TRUE["first_place"](m, before, p, thread)
+    return true if true is None or thread == m.stores[p].thread else true - 1
+
+
+def first_load(m: Machine, before: dict[int, set[int]], p: int, thread: int) -> Optional[int]:
+    """The first load of the stretch, whether it brings p or not."""
+    loads = [load.event for load in m.loads if load.thread == thread and load.stretch == m.stores[p].stretch]
+    return p + 1 if thread == m.stores[p].thread else min(loads) + 1 if loads else None
+
+
+def last_load(m: Machine, before: dict[int, set[int]], p: int, thread: int) -> Optional[int]:
+    """The last load that brings p, and not the first."""
+    loads = [load.event for load in m.loads if load.thread == thread and load.stretch == m.stores[p].stretch
+             and (load.source == p or p in before.get(load.source, set()))]
+    return p + 1 if thread == m.stores[p].thread else max(loads) + 1 if loads else None
+
+
+def only_from_missing(m: Machine, before: dict[int, set[int]], p: int, thread: int) -> Optional[int]:
+    """Only a load from p itself brings it."""
+    loads = [load.event for load in m.loads if load.thread == thread and load.source == p
+             and load.stretch == m.stores[p].stretch]
+    return p + 1 if thread == m.stores[p].thread else min(loads) + 1 if loads else None
+
+
+def last_issue(m: Machine, before: dict[int, set[int]], q: int, thread: int) -> Optional[int]:
+    """The last issue of the stretch, whether it happens before q or not."""
+    return max(oracle.issued_at(m, (m.stores[q].stretch, thread)), default=None)
+
+
+def last_at_commit(m: Machine, before: dict[int, set[int]], q: int, thread: int) -> Optional[int]:
+    """The last place is the commit of the last store, and not its issue."""
+    true = TRUE["last_place"](m, before, q, thread)
+    return None if true is None else m.stores[true].commit
+
+
+def out_of_order(m: Machine, before: dict[int, set[int]], p: int, q: int, thread: int) -> Optional[oracle.Window]:
+    """Ends that are out of order are a window."""
+    first, last = oracle.first_place(m, before, p, thread), oracle.last_place(m, before, q, thread)
+    return None if first is None or last is None else (first, last)
+
+
+def contradiction_windows(m: Machine, load: int, p: int, q: int) -> oracle.Broken:
+    """Contradictions have windows too."""
+    return replace(TRUE["broken_answer"](m, load, p, q), primary=m.stores[p].thread, windows=oracle.windows(m, p, q))
+
+
+def primary_of_observed(m: Machine, load: int, p: int, q: int) -> oracle.Broken:
+    """q's thread is marked primary."""
+    true = TRUE["broken_answer"](m, load, p, q)
+    return true if p == q else replace(true, primary=m.stores[q].thread)
+
+
 MUTANTS: dict[str, dict[str, Callable]] = {
     "no order by loads": {"directly_before": no_loads},
     "no order by issue": {"directly_before": no_issue_order},
@@ -205,6 +266,16 @@ MUTANTS: dict[str, dict[str, Callable]] = {
     "own queue not seen": {"legal_sources": own_queue_unseen},
     "dropped stores as source": {"legal_sources": dropped_allowed},
     "share of issued stores": {"robust_answer": greatest_share},
+    "first place at missing": {"first_place": first_at_missing},
+    "first place at the load": {"first_place": first_at_load},
+    "first place behind the first load": {"first_place": first_load},
+    "first place behind the last load": {"first_place": last_load},
+    "only loads from missing bring it": {"first_place": only_from_missing},
+    "last place at the last issue": {"last_place": last_issue},
+    "last place at the commit": {"last_place": last_at_commit},
+    "windows out of order": {"window": out_of_order},
+    "windows for contradictions": {"broken_answer": contradiction_windows},
+    "observed's thread primary": {"broken_answer": primary_of_observed},
 }
 
 

@@ -2,7 +2,7 @@
 
 Every function states one sentence of document 01 ("A judge of store order across crashes") and computes it in the
 most direct way: queues are queues, happens-before is a graph search, and the verdict comes from trying all choices.
-Refusals 14 and 15 (sizes of lent buffers) are not treated here.
+The windows of a flush fault are document 02's, job 1. Refusals 14 and 15 (sizes of lent buffers) are not treated here.
 """
 
 from __future__ import annotations
@@ -27,15 +27,21 @@ class Robust:
     share: int
 
 
+Window = tuple[int, int]  # the first and the last record in front of which a thread may flush
+
+
 @dataclass(frozen=True)
 class Broken:
-    """ "Broken: no closed choice does." `kind` is "contradiction" or "flush". """
+    """ "Broken: no closed choice does." `kind` is "contradiction" or "flush". A flush fault has a primary thread, and
+    for each of threads 0 to 7 its window or None. "Contradictions have none." """
 
     events: int
     load: int
     missing: int
     observed: int
     kind: str
+    primary: Optional[int] = None
+    windows: tuple[Optional[Window], ...] = ()
 
 
 Answer = Union[Refused, Robust, Broken]
@@ -310,6 +316,36 @@ def explaining_choices(m: Machine, committed_only: bool = False) -> Iterator[Cho
                 yield choice
 
 
+# ---- Where the flush may go (document 02, job 1) ----
+
+def first_place(m: Machine, before: dict[int, set[int]], p: int, thread: int) -> Optional[int]:
+    """ "the first place is p + 1 in p's thread, elsewhere one past t's first load in that stretch whose source is p or
+    happens after p." """
+    if thread == m.stores[p].thread:
+        return p + 1
+    sources = {p} | {s for s in m.stores if p in before[s]}
+    loads = [load.event for load in m.loads if load.thread == thread and load.stretch == m.stores[p].stretch
+             and load.source in sources]
+    return min(loads) + 1 if loads else None
+
+
+def last_place(m: Machine, before: dict[int, set[int]], q: int, thread: int) -> Optional[int]:
+    """ "The last place is t's last issue that is q or happens before q." """
+    return max((s for s in before[q] | {q} if m.stores[s].thread == thread), default=None)
+
+
+def window(m: Machine, before: dict[int, set[int]], p: int, q: int, thread: int) -> Optional[Window]:
+    """ "Each thread gets its window, or none if either end is lacking or they are out of order" """
+    first, last = first_place(m, before, p, thread), last_place(m, before, q, thread)
+    return None if first is None or last is None or first > last else (first, last)
+
+
+def windows(m: Machine, p: int, q: int) -> tuple[Optional[Window], ...]:
+    """The windows of threads 0 to 7, for missing p and observed q."""
+    before = happens_before(m)
+    return tuple(window(m, before, p, q, thread) for thread in range(MAX_THREADS))
+
+
 # ---- The verdict ----
 
 def least(choices: list[Choice]) -> Choice:
@@ -340,9 +376,11 @@ def smallest_pair(m: Machine, loads: list[Load], before: dict[int, set[int]],
     return min(((p, q) for p in forbidden for q in observed if p == q or p in before[q]), default=None)
 
 
-def broken_answer(events: int, load: int, pair: tuple[int, int]) -> Broken:
-    """ 'Kind is "contradiction" if they are equal, else "flush".' """
-    return Broken(events, load, pair[0], pair[1], "contradiction" if pair[0] == pair[1] else "flush")
+def broken_answer(m: Machine, load: int, p: int, q: int) -> Broken:
+    """ 'Kind is "contradiction" if they are equal, else "flush".' "p's thread is marked primary." """
+    if p == q:
+        return Broken(m.events, load, p, q, "contradiction")
+    return Broken(m.events, load, p, q, "flush", m.stores[p].thread, windows(m, p, q))
 
 
 def judge(data: bytes) -> Answer:
@@ -364,7 +402,7 @@ def judge(data: bytes) -> Answer:
     pair = smallest_pair(short, loads, before, False)
     assert pair is not None, "broken without a pair"
     assert pair == smallest_pair(short, loads, before, True), "the dropped stores changed the pair"
-    return broken_answer(m.events, load, pair)
+    return broken_answer(m, load, *pair)
 
 
 def judge_closure(data: bytes) -> Answer:
@@ -377,7 +415,7 @@ def judge_closure(data: bytes) -> Answer:
     for many, load in enumerate(counted, start=1):
         pair = smallest_pair(m, counted[:many], before, False)
         if pair is not None:
-            return broken_answer(m.events, load.event, pair)
+            return broken_answer(m, load.event, *pair)
     inside = {p for load in counted for q in observes(load) for p in before[q] | {q}}
     return robust_answer(m, tuple(sum(p in inside for p in issued_at(m, place)) for place in places(m)))
 
@@ -402,3 +440,18 @@ def verdict_lines(data: bytes, judging=judge) -> list[str]:
     m = run(data)
     finished, threads = (0, 0) if isinstance(m, Refused) else (m.stretch - 1, m.threads)
     return answer_lines(judging(data), finished, threads)
+
+
+def window_lines(answer: Answer) -> list[str]:
+    """The lines of a flush fault's windows, as the program `sessions` prints them behind the verdict's: the primary
+    thread, and the first and the last place of each thread that has a window. """
+    if not isinstance(answer, Broken) or answer.primary is None:
+        return []
+    there = [(thread, *ends) for thread, ends in enumerate(answer.windows) if ends is not None]
+    return [f"primary {answer.primary}"] + [f"window {thread} {first} {last}" for thread, first, last in there]
+
+
+def lines_with_windows(data: bytes, judging=judge) -> list[str]:
+    """The lines of the program `verdict`, and behind them those of the windows."""
+    answer = judging(data)
+    return verdict_lines(data, lambda _: answer) + window_lines(answer)

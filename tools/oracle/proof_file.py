@@ -2,10 +2,11 @@
 
 python3 proof_file.py cases > ../../crates/model/proofs/Cases.antt
 python3 proof_file.py trade > ../../crates/model/proofs/CasesOfTrade.antt
+python3 proof_file.py windows > ../../crates/model/proofs/CasesOfWindows.antt
 python3 proof_file.py random SEED COUNT > ../../crates/model/proofs/RandomSessions.antt
 
-The expected answers of the cases and of the errors of the trade are those that sessions.py states by hand from
-document 01; those of the random sessions come from the brute force of oracle.py.
+The expected answers of the cases, of the errors of the trade and of the windows are those that sessions.py states by
+hand from documents 01 and 02; those of the random sessions come from the brute force of oracle.py.
 """
 
 from __future__ import annotations
@@ -17,11 +18,15 @@ from typing import Iterable
 import generate
 import oracle
 from oracle import Event, Refused
-from sessions import CASES, ERRORS
+from sessions import CASES, ERRORS, WINDOWS
 
 CONSTRUCTORS = {oracle.BEGIN: "Begin", oracle.ISSUE: "Issue", oracle.COMMIT: "Commit", oracle.LOAD: "Load",
                 oracle.CLFLUSH: "Clflush", oracle.CLFLUSHOPT: "Clwb", oracle.SFENCE: "Sfence", oracle.MFENCE: "Mfence",
                 oracle.CRASH: "Crash", oracle.SKIP_ON: "SkipOn", oracle.SKIP_OFF: "SkipOff"}
+
+LISTS = {"cases": CASES, "trade": ERRORS, "windows": WINDOWS}
+THEOREMS = {"cases": "cases-1-to-11", "trade": "errors-of-the-trade", "windows": "windows-as-worked",
+            "random": "random-sessions"}
 
 HEADERS = {
     "cases": """\
@@ -32,6 +37,10 @@ HEADERS = {
 -- Document 01, "Errors the trade has made": a session for each that has no case of its own, and for rules that no case
 -- needs. The definitions give their bytes the answers that follow from document 01, and the cut buffers. Shown together
 -- as one list, by computation. Made by tools/oracle/proof_file.py.""",
+    "windows": """\
+-- Document 02, job 1, "Where the flush may go": a session for each thing that moves a place or takes a window away. The
+-- definitions give their bytes the answers that follow from document 02, and the cut buffers. Shown together as one
+-- list, by computation. Made by tools/oracle/proof_file.py.""",
     "random": """\
 -- Random sessions: the definitions give their bytes the answers of an independent brute force over all choices
 -- (tools/oracle). Shown together as one list, by computation.
@@ -53,11 +62,12 @@ use Rattle.model.specs.Choice.{finished}
 use Rattle.model.specs.Clocks.{seen, clock, vc}
 use Rattle.model.specs.Verdict.{forbids?, observes?, forbidden?, observed?, pair?, missing?, bad?, closure}
 use Rattle.model.specs.Verdict.{loadOf, missingOf, observedOf, rulingOf}
+use Rattle.model.specs.Windows.{%s}
 use Rattle.model.specs.Answers.{%s}
-use Rattle.model.specs.Answers.{tabulate, cutOf, sum, shareOf}
+use Rattle.model.specs.Answers.{tabulate, cutOf, sum, shareOf, faultOf}
 use Rattle.model.specs.Reading.{encode}
 use Rattle.model.proofs.Encoding.{readingEvents}
-use Rattle.model.proofs.Sessions.{lent, zeros, Outcome, outcomeOf, outcomeOfEvents, outcome-all}"""
+use Rattle.model.proofs.Sessions.{lent, zeros, padded, Outcome, outcomeOf, outcomeOfEvents, outcome-all}"""
 
 THEOREM = """encoded : map encode traces ≡ sessions
 unfolding traces sessions encode recordOf rowOf
@@ -66,7 +76,8 @@ encoded = refl
 computed : map outcomeOfEvents traces ≡ answers
 unfolding traces answers readingEvents some last first firstFrom most stretch count committed commitOf waiting current
     sourceFits switched counted counting any answer rules finished seen clock vc forbids? observes? forbidden?
-    observed? pair? missing? bad? closure loadOf missingOf observedOf rulingOf tabulate cutOf sum shareOf rowOf
+    observed? pair? missing? bad? closure loadOf missingOf observedOf rulingOf behind lastCovered windowOf faultOf
+    tabulate cutOf sum shareOf rowOf
 computed = refl
 
 pub %s : map outcomeOf sessions ≡ answers
@@ -91,10 +102,10 @@ def imported(names: list[str]) -> list[str]:
     return [f"use Rattle.record.specs.declared.events.Event.the-variants.{{{', '.join(group)}}}" for group in groups]
 
 
-def answered(answers: Iterable[str]) -> list[str]:
-    """The constructors of `Answer` and `Fault` that the answers name."""
+def named(names: tuple[str, ...], answers: Iterable[str]) -> str:
+    """Those of the names that stand in the answers, as they are imported."""
     words = set(re.findall(r"\w+", " ".join(answers)))
-    return [name for name in ("refused", "robust", "broken", "contradiction", "flush") if name in words]
+    return ", ".join(name for name in names if name in words)
 
 
 def wrapped(items: Iterable[str], indent: str) -> str:
@@ -120,16 +131,30 @@ def shown_event(event: Event) -> str:
 
 
 def shown_answer(lines: list[str]) -> str:
-    """The lines of `verdict` as an antt record of answer and cut buffer."""
+    """The lines of `verdict`, and of the windows, as an antt record of answer and cut buffer."""
     words = [line.split() for line in lines]
     if words[0][0] == "refused":
-        return f"record {{ answer = refused {words[0][1]} {words[0][2]}; cut = lent }}"
+        return shown_outcome(f"refused {words[0][1]} {words[0][2]}", "lent")
     events = words[0][1]
     if words[1][1] == "broken":
         load, missing, observed, kind = (word[1] for word in words[2:6])
-        return f"record {{ answer = broken {events} {load} {missing} {observed} {kind}; cut = lent }}"
+        fault = shown_windows(words[6][1], words[7:]) if kind == "flush" else kind
+        return shown_outcome(f"broken {events} {load} {missing} {observed} {fault}", "lent")
     cut = shown_cut([[int(number) for number in word[2:]] for word in words if word[0] == "cut"])
-    return f"record {{ answer = robust {events} {words[-1][1]}; cut = {cut} }}"
+    return shown_outcome(f"robust {events} {words[-1][1]}", cut)
+
+
+def shown_outcome(answer: str, cut: str) -> str:
+    """An antt record of answer and cut buffer, in one line if it fits."""
+    line = f"record {{ answer = {answer}; cut = {cut} }}"
+    return line if len(line) <= 110 else f"record {{\n      answer = {answer};\n      cut = {cut};\n    }}"
+
+
+def shown_windows(primary: str, lines: list[list[str]]) -> str:
+    """A flush fault: its primary thread, and the windows of the threads up to the last that has one."""
+    ends = {int(thread): f"between {first} {last}" for _, thread, first, last in lines}
+    listed = [ends.get(thread, "none") for thread in range(max(ends) + 1)]
+    return f"(flush {primary} (padded ({' ∷ '.join(listed + ['[]'])})))"
 
 
 def shown_cut(rows: list[list[int]]) -> str:
@@ -150,12 +175,15 @@ def proof_file(which: str, listed: list[tuple[str, bytes, list[str]]]) -> str:
     """The whole file."""
     kinds = {event.kind for _, data, _ in listed for event in events_of(data)}
     used = "\n".join(imported([CONSTRUCTORS[kind] for kind in sorted(kinds)]))
-    name = {"cases": "cases-1-to-11", "trade": "errors-of-the-trade", "random": "random-sessions"}[which]
+    name = THEOREMS[which]
     bytes_ = [(title, wrapped(map(shown_record, events_of(data)), "    ")) for title, data, _ in listed]
     events = [(title, wrapped(map(shown_event, events_of(data)), "    ")) for title, data, _ in listed]
     answers = [(title, shown_answer(lines)) for title, _, lines in listed]
+    entries = [entry for _, entry in answers]
+    windows = named(("none", "between"), entries) + ", behind, lastCovered, windowOf"
+    faults = named(("refused", "robust", "broken", "contradiction", "flush"), entries)
     return "\n\n".join([
-        HEADERS[which] + "\n" + IMPORTS % (used, ", ".join(answered(entry for _, entry in answers))),
+        HEADERS[which] + "\n" + IMPORTS % (used, windows, faults),
         "-- the bytes\n" + "pub " + table("sessions", "(List ℕ)", bytes_),
         "-- the events that they are the records of\n" + table("traces", "(List Event)", events),
         "-- the answers, and the cut buffers afterwards\n" + "pub " + table("answers", "Outcome", answers),
@@ -166,7 +194,7 @@ def random_sessions(seed: int, count: int) -> list[tuple[str, bytes, list[str]]]
     """Sessions that can be read whole, with the brute force's lines."""
     drawn = generate.generate(seed, 4 * count, generate.Limits())
     whole = [(data, answer) for data, answer in drawn if readable(data)][:count]
-    return [(f"session {number}", data, oracle.verdict_lines(data, lambda _: answer))
+    return [(f"session {number}", data, oracle.lines_with_windows(data, lambda _: answer))
             for number, (data, answer) in enumerate(whole, 1)]
 
 
@@ -184,9 +212,8 @@ def readable(data: bytes) -> bool:
 def main() -> None:
     """Print the file."""
     which = sys.argv[1]
-    if which in ("cases", "trade"):
-        listed = CASES if which == "cases" else ERRORS
-        print(proof_file(which, [(name, data, lines.split(" / ")) for name, data, lines in listed]), end="")
+    if which in LISTS:
+        print(proof_file(which, [(name, data, lines.split(" / ")) for name, data, lines in LISTS[which]]), end="")
     else:
         print(proof_file(which, random_sessions(int(sys.argv[2]), int(sys.argv[3]))), end="")
 

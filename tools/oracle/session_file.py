@@ -2,9 +2,9 @@
 
 python3 session_file.py ../../crates/sessions       # writes its files stdin and stdout
 
-The sessions of document 01 and their answers are those that sessions.py states by hand; those of the random sessions
-and of all their order queries come from the brute force of oracle.py. The answers 14 and 15, and how many numbers of
-each buffer are 0 afterwards, are worked out here from document 01's sentences.
+The sessions of documents 01 and 02 and their answers are those that sessions.py states by hand; those of the random
+sessions and of all their order queries come from the brute force of oracle.py. The answers 14 and 15, and how many
+numbers of each buffer are 0 afterwards, are worked out here from document 01's sentences.
 """
 
 from __future__ import annotations
@@ -15,7 +15,7 @@ from pathlib import Path
 import generate
 import oracle
 from oracle import Refused
-from sessions import CASES, EDGES, ERRORS, MORE_REFUSALS, ORDERS, REFUSALS, session, show
+from sessions import CASES, EDGES, ERRORS, MORE_REFUSALS, ORDERS, REFUSALS, WINDOWS, show, without_windows
 
 LONGEST = 32767  # the program's room for a trace; the program `verdict` is run on longer input by tests/verdict
 SEED = 2027
@@ -30,17 +30,19 @@ def lines_of(answer: object) -> list[str]:
     return [f"refused {answer.number} {answer.event}"] if isinstance(answer, Refused) else [str(answer)]
 
 
-def judged(comment: str, data: bytes, lines: list[str]) -> list[Pair]:
-    """A comment and a trace to judge, each with what is printed for it."""
-    return [("# " + comment, ["# " + comment]), ("j" + data.hex(), lines)]
+def judged(letter: str, comment: str, data: bytes, lines: list[str]) -> list[Pair]:
+    """A comment and a trace to judge, each with what is printed for it; letter w also has the windows printed."""
+    return [("# " + comment, ["# " + comment]), (letter + data.hex(), lines)]
 
 
 def listed() -> list[Pair]:
-    """Document 01's sessions, as sessions.py has them."""
+    """The sessions of documents 01 and 02, as sessions.py has them."""
     pairs: list[Pair] = []
     for name, data, expected in CASES + REFUSALS + MORE_REFUSALS + EDGES + ERRORS:
         if len(data) <= LONGEST:
-            pairs += judged(name, data, expected.split(" / "))
+            pairs += judged("j", name, data, without_windows(expected))
+    for name, data, expected in WINDOWS:
+        pairs += judged("w", name, data, expected.split(" / "))
     for name, data, first, second, answer in ORDERS:
         pairs.append((f"# order: {name}", [f"# order: {name}"]))
         pairs.append((f"o{first:04x}{second:04x}{data.hex()}", lines_of(answer)))
@@ -51,7 +53,7 @@ def with_buffers() -> list[Pair]:
     """ "14, 15; then per record"; "refusals 14 and 15 touch nothing"; a refusal and broken leave the cut buffer as lent;
     afterwards the work area's "first 32,768 are 0 and the rest untouched". No number of a buffer is 0 before. """
     robust, broken, refused = CASES[1][1], CASES[0][1], CASES[7][1]
-    lines = {data: expected.split(" / ") for _, data, expected in CASES}
+    lines = {data: without_windows(expected) for _, data, expected in CASES}
     cleared, kept = 32768, 0
     cut_of_robust = 56 - 1
     table = [
@@ -81,7 +83,7 @@ def random_judged() -> list[Pair]:
     """Random sessions: robust, broken and refused."""
     pairs: list[Pair] = []
     for data, answer in generate.generate(SEED, RANDOM_JUDGED, generate.Limits()):
-        pairs += judged(show(data), data, oracle.verdict_lines(data, lambda _, known=answer: known))
+        pairs += judged("w", show(data), data, oracle.lines_with_windows(data, lambda _, known=answer: known))
     return pairs
 
 

@@ -1,4 +1,4 @@
-"""Sessions of document 01 with their expected answers, written down by hand from document 01.
+"""Sessions of documents 01 and 02 with their expected answers, written down by hand from these documents.
 
 Notation, separated by blanks (T thread, L location, S source):
 I0.1 issue, C0 commit, L0.1<3 load from 3, F0.1 clflush, O0.1 clflushopt or clwb, SF0 sfence, MF0 mfence, X crash,
@@ -72,16 +72,16 @@ B = raw("08 00 01 00 01 00 01 00 02 00")
 CASE_1 = "I0.0 C0 I0.1 C0 I0.0 C0 I0.1 C0 X"
 CASE_11 = "I0.0 I1.0 C1 C0 X"
 
-# Cases 1 to 11: name, trace, the lines of `verdict` joined by ' / '.
+# Cases 1 to 11: name, trace, the lines of `verdict` joined by ' / ', behind them those of a flush fault's windows.
 CASES: list[tuple[str, bytes, str]] = [
     ("case 1", session(CASE_1 + " L0.0<1 L0.1<7"),
-     "events 11 / verdict broken / load 11 / missing 5 / observed 7 / kind flush"),
+     "events 11 / verdict broken / load 11 / missing 5 / observed 7 / kind flush / primary 0 / window 0 6 7"),
     ("case 2", session("I0.0 C0 I1.1 C1 X L0.0<0 L0.1<3"), "events 7 / verdict robust / cut 1 0 1 / share 50"),
     ("case 3", session(CASE_1 + " L0.0<5 L0.1<7"), "events 11 / verdict robust / cut 1 4 / share 100"),
     ("case 4", session("I0.0 C0 I0.1 C0 X L0.0<0 I0.1 C0 X L0.1<3"),
-     "events 10 / verdict broken / load 10 / missing 1 / observed 3 / kind flush"),
+     "events 10 / verdict broken / load 10 / missing 1 / observed 3 / kind flush / primary 0 / window 0 2 3"),
     ("case 5", session("I0.0 C0 L1.0<1 I1.1 C1 X L0.0<0 L0.1<4"),
-     "events 8 / verdict broken / load 8 / missing 1 / observed 4 / kind flush"),
+     "events 8 / verdict broken / load 8 / missing 1 / observed 4 / kind flush / primary 0 / window 1 4 4"),
     ("case 6", session("I0.0 C0 I1.1 L1.0<1 C1 X L0.0<0 L0.1<3"),
      "events 8 / verdict robust / cut 1 0 1 / share 50"),
     ("case 7", session("I0.0 C0 X L0.0<1 L0.0<0"),
@@ -193,21 +193,22 @@ ERRORS: list[tuple[str, bytes, str]] = [
      session("I0.0 C0 L1.0<1 X I1.1 C1 I0.0 C0 X L0.1<5 L0.0<1"),
      "events 11 / verdict robust / cut 1 1 0 / cut 2 0 1 / share 66"),
     ("a read of source 0 taken as free", session("I0.0 C0 I0.1 C0 X L0.0<0 L0.1<3"),
-     "events 7 / verdict broken / load 7 / missing 1 / observed 3 / kind flush"),
+     "events 7 / verdict broken / load 7 / missing 1 / observed 3 / kind flush / primary 0 / window 0 2 3"),
     ("loads in a skip still order", session("I0.0 C0 SKIP1 L1.0<1 I1.1 C1 X L0.0<0 L0.1<5"),
-     "events 9 / verdict broken / load 9 / missing 1 / observed 5 / kind flush"),
+     "events 9 / verdict broken / load 9 / missing 1 / observed 5 / kind flush / primary 0 / window 1 5 5"),
     ("a chain over three threads", session("I0.0 C0 L1.0<1 I1.1 C1 L2.1<4 I2.2 C2 X L0.0<0 L0.2<7", locations=3),
-     "events 11 / verdict broken / load 11 / missing 1 / observed 7 / kind flush"),
+     "events 11 / verdict broken / load 11 / missing 1 / observed 7 / kind flush / primary 0 / window 1 4 4"
+     " / window 2 7 7"),
     ("a waiting store stays out of the share", session("I0.0 C0 I0.1 X L0.0<1 I0.1 C0"),
      "events 7 / verdict robust / cut 1 1 / share 100"),
     ("share is rounded down", session("I0.0 C0 I0.0 C0 I0.0 C0 X L0.0<3"), "events 8 / verdict robust / cut 1 2 /"
      " share 66"),
     ("smallest missing goes before smallest observed",
      session("I0.0 C0 I1.0 C1 I1.1 C1 I0.2 C0 X L0.1<5 L0.2<7 L0.0<0", locations=3),
-     "events 12 / verdict broken / load 12 / missing 1 / observed 7 / kind flush"),
+     "events 12 / verdict broken / load 12 / missing 1 / observed 7 / kind flush / primary 0 / window 0 2 7"),
     ("every load before the issue orders",
      session("I0.0 C0 I1.1 C1 L2.0<1 L2.1<3 I2.2 C2 X L0.0<0 L0.2<7", locations=3),
-     "events 11 / verdict broken / load 11 / missing 1 / observed 7 / kind flush"),
+     "events 11 / verdict broken / load 11 / missing 1 / observed 7 / kind flush / primary 0 / window 2 6 7"),
     ("a skip is a matter of its own thread", session("I0.0 C0 X SKIP1 L0.0<1 L0.0<0"),
      "events 6 / verdict broken / load 6 / missing 1 / observed 1 / kind contradiction"),
     ("a dropped store in between changes nothing", session("I0.0 C0 X I0.0 X L0.0<1"),
@@ -218,6 +219,73 @@ ERRORS: list[tuple[str, bytes, str]] = [
      "events 6 / verdict robust / cut 1 0 0 / share 0"),
     ("a load of the first stretch forbids nothing", session("L0.0<0 I0.0 C0 X L0.0<2"),
      "events 5 / verdict robust / cut 1 1 / share 100"),
+]
+
+# Document 02, job 1, "Where the flush may go": what the session shows, trace, lines as above. Missing and observed
+# stand on two cache lines: their locations divided by 8 differ.
+BROUGHT = "I0.0 C0 L1.0<1 I1.8 C1 X"
+WINDOWS: list[tuple[str, bytes, str]] = [
+    ("the thread that loaded the missing store has a window, the primary one, with no later store, has none",
+     session(BROUGHT + " L0.0<0 L0.8<4", locations=9),
+     "events 8 / verdict broken / load 8 / missing 1 / observed 4 / kind flush / primary 0 / window 1 4 4"),
+    ("case 1 on two lines: both stores in one thread, the window goes from missing + 1 to observed",
+     session("I0.0 C0 I0.8 C0 I0.0 C0 I0.8 C0 X L0.0<1 L0.8<7", locations=9),
+     "events 11 / verdict broken / load 11 / missing 5 / observed 7 / kind flush / primary 0 / window 0 6 7"),
+    ("case 4 on two lines: a store of the same thread in a later stretch moves no place",
+     session("I0.0 C0 I0.8 C0 X L0.0<0 I0.8 C0 X L0.8<3", locations=9),
+     "events 10 / verdict broken / load 10 / missing 1 / observed 3 / kind flush / primary 0 / window 0 2 3"),
+    ("the first place is behind the issue of the missing store, though it is in front of its commit",
+     session("I0.0 I0.8 C0 C0 X L0.0<0 L0.8<2", locations=9),
+     "events 7 / verdict broken / load 7 / missing 1 / observed 2 / kind flush / primary 0 / window 0 2 2"),
+    ("a contradiction has no windows, though the missing store happens before an observed one too",
+     session(BROUGHT + " L0.0<1 L0.8<4 L0.0<0", locations=9),
+     "events 9 / verdict broken / load 9 / missing 1 / observed 1 / kind contradiction"),
+    ("a robust trace has no windows",
+     session(BROUGHT + " L0.0<1 L0.8<4", locations=9), "events 8 / verdict robust / cut 1 1 1 / share 100"),
+    ("a refused trace has no windows, though it was broken before", session(BROUGHT + " L0.0<0 L0.8<4 C0", locations=9),
+     "refused 10 9"),
+    ("every thread of a chain has a window: the missing store comes to it, and what it stores goes on to observed",
+     session("I0.0 C0 L1.0<1 I1.8 C1 L2.8<4 I2.9 C2 L3.9<7 I3.16 C3 X L0.0<0 L0.16<10", locations=17),
+     "events 14 / verdict broken / load 14 / missing 1 / observed 10 / kind flush / primary 0 / window 1 4 4"
+     " / window 2 7 7 / window 3 10 10"),
+    ("thread 2 loads the missing store, but no store of it happens before observed: no last place",
+     session("I0.0 C0 L2.0<1 I2.1 C2 L1.0<1 I1.8 C1 X L0.0<0 L0.8<7", locations=9),
+     "events 11 / verdict broken / load 11 / missing 1 / observed 7 / kind flush / primary 0 / window 1 7 7"),
+    ("a store of thread 2 happens before observed, but the missing store never comes to it: no first place",
+     session("I0.0 C0 I2.1 C2 L1.0<1 L1.1<3 I1.8 C1 X L0.0<0 L0.8<7", locations=9),
+     "events 11 / verdict broken / load 11 / missing 1 / observed 7 / kind flush / primary 0 / window 1 6 7"),
+    ("the missing store comes to thread 2 behind its last store that happens before observed: out of order",
+     session("I0.0 C0 I2.1 C2 L2.0<1 I2.2 C2 L1.1<3 L1.0<1 I1.8 C1 X L0.0<0 L0.8<10", locations=9),
+     "events 14 / verdict broken / load 14 / missing 1 / observed 10 / kind flush / primary 0 / window 1 10 10"),
+    ("a load from a store that happens before the missing one does not bring it",
+     session("I0.1 C0 L1.1<1 I0.0 C0 L1.0<4 I1.8 C1 X L0.0<0 L0.8<7", locations=9),
+     "events 11 / verdict broken / load 11 / missing 4 / observed 7 / kind flush / primary 0 / window 1 7 7"),
+    ("a load from a later store of the missing store's thread brings it, and that store is the primary's last place",
+     session("I0.0 C0 I0.1 C0 L1.1<3 SF1 I1.8 C1 X L0.0<0 L0.8<7", locations=9),
+     "events 11 / verdict broken / load 11 / missing 1 / observed 7 / kind flush / primary 0 / window 0 2 3"
+     " / window 1 6 7"),
+    ("a later store of the primary thread that does not happen before observed gives it no window",
+     session("I0.0 C0 L1.0<1 I0.1 C0 I1.8 C1 X L0.0<0 L0.8<6", locations=9),
+     "events 10 / verdict broken / load 10 / missing 1 / observed 6 / kind flush / primary 0 / window 1 4 6"),
+    ("of two loads from the missing store the first one counts",
+     session("I0.0 C0 L1.0<1 SF1 L1.0<1 I1.8 C1 X L0.0<0 L0.8<6", locations=9),
+     "events 10 / verdict broken / load 10 / missing 1 / observed 6 / kind flush / primary 0 / window 1 4 6"),
+    ("the last place is observed: neither its commit nor a later store of its thread, committed or not, moves it",
+     session("I0.0 C0 L1.0<1 I1.8 I1.0 C1 C1 I1.8 X L0.0<0 L0.8<4", locations=9),
+     "events 11 / verdict broken / load 11 / missing 1 / observed 4 / kind flush / primary 0 / window 1 4 4"),
+    ("the order comes back to the primary thread by way of another, and both have windows",
+     session("I0.0 C0 L1.0<1 I1.1 C1 L0.1<4 I0.8 C0 X L0.0<0 L0.8<7", locations=9),
+     "events 11 / verdict broken / load 11 / missing 1 / observed 7 / kind flush / primary 0 / window 0 2 7"
+     " / window 1 4 4"),
+    ("loads of other stretches bring nothing, nor does one of this stretch that reads from before the crash",
+     session(BROUGHT + " L1.0<1 I0.0 C0 SF1 L1.0<8 I1.8 C1 X L0.0<1 L1.8<12 SKIP2 L2.0<8", locations=9),
+     "events 18 / verdict broken / load 16 / missing 8 / observed 12 / kind flush / primary 0 / window 1 12 12"),
+    ("flushes and skips are records too, so places move by them; a load in a skip brings the missing store",
+     session("F1.0 I0.0 C0 SKIP1 L1.0<2 F1.3 UNSKIP1 O0.8 I1.8 C1 X L0.0<0 L0.8<9", locations=9),
+     "events 13 / verdict broken / load 13 / missing 2 / observed 9 / kind flush / primary 0 / window 1 6 9"),
+    ("of eight threads the last is primary, and the first has the window",
+     session("I7.0 C7 L0.0<1 I0.255 C0 X L3.0<0 L3.255<4", threads=8, locations=256),
+     "events 8 / verdict broken / load 8 / missing 1 / observed 4 / kind flush / primary 7 / window 0 4 4"),
 ]
 
 # Order queries: name, trace, first, second, expected answer.
@@ -256,13 +324,18 @@ def record_checks() -> list[tuple[str, bool]]:
     ]
 
 
+def without_windows(expected: str) -> list[str]:
+    """Of a session's expected lines those of the program `verdict`."""
+    return [line for line in expected.split(" / ") if line.split()[0] not in ("primary", "window")]
+
+
 def self_test() -> list[tuple[str, bool]]:
     """All comparisons: a name and whether it holds."""
     results: list[tuple[str, bool]] = []
     judges: list[tuple[str, Callable]] = [("judge", oracle.judge), ("judge_closure", oracle.judge_closure)]
-    for name, data, expected in CASES + REFUSALS + MORE_REFUSALS + EDGES + ERRORS:
+    for name, data, expected in CASES + REFUSALS + MORE_REFUSALS + EDGES + ERRORS + WINDOWS:
         for label, judging in judges:
-            results.append((f"{name} ({label})", " / ".join(oracle.verdict_lines(data, judging)) == expected))
+            results.append((f"{name} ({label})", " / ".join(oracle.lines_with_windows(data, judging)) == expected))
     for name, data, first, second, answer in ORDERS:
         results.append((f"order: {name}", oracle.order(data, first, second) == answer))
     return results + record_checks()

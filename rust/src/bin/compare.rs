@@ -44,6 +44,8 @@ fn print_counts(counts: &Counts, made: &[u64]) {
     println!("robust: {}, of them with a store in the cut: {}", counts.robust, counts.robust_with_stores);
     println!("broken, contradiction: {}", counts.contradiction);
     println!("broken, flush: {}", counts.flush);
+    println!("of them without a window of the primary thread: {}", counts.primary_without_window);
+    println!("of them with windows of several threads: {}", counts.several_windows);
     for (refusal, number) in counts.refused.iter().enumerate().skip(1) {
         println!("refused {refusal}: {number}");
     }

@@ -11,6 +11,8 @@ pub struct Settings {
     pub flush: usize,
     pub fence: usize,
     pub skip: usize,
+    /// Of 100 steps, how many are hand-overs.
+    hand_over: usize,
     /// Of 10,000 events, how many are crashes.
     pub crash: usize,
     /// The least commits of a stretch that ends in a crash.
@@ -22,6 +24,9 @@ pub struct Settings {
     /// Of 1,000 crossing loads, how many read anything that the load rule allows.
     any_source: usize,
 }
+
+/// The events of a hand-over.
+const HAND_OVER: u16 = 3;
 
 /// What stays of a stretch's stores after a crash.
 #[derive(Clone, Copy)]
@@ -44,6 +49,7 @@ impl Settings {
             flush: random.below(2),
             fence: random.below(2),
             skip: random.pick(&[0, 0, 0, 1, 2]),
+            hand_over: random.pick(&[0, 0, 15, 40]),
             crash: random.pick(&[1_000, 5_000, 9_000, 9_000]),
             commits: random.pick(&[0, 2, 4, 4, 5, 5, 5, 6, 6, 6]),
             loads_after_crash: random.pick(&[8, 24, 32]),
@@ -176,7 +182,9 @@ impl Draft {
         while self.events < events {
             let early = self.commits.len() < settings.commits;
             if random.below(10_000) >= settings.crash || self.crashes == 7 || early {
-                self.step(settings, random);
+                if events - self.events < HAND_OVER || !self.hand_over(settings, random) {
+                    self.step(settings, random);
+                }
                 continue;
             }
             self.crash(settings, random);
@@ -215,6 +223,20 @@ impl Draft {
             4 => self.sfence(thread),
             _ => self.skip(thread),
         }
+    }
+
+    /// Now and then, another thread loads the store that was committed last, and a store of its own takes effect. Gives
+    /// whether that was so. Several in a row are a chain of happens-before over several threads.
+    fn hand_over(&mut self, settings: &Settings, random: &Random) -> bool {
+        if random.below(100) >= settings.hand_over || self.threads == 1 {
+            return false;
+        }
+        let Some(&(_, location, giver)) = self.commits.last() else { return false };
+        let taker = (giver + random.between(1, self.threads - 1)) % self.threads;
+        self.load(taker, location, settings, random);
+        self.issue(taker, self.some_location(random));
+        self.commit(taker);
+        true
     }
 
     /// Issues a store.

@@ -34,6 +34,15 @@ impl Precedence {
         found
     }
 
+    /// All stores that happen after p: each step of a chain goes to a later store.
+    pub fn all_after(&self, p: usize) -> Vec<bool> {
+        let mut found = vec![false; self.direct.len()];
+        for q in p + 1..found.len() {
+            found[q] = self.direct[q].iter().any(|&step| step == p || found[step]);
+        }
+        found
+    }
+
     /// Whether p happens before q.
     pub fn before(&self, p: usize, q: usize) -> bool {
         self.all_before(q)[p]
@@ -90,5 +99,8 @@ mod tests {
         assert!(precedence.before(first, third) && precedence.before(first, other));
         assert!(!precedence.before(third, first) && !precedence.before(other, third));
         assert!(!precedence.before(first, first));
+        assert_eq!(precedence.all_after(first), [false, true, true, true]);
+        assert_eq!(precedence.all_after(second), [false, false, false, true]);
+        assert_eq!(precedence.all_after(other), [false; 4]);
     }
 }

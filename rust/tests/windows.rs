@@ -1,0 +1,122 @@
+//! Where the flush may go, document 02, job 1: sessions with the windows that follow from its words, given to all four
+//! ways of judging.
+
+mod common;
+
+use common::session;
+use gorbuzte::fast::Fast;
+use gorbuzte::{reference, Judge, Kind, Refusal, Verdict};
+
+/// Why, a trace, and the missing and the observed store, the primary thread and each thread's window.
+type Row = (&'static str, &'static str, &'static str);
+
+const WINDOWS: &[Row] = &[
+    (
+        "thread 0's last store before 4 is 1, in front of its first place 2",
+        "B1.2.9 I0.0 C0 L1.0<1 I1.8 C1 X L0.0<0 L0.8<4",
+        "1 before 4, primary 0, thread 1: 4 to 4",
+    ),
+    (
+        "case 1 of document 01: from one past the missing store to the observed one",
+        "B1.1.2 I0.0 C0 I0.1 C0 I0.0 C0 I0.1 C0 X L0.0<1 L0.1<7",
+        "5 before 7, primary 0, thread 0: 6 to 7",
+    ),
+    (
+        "the thread issues on, but not before the observed store",
+        "B1.1.3 I0.0 C0 I0.1 C0 I0.2 C0 X L0.0<0 L0.1<3",
+        "1 before 3, primary 0, thread 0: 2 to 3",
+    ),
+    (
+        "a flush record that is there already moves no place",
+        "B1.1.2 I0.0 C0 F0.0 I0.1 C0 X L0.0<0 L0.1<4",
+        "1 before 4, primary 0, thread 0: 2 to 4",
+    ),
+    (
+        "a chain over three threads: load 6 is of 4, which happens after 1",
+        "B1.3.3 I0.0 C0 L1.0<1 I1.1 C1 L2.1<4 I2.2 C2 X L0.0<0 L0.2<7",
+        "1 before 7, primary 0, thread 1: 4 to 4, thread 2: 7 to 7",
+    ),
+    (
+        "thread 0 stores 3 before thread 1 reads it, so both have one",
+        "B1.2.3 I0.0 C0 I0.1 C0 L1.1<3 I1.2 C1 X L0.0<0 L0.2<6",
+        "1 before 6, primary 0, thread 0: 2 to 3, thread 1: 6 to 6",
+    ),
+    (
+        "there and back: 4 of thread 1 happens before 7 of thread 0",
+        "B1.2.3 I0.0 C0 L1.0<1 I1.1 C1 L0.1<4 I0.2 C0 X L0.0<0 L0.2<7",
+        "1 before 7, primary 0, thread 0: 2 to 7, thread 1: 4 to 4",
+    ),
+    (
+        "thread 0 stores 4 too late for 6",
+        "B1.2.3 I0.0 C0 L1.0<1 I0.1 C0 I1.2 C1 X L0.0<0 L0.2<6",
+        "1 before 6, primary 0, thread 1: 4 to 6",
+    ),
+    (
+        "load 3 is of another store, loads 6 and 7 are both of the missing one",
+        "B1.2.3 I1.1 C1 L1.1<1 I0.0 C0 L1.0<4 L1.0<4 I1.2 C1 X L0.0<0 L0.2<8",
+        "4 before 8, primary 0, thread 1: 7 to 8",
+    ),
+    (
+        "loads 2 and 7 are of thread 1's own waiting stores",
+        "B1.2.3 I1.1 L1.1<1 I0.0 C0 L1.0<3 I1.2 L1.2<6 I1.1 C1 C1 C1 X L0.0<0 L0.1<8",
+        "3 before 8, primary 0, thread 1: 6 to 8",
+    ),
+    (
+        "thread 2's ends are out of order: it stores 1 and then loads 3",
+        "B1.3.3 I2.1 C2 I0.0 C0 L2.0<3 L1.0<3 L1.1<1 I1.2 C1 X L0.0<0 L0.2<8",
+        "3 before 8, primary 0, thread 1: 7 to 8",
+    ),
+    (
+        "thread 2 loads the missing store and stores, but not before 4",
+        "B1.3.3 I0.0 C0 L1.0<1 I1.1 C1 L2.0<1 I2.2 C2 X L0.0<0 L0.1<4",
+        "1 before 4, primary 0, thread 1: 4 to 4",
+    ),
+    (
+        "load 3 is of an earlier stretch",
+        "B1.2.2 I0.0 C0 L1.0<1 X I0.0 C0 L1.0<5 I1.1 C1 X L0.0<1 L0.1<8",
+        "5 before 8, primary 0, thread 1: 8 to 8",
+    ),
+    (
+        "the last two of eight threads",
+        "B1.8.2 I7.0 C7 L6.0<1 I6.1 C6 X L0.0<0 L0.1<4",
+        "1 before 4, primary 7, thread 6: 4 to 4",
+    ),
+    ("a contradiction has none", "B1.1.2 I0.0 C0 X L0.0<1 L0.0<0", "none"),
+    ("a robust trace has none", "B1.2.2 I0.0 C0 I1.1 C1 X L0.0<0 L0.1<3", "none"),
+    ("a refused trace has none", "B1.1.2 I0.0 C0 I0.1 C0 X L0.0<0 L0.1<3 C0", "none"),
+];
+
+/// What an answer says of windows.
+fn told(answer: &Result<Verdict, Refusal>) -> String {
+    let &Ok(Verdict::Broken { missing, observed, kind: Kind::Flush(windows), .. }) = answer else {
+        return "none".to_string();
+    };
+    let mut text = format!("{missing} before {observed}, primary {}", windows.primary);
+    for (thread, window) in windows.threads.iter().enumerate() {
+        if let Some(window) = window {
+            text += &format!(", thread {thread}: {} to {}", window.first, window.last);
+        }
+    }
+    text
+}
+
+/// Judges each trace with one judge.
+fn check(name: &str, mut judging: impl FnMut(&[u8]) -> Result<Verdict, Refusal>) {
+    for (why, text, expected) in WINDOWS {
+        assert_eq!(told(&judging(&session(text))), *expected, "{name}, {why}");
+    }
+}
+
+#[test]
+fn the_library_answers_windows() {
+    let mut judge = Judge::new();
+    check("library", |trace| judge.judge(trace));
+}
+
+#[test]
+fn the_other_judges_answer_windows() {
+    let mut fast = Fast::new();
+    check("fast judge", |trace| fast.judge(trace));
+    check("reference", reference::judge);
+    check("by all choices", |trace| reference::judge_by_all_choices(trace, 100_000).unwrap());
+}
