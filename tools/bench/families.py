@@ -1,8 +1,8 @@
 """Traces of one family and size, for counting the judge's instructions.
 
 `python3 families.py FAMILY EVENTS` writes a trace with that many events after its begin to standard output. Every
-trace is accepted, and but for the last family robust: a broken trace ends the judging of loads early. The first five are
-families of everyday programs, the last three are made to be dear.
+trace is accepted, and but for the last two families robust: a broken trace ends the judging of loads early. The first
+five are families of everyday programs, the last four are made to be dear.
 """
 
 from __future__ import annotations
@@ -156,8 +156,8 @@ def many_crossings(events: int) -> Trace:
     return eight_stretches(trace, events, lambda: trace.load(trace.events % 8, trace.events % 256))
 
 
-def late_break(events: int) -> Trace:
-    """Stores of eight threads that load from each other, and a contradiction at the last event: broken."""
+def handed_on(events: int) -> Trace:
+    """A store at location 255, then stores of eight threads that load from each other, until three events are left."""
     trace = Trace(8, 256)
     trace.issue(0, 255)
     trace.commit(0)
@@ -168,15 +168,34 @@ def late_break(events: int) -> Trace:
         trace.load((turn + 1) % 8, turn % 255)
     while trace.events < events - 3:
         trace.add(7, 0)
+    return trace
+
+
+def late_break(events: int) -> Trace:
+    """Stores of eight threads that load from each other, and a contradiction at the last event: broken."""
+    trace = handed_on(events)
     trace.crash()
     trace.add(4, 0, 255, 1)
     trace.add(4, 0, 255, 0)
     return trace
 
 
+def wide_windows(events: int) -> Trace:
+    """The same stores, and a flush fault at the last event: the first store is missing, the last one observed, and every
+    record between them is looked at for windows."""
+    trace = handed_on(events)
+    last = max(trace.current.values())
+    location = next(place for place, store in trace.current.items() if store == last)
+    trace.crash()
+    trace.add(4, 0, 255, 0)
+    trace.add(4, 0, location, last)
+    return trace
+
+
 FAMILIES: Dict[str, Callable[[int], Trace]] = {
     "mixed": mixed, "one_location": one_location, "long_queue": long_queue, "seven_crashes": seven_crashes,
-    "eight_threads": eight_threads, "deep_walks": deep_walks, "many_crossings": many_crossings, "late_break": late_break}
+    "eight_threads": eight_threads, "deep_walks": deep_walks, "many_crossings": many_crossings, "late_break": late_break,
+    "wide_windows": wide_windows}
 
 if __name__ == "__main__":
     made = FAMILIES[sys.argv[1]](int(sys.argv[2]))
