@@ -1,16 +1,20 @@
 -- What the rows of two stores say of their order: a store's clock for its own thread is one more than its place, so the
--- rows' test is the clocks' (`covers-is`), and that one is happens-before.
-use Prim.Native.Nat.{ℕ, _<_}
+-- rows' test is the clocks' (`covers-is`), and that one is happens-before. An event that is no store has no stretch in
+-- its row, so no store's row is of the same one (`other-stretch`).
+use Prim.Native.Nat.{ℕ, _≤_, _<_}
+use native.Mathlib.Omega.{arith}
 use mathlib.Core.Path.{_≡_, refl, ap₂}
-use mathlib.Core.Bool.{_&&_}
+use mathlib.Core.Bool.{false, _&&_}
+use mathlib.Core.Logic.{_≢_}
 use mathlib.Core.List.{List}
 use lib.Dec.{eqb, leb, ltb}
 use Rattle.record.specs.declared.events.Event.{Event}
-use Rattle.model.specs.Trace.{thread, Issue, stretch, place}
+use Rattle.model.specs.Trace.{thread, issue?, Issue, stretch, place}
 use Rattle.model.specs.Rules.{Accepted}
 use Rattle.model.specs.Clocks.{vc, covers?}
 use Rattle.model.proofs.ClockSteps.{vc-own}
 use Rattle.model.proofs.Ranges.{issue-has-thread, thread-bound}
+use Rattle.model.proofs.StorePlaces.{stretch-some}
 use Rattle.area.specs.Cells.{getRow, coversW}
 use Rattle.area.specs.Rows.{Rows}
 
@@ -35,3 +39,14 @@ module _ (ev : ℕ → Event) (N : ℕ) (accepted : Accepted ev N) (l : List ℕ
       refl
       in
       ap₂ _&&_ one-stretch counted
+
+  pub other-stretch :
+      (n p : ℕ) → 1 ≤ n → n < N → issue? ev n ≡ false → p < N → Issue ev p → getRow l n 10 ≢ getRow l p 10
+  other-stretch n p from-1 n-early no-store p-early p-store same =
+      omega (
+        arith,
+        same,
+        rows .others n from-1 n-early no-store,
+        rows .stores p p-early p-store .stretch-is,
+        stretch-some ev p,
+      )

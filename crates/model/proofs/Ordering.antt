@@ -44,7 +44,7 @@ module _ (ev : ℕ → Event) where
   pub before-stretch : {p q : ℕ} → Before ev p q → stretch ev p ≡ stretch ev q
   before-stretch b = precedes-stretch (b .precedes)
 
-  pub before-trans : {p q r : ℕ} → Before ev p q → Before ev q r → Before ev p r
+  before-trans : {p q r : ℕ} → Before ev p q → Before ev q r → Before ev p r
   before-trans first second =
       record { store = second .store; precedes = chain (first .store) (first .precedes) (second .precedes) }
 

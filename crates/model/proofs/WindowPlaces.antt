@@ -38,7 +38,7 @@ module _ (ev : ℕ → Event) where
   store-behind store (inr before) = before .store
 
   -- what loads issues no store
-  load-no-issue : {e : ℕ} → Load ev e → ¬ Issue ev e
+  pub load-no-issue : {e : ℕ} → Load ev e → ¬ Issue ev e
   load-no-issue {e} loads store =
       false-true (sym (one-kind ev e 4 2 (λ is. omega arith) (loads .test)) ∙ store .test)
 
@@ -61,6 +61,15 @@ module _ (ev : ℕ → Event) where
       both _ _
       (both _ _ (both _ _ (it .loads .test) (eq-eqb _ _ (it .in-stretch))) (source-store .test))
       (covers-exactly ev p (source ev n) store source-store .1 (it .from))
+
+  -- in an accepted trace what brings a store comes behind its source, since it is no store itself
+  pub source-before :
+      (N : ℕ) → Accepted ev N → {p l : ℕ} → l < N → Issue ev p → Brings ev p l → source ev l < l
+  source-before N accepted {p} {l} inside store it =
+      let differs : source ev l ≢ l =
+      λ same. load-no-issue (it .loads) (rw same at (store-behind store (it .from)))
+      in
+      omega (arith, source-early ev N accepted l inside (it .loads))
 
   -- ---- when thread t has store p, and reaches store q
 
@@ -290,19 +299,11 @@ module _ (ev : ℕ → Event) where
       s-store : Issue ev s
       s-store = store-behind store (brings .from)
 
-      -- the source comes before the load, which is no store
-      not-itself : s ≢ l
-      not-itself same = load-no-issue (brings .loads) (rw same at s-store)
-
-      s-before : s < l
-      s-before =
-          let differs = not-itself in
-          omega (arith, source-early ev N accepted l (omega arith) (brings .loads))
-
       s-precedes : Precedes ev s e
       s-precedes =
           read l s-store (sym (same-stretch ev p s (brings .from)) ∙ sym in-stretch) (brings .loads) refl
-          (by-thread ∙ sym by-t) (brings .in-stretch ∙ sym in-stretch) s-before (omega arith)
+          (by-thread ∙ sym by-t) (brings .in-stretch ∙ sym in-stretch)
+          (source-before N accepted (omega arith) store brings) (omega arith)
 
       by-source : AtOrBefore ev p s → Precedes ev p e
       by-source (inl same) = rw same s-precedes

@@ -35,7 +35,7 @@ use Rattle.area.specs.Rows.{Rows}
 use Rattle.area.proofs.ReadBack.{up-is}
 use Rattle.windows.specs.Finding.{notedMissing, lookedFrom, looked, windowIn, windowsBy}
 use Rattle.windows.proofs.Shown.{lasts?, lastShown, firstShown, Shown, has→, →has, shown-first}
-use Rattle.windows.proofs.Shown.{shown-missing, shown-next}
+use Rattle.windows.proofs.Noting.{shown-missing, shown-next}
 
 module _
     (bytes : List ℕ) (N : ℕ) (whole : AcceptedWith bytes N) (work : List ℕ) (rows : Rows (events bytes) N work)
