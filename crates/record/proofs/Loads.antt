@@ -1,7 +1,7 @@
 -- The loads of a trace: of a record that can be read, `loadAt` says what reading answers of it (`load-at-read`), for
 -- its frame, its kind and its fields stand in the bytes where the table says.
 use mathlib.Core.Path.{_≡_, refl, sym, ap, ap₂, _∙_}
-use mathlib.Core.Bool.{Bool, true, false, and-false}
+use mathlib.Core.Bool.{Bool, true, false, _||_, and-false}
 use mathlib.Core.Logic.{_≢_}
 use mathlib.Core.List.{List}
 use Prim.Native.Nat.{ℕ, _+_, _<_}
@@ -9,7 +9,7 @@ use native.Mathlib.Omega.{arith}
 use native.Mathlib.Nat.{add-zero}
 use lib.Dec.{eqb}
 use lib.ListN.{length, drop, length-drop}
-use borrow.Author.Tests.{eq-eqb, ne-eqb, eqb-true, eqb-false}
+use borrow.Author.Tests.{eq-eqb, ne-eqb, eqb-true}
 use Rattle.record.specs.declared.events.Event.{Event}
 use Rattle.record.specs.declared.events.Fields.{Fields}
 use Rattle.record.specs.declared.parts.LoadAt.{LoadAt}
@@ -18,7 +18,7 @@ use Rattle.record.specs.Bytes.{word}
 use Rattle.record.specs.Events.{kindOf}
 use Rattle.record.specs.Fields.{fieldsOf, fieldsAt}
 use Rattle.record.specs.Table.{rowOf, lengthOf}
-use Rattle.record.specs.Parts.{sizeAt, noLoad, loadAt}
+use Rattle.record.specs.Parts.{sizeAt, loads?, noLoad, loadAt}
 use Rattle.record.specs.Reading.{frame, readAt, readFirst}
 use Rattle.record.specs.Tests.{_gives_else_}
 use Rattle.record.proofs.Frames.{IsRead, read→}
@@ -29,13 +29,13 @@ use Rattle.record.proofs.Scans.{word-drop}
 -- what an event says if it is a load, and the position past its record
 abbrev pub asLoad : Event → ℕ → LoadAt
 asLoad x past =
-    eqb (kindOf x) 4 gives
+    loads? (kindOf x) gives
     record { loads = true; thread = fieldsOf x .thread; source = fieldsOf x .source; next = past } else
     noLoad past
 
 -- the position past a record, load or not
 pub load-past : (x : Event) (past : ℕ) → asLoad x past .next ≡ past
-load-past x past = by-kind (eqb (kindOf x) 4)
+load-past x past = by-kind (loads? (kindOf x))
   where
     by-kind :
         (load : Bool)
@@ -48,17 +48,22 @@ load-past x past = by-kind (eqb (kindOf x) 4)
 
 -- ---- a load's row of the table
 
-load-size : lengthOf 4 + 2 ≡ 10
-unfolding rowOf
-load-size = refl
+-- what the table says of a kind that loads
+record LoadRow (k : ℕ) : Type 0 where
+  pub size : lengthOf k + 2 ≡ 10
+  pub thread-at : (t : List ℕ) → fieldsAt t (rowOf k) .thread ≡ word t 4
+  pub source-at : (t : List ℕ) → fieldsAt t (rowOf k) .source ≡ word t 8
 
-thread-at : (t : List ℕ) → fieldsAt t (rowOf 4) .thread ≡ word t 4
+load-row : (k : ℕ) → loads? k ≡ true → LoadRow k
 unfolding rowOf
-thread-at t = refl
-
-source-at : (t : List ℕ) → fieldsAt t (rowOf 4) .source ≡ word t 8
-unfolding rowOf
-source-at t = refl
+load-row k loads = by-kind (eqb k 4) refl (eqb k 12) refl loads
+  where
+    by-kind : (a : Bool) → eqb k 4 ≡ a → (b : Bool) → eqb k 12 ≡ b → (a || b) ≡ true → LoadRow k
+    by-kind true is-4 b is-12 holds =
+        rw (eqb-true k 4 is-4) (record { size = refl; thread-at = λ t. refl; source-at = λ t. refl })
+    by-kind false is-4 true is-12 holds =
+        rw (eqb-true k 12 is-12) (record { size = refl; thread-at = λ t. refl; source-at = λ t. refl })
+    by-kind false is-4 false is-12 holds = let none : _≡_ {A = ℕ} 0 1 = cc in absurd (omega arith)
 
 module _ (s : List ℕ) (at : ℕ) where
   -- ---- the ways of `load_at`
@@ -80,22 +85,21 @@ module _ (s : List ℕ) (at : ℕ) where
     unfolding loadAt rowOf
     other-size differs = rw (← size-is, ne-eqb n 10 differs) refl
 
-    pub other-kind : (k : ℕ) → k ≡ word s (at + 2) → k ≢ 4 → noLoad (at + n) ≡ loadAt s at
+    pub other-kind : (k : ℕ) → k ≡ word s (at + 2) → loads? k ≡ false → noLoad (at + n) ≡ loadAt s at
     unfolding loadAt rowOf
-    other-kind k kind-is differs =
-        rw (← size-is, ← kind-is, ne-eqb k 4 differs, and-false (eqb n 10)) refl
+    other-kind k kind-is differs = rw (← size-is, ← kind-is, differs, and-false (eqb n 10)) refl
 
     -- a load, with a thread and a source
     abbrev loaded : ℕ → ℕ → LoadAt
     loaded t v = record { loads = true; thread = t; source = v; next = at + n }
 
     pub load-there :
-        n ≡ 10 → (k : ℕ) → k ≡ word s (at + 2) → k ≡ 4
+        n ≡ 10 → (k : ℕ) → k ≡ word s (at + 2) → loads? k ≡ true
         → (a b t v : ℕ) → a ≡ 4 → b ≡ 8 → t ≡ word s (at + a) → v ≡ word s (at + b)
         → loaded t v ≡ loadAt s at
     unfolding loadAt rowOf
-    load-there is-10 k kind-is is-4 a b t v a-is b-is thread-is source-is =
-        rw (← size-is, ← kind-is, eq-eqb n 10 is-10, eq-eqb k 4 is-4)
+    load-there is-10 k kind-is loads a b t v a-is b-is thread-is source-is =
+        rw (← size-is, ← kind-is, eq-eqb n 10 is-10, loads)
         (ap₂ loaded (rw a-is at thread-is) (rw b-is at source-is))
 
   -- ---- a record that is read
@@ -105,10 +109,10 @@ module _ (s : List ℕ) (at : ℕ) where
       let (n, read-is, past-is) = from-event at (readFirst (drop at s)) x past (sym (read-at s at) ∙ is) in
       let it = read→ (drop at s) x n read-is in
       let size-is : n ≡ sizeAt s at = omega (arith, past-is, read-past s at x past is) in
-      rw past-is (by-kind n it size-is (eqb (kindOf x) 4) refl)
+      rw past-is (by-kind n it size-is (loads? (kindOf x)) refl)
     where
       by-kind :
-          (n : ℕ) → IsRead (drop at s) x n → n ≡ sizeAt s at → (load : Bool) → eqb (kindOf x) 4 ≡ load
+          (n : ℕ) → IsRead (drop at s) x n → n ≡ sizeAt s at → (load : Bool) → loads? (kindOf x) ≡ load
           → loadAt s at ≡ asLoad x (at + n)
       by-kind n it size-is load is-load =
           let k = word (drop at s) 2 in
@@ -120,19 +124,18 @@ module _ (s : List ℕ) (at : ℕ) where
           by-test load is-load kind-is fields-are (it .length-fits)
         where
           by-test :
-              (load : Bool) → eqb (kindOf x) 4 ≡ load → kindOf x ≡ word (drop at s) 2
+              (load : Bool) → loads? (kindOf x) ≡ load → kindOf x ≡ word (drop at s) 2
               → fieldsOf x ≡ fieldsAt (drop at s) (rowOf (word (drop at s) 2))
               → lengthOf (word (drop at s) 2) + 2 ≡ n
               → loadAt s at ≡ asLoad x (at + n)
           by-test true is-load kind-is fields-are fits =
-              let is-4 : word (drop at s) 2 ≡ 4 = sym kind-is ∙ eqb-true _ _ is-load in
-              let fields-of-4 : fieldsOf x ≡ fieldsAt (drop at s) (rowOf 4) = rw is-4 at fields-are in
+              let row = load-row (word (drop at s) 2) (rw kind-is at is-load) in
               rw is-load
               (sym
-              (load-there n size-is (sym (rw is-4 at fits) ∙ load-size) (kindOf x) (kind-is ∙ word-drop s at 2)
-              (eqb-true _ _ is-load) 4 8 (fieldsOf x .thread) (fieldsOf x .source) refl refl
-              (ap (λ (f : Fields). f .thread) fields-of-4 ∙ (thread-at (drop at s) ∙ word-drop s at 4))
-              (ap (λ (f : Fields). f .source) fields-of-4 ∙ (source-at (drop at s) ∙ word-drop s at 8))))
+              (load-there n size-is (sym fits ∙ row .size) (kindOf x) (kind-is ∙ word-drop s at 2)
+              is-load 4 8 (fieldsOf x .thread) (fieldsOf x .source) refl refl
+              (ap (λ (f : Fields). f .thread) fields-are ∙ (row .thread-at (drop at s) ∙ word-drop s at 4))
+              (ap (λ (f : Fields). f .source) fields-are ∙ (row .source-at (drop at s) ∙ word-drop s at 8))))
           by-test false is-load kind-is fields-are fits =
               rw is-load
-              (sym (other-kind n size-is (kindOf x) (kind-is ∙ word-drop s at 2) (eqb-false _ _ is-load)))
+              (sym (other-kind n size-is (kindOf x) (kind-is ∙ word-drop s at 2) is-load))

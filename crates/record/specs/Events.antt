@@ -5,7 +5,7 @@ use Rattle.record.specs.Bytes.{bytes}
 use Rattle.record.specs.Table.{lengthOf}
 use Rattle.record.specs.declared.events.Event.{Event}
 use Rattle.record.specs.declared.events.Event.the-variants.{Begin, Issue, Commit, Load, Clflush, Clwb}
-use Rattle.record.specs.declared.events.Event.the-variants.{Sfence, Mfence, Crash, SkipOn, SkipOff}
+use Rattle.record.specs.declared.events.Event.the-variants.{Sfence, Mfence, Crash, SkipOn, SkipOff, Locked}
 
 -- the number of an event's kind
 abbrev pub kindOf : Event → ℕ
@@ -20,6 +20,7 @@ kindOf (Mfence t) = 8
 kindOf Crash = 9
 kindOf (SkipOn t) = 10
 kindOf (SkipOff t) = 11
+kindOf (Locked t x s) = 12
 
 -- the values of an event's fields, in the order in which document 01's table lists them
 abbrev pub valuesOf : Event → List ℕ
@@ -34,6 +35,7 @@ valuesOf (Mfence t) = t ∷ []
 valuesOf Crash = []
 valuesOf (SkipOn t) = t ∷ []
 valuesOf (SkipOff t) = t ∷ []
+valuesOf (Locked t x s) = t ∷ x ∷ s ∷ []
 
 -- "A record is a two-byte length (of all that follows it), a two-byte kind, and two-byte fields."
 unfoldable pub recordOf : Event → List ℕ

@@ -7,7 +7,7 @@ use Rattle.record.specs.Tests.{_gives_else_}
 use Rattle.record.specs.Bytes.{word, putWord}
 use Rattle.record.specs.declared.events.Event.{Event}
 use Rattle.record.specs.declared.events.Event.the-variants.{Begin, Issue, Commit, Load, Clflush, Clwb}
-use Rattle.record.specs.declared.events.Event.the-variants.{Sfence, Mfence, Crash, SkipOn, SkipOff}
+use Rattle.record.specs.declared.events.Event.the-variants.{Sfence, Mfence, Crash, SkipOn, SkipOff, Locked}
 use Rattle.record.specs.declared.events.Fields.{Fields}
 
 -- ---- the columns of the table: the fields as a list, and back
@@ -100,6 +100,7 @@ eventsOf f =
     ∷ Crash
     ∷ SkipOn (f .thread)
     ∷ SkipOff (f .thread)
+    ∷ Locked (f .thread) (f .location) (f .source)
     ∷ []
 
 -- the event of a kind with these fields; a crash where there is no such kind
@@ -124,3 +125,4 @@ fieldsOf (Mfence t) = threadFields t 0 0
 fieldsOf Crash = threadFields 0 0 0
 fieldsOf (SkipOn t) = threadFields t 0 0
 fieldsOf (SkipOff t) = threadFields t 0 0
+fieldsOf (Locked t x s) = threadFields t x s

@@ -2,7 +2,7 @@
 use mathlib.Core.List.{List, _++_}
 use mathlib.Core.Path.{_≡_}
 use Prim.Native.Nat.{ℕ, zero, suc, _+_, _≤_}
-use mathlib.Core.Bool.{true, false, _&&_}
+use mathlib.Core.Bool.{Bool, true, false, _&&_, _||_}
 use lib.ListN.{take, drop}
 use lib.Dec.{eqb}
 use Rattle.record.specs.Bytes.{word}
@@ -48,17 +48,21 @@ recordsTo s (suc e) = recordsTo s e ++ recordPart s (suc e)
 
 -- ---- the loads of a trace, without reading its other records
 
--- a record that is no load, and the position past it
+-- the kinds that load
+abbrev pub loads? : ℕ → Bool
+loads? k = eqb k 4 || eqb k 12
+
+-- a record that does not load, and the position past it
 abbrev pub noLoad : ℕ → LoadAt
 noLoad past = record { loads = false; thread = 0; source = 0; next = past }
 
--- a load of kind 4's length: its thread and its source stand where the table says. Of a record that can be read this is
--- what reading answers: `load-at-read` of proofs/Loads.antt
+-- a kind that loads, of kind 4's length: its thread and its source stand where the table says, alike for both kinds. Of
+-- a record that can be read this is what reading answers: `load-at-read` of proofs/Loads.antt
 unfoldable pub loadAt : List ℕ → ℕ → LoadAt
 loadAt s at =
     let offsets = offsetsIn (rowOf 4) in
     let past = at + sizeAt s at in
-    (eqb (sizeAt s at) (lengthOf 4 + 2) && eqb (word s (at + 2)) 4) gives
+    (eqb (sizeAt s at) (lengthOf 4 + 2) && loads? (word s (at + 2))) gives
     record {
       loads = true;
       thread = word s (at + offsets .thread);

@@ -47,6 +47,12 @@ pub enum Event {
     SkipOff {
         thread: u16,
     },
+    // a locked operation: a load, an issue and a commit with nothing between
+    Locked {
+        thread: u16,
+        location: u16,
+        source: u16,
+    },
 }
 
 // The values of an event's fields; 0 where its kind has no such field.
@@ -98,6 +104,11 @@ pub fn kind_of(e: Event) -> u16
         Event::Crash => 9,
         Event::SkipOn { thread: _ } => 10,
         Event::SkipOff { thread: _ } => 11,
+        Event::Locked {
+            thread: _,
+            location: _,
+            source: _,
+        } => 12,
     }
 }
 
@@ -146,6 +157,11 @@ pub fn fields_of(e: Event) -> Fields
         Event::Crash => thread_fields(0, 0, 0),
         Event::SkipOn { thread } => thread_fields(thread, 0, 0),
         Event::SkipOff { thread } => thread_fields(thread, 0, 0),
+        Event::Locked {
+            thread,
+            location,
+            source,
+        } => thread_fields(thread, location, source),
     }
 }
 
@@ -181,6 +197,11 @@ pub(crate) fn of_kind(kind: u16, f: Fields) -> Event
         8 => Event::Mfence { thread: f.thread },
         10 => Event::SkipOn { thread: f.thread },
         11 => Event::SkipOff { thread: f.thread },
+        12 => Event::Locked {
+            thread: f.thread,
+            location: f.location,
+            source: f.source,
+        },
         _ => Event::Crash,
     }
 }

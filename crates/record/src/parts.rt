@@ -2,7 +2,7 @@
 ghost use mathlib.Core.Path.{_≡_};
 ghost use Prim.Native.Nat.{_+_, _≤_};
 ghost use lib.ListN.{length};
-ghost use Rattle.record.specs.Parts.{sizeAt, placeOf, recordPart, noLoad, loadAt};
+ghost use Rattle.record.specs.Parts.{sizeAt, placeOf, recordPart, loads?, noLoad, loadAt};
 use crate::bytes::wide;
 use crate::bytes::word_at;
 use crate::kinds::KINDS;
@@ -59,7 +59,7 @@ pub fn part(trace: &[u8], e: usize) -> &[u8]
     &trace[start..end]
 }
 
-// What the record at a position says if it is a load: its thread and its source; and the position past the record.
+// What the record at a position says if it loads: its thread and its source; and the position past the record.
 pub struct LoadAt {
     pub loads: bool,
     pub thread: u16,
@@ -67,7 +67,17 @@ pub struct LoadAt {
     pub next: usize,
 }
 
-// A record that is no load.
+// A kind that loads: 4 and 12, whose rows of the table have one length and one place for each field.
+fn loads(kind: u16) -> bool
+    ensures { λ r. ⌜ r ≡ loads? kind ⌝ }
+{
+    if kind == 4 {
+        return true;
+    }
+    kind == 12
+}
+
+// A record that does not load.
 fn no_load(next: usize) -> LoadAt
     ensures { λ r. ⌜ r ≡ noLoad next ⌝ }
 {
@@ -92,7 +102,7 @@ pub fn load_at(trace: &[u8], at: usize) -> LoadAt
     if size != wide(row[LENGTH]) + 2 {
         return no_load(at + size);
     }
-    if word_at(trace, at + 2) != 4 {
+    if !loads(word_at(trace, at + 2)) {
         return no_load(at + size);
     }
     LoadAt {

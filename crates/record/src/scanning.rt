@@ -114,6 +114,7 @@ pub(crate) fn scan_step(trace: &[u8], at: usize) -> Scanned
         9 => scan_kind(trace, at, 9, KINDS[9]),
         10 => scan_kind(trace, at, 10, KINDS[10]),
         11 => scan_kind(trace, at, 11, KINDS[11]),
+        12 => scan_kind(trace, at, 12, KINDS[12]),
         _ => Scanned::Refused(refusal_at(trace, at)),
     }
 }

@@ -63,6 +63,7 @@ fn kinds() {
     title(b"kinds");
     read(b"\x02\x00\x00\x00");
     read(b"\x02\x00\x0c\x00");
+    read(b"\x02\x00\x0d\x00");
     read(b"\x02\x00\x09\x01");
     read(b"\x04\x00\x63\x00\x00");
     read(b"\x09\x00\x01\x00\x01\x00\x01\x00\x02\x00\x00");
@@ -101,6 +102,11 @@ fn every_kind() {
     write(Event::Crash);
     write(Event::SkipOn { thread: 4660 });
     write(Event::SkipOff { thread: 1 });
+    write(Event::Locked {
+        thread: 3,
+        location: 4,
+        source: 260,
+    });
 }
 
 // Outputs that are too short, and one that just fits.
@@ -159,8 +165,8 @@ fn positions() {
     read_from(trace, 21);
 }
 
-// Records as plain numbers: through B, a load and a crash, then at the end and inside records; then refusals 2, 3 and 4
-// with ten bytes and with fewer.
+// Records as plain numbers: through B, a load and a crash, then at the end and inside records; a locked operation; then
+// refusals 2, 3 and 4 with ten bytes and with fewer.
 fn scans() {
     title(b"scans");
     let trace =
@@ -172,10 +178,11 @@ fn scans() {
     scan_from(trace, 18446744073709551615);
     scan_from(trace, 2);
     scan_from(trace, 22);
+    scan(b"\x08\x00\x0c\x00\x03\x00\x04\x00\x04\x01");
     scan(b"");
     scan(b"\x09\x00\x01\x00\x01\x00\x01\x00\x02\x00");
     scan(b"\x08\x00\x01");
-    scan(b"\x02\x00\x0c\x00\x02\x00\x09\x00\x02\x00\x09\x00");
+    scan(b"\x02\x00\x0d\x00\x02\x00\x09\x00\x02\x00\x09\x00");
     scan(b"\x02\x00\x63\x00");
     scan(b"\x04\x00\x09\x00\x00\x00\x02\x00\x09\x00");
     scan(b"\x04\x00\x09\x00\x00\x00");
@@ -198,6 +205,7 @@ fn names() {
     name(9, f);
     name(11, f);
     name(12, f);
+    name(13, f);
     name(65535, f);
 }
 

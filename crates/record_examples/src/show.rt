@@ -75,6 +75,14 @@ fn event(e: Event) {
         Event::Crash => say(b" crash"),
         Event::SkipOn { thread } => of_thread(b" skip-on", thread),
         Event::SkipOff { thread } => of_thread(b" skip-off", thread),
+        Event::Locked {
+            thread,
+            location,
+            source,
+        } => {
+            of_location(b" locked", thread, location);
+            value(source);
+        }
     }
 }
 

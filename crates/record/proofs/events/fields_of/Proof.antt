@@ -68,6 +68,12 @@ enum-known-e-10 c = search needs
 thread-fields-requires-10 : tie.Need-thread-fields-requires-10
 thread-fields-requires-10 c κs = search needs
 
+enum-known-e-11 : tie.Need-enum-known-e-11
+enum-known-e-11 c = search needs
+
+thread-fields-requires-11 : tie.Need-thread-fields-requires-11
+thread-fields-requires-11 c κs = search needs
+
 returns : tie.Need-returns
 returns c = sym (ap fieldsOf (c .before .e .given .1))
 
@@ -101,6 +107,9 @@ returns-10 c = c .thread-fields9 .ensures ∙ sym (ap fieldsOf (c .before .befor
 returns-11 : tie.Need-returns-11
 returns-11 c = c .thread-fields10 .ensures ∙ sym (ap fieldsOf (c .before .before .e10 .given .1))
 
+returns-12 : tie.Need-returns-12
+returns-12 c = c .thread-fields11 .ensures ∙ sym (ap fieldsOf (c .before .before .e11 .given .1))
+
 pub fields-of-spec : {M : Type 1} → statement M
 fields-of-spec =
     tie.close
@@ -126,6 +135,8 @@ fields-of-spec =
     thread-fields-requires-9
     enum-known-e-10
     thread-fields-requires-10
+    enum-known-e-11
+    thread-fields-requires-11
     returns
     returns-2
     returns-3
@@ -136,4 +147,5 @@ fields-of-spec =
     returns-8
     returns-9
     returns-10
-    returns-11)
+    returns-11
+    returns-12)

@@ -46,7 +46,11 @@ returns-10 c = rw (c .match .keys10)
 
 returns-11 : tie.Need-returns-11
 unfolding eventOf
-returns-11 c = crash-else _ _ (c .match .rest)
+returns-11 c = rw (c .match .keys11)
+
+returns-12 : tie.Need-returns-12
+unfolding eventOf
+returns-12 c = crash-else _ _ (c .match .rest)
 
 pub of-kind-spec : {M : Type 1} → statement M
 of-kind-spec =
@@ -62,4 +66,5 @@ of-kind-spec =
     returns-8
     returns-9
     returns-10
-    returns-11)
+    returns-11
+    returns-12)

@@ -72,6 +72,9 @@ array-copy-out-result-12 c = search needs
 array-copy-out-result-13 : tie.Need-array-copy-out-result-13
 array-copy-out-result-13 c = search needs
 
+array-copy-out-result-14 : tie.Need-array-copy-out-result-14
+array-copy-out-result-14 c = search needs
+
 returns-7 : tie.Need-returns-7
 unfolding rowOf
 returns-7 c = rw (c .before .match2 .keys1) refl
@@ -97,7 +100,11 @@ unfolding rowOf
 returns-12 c = rw (c .before .match2 .keys6) refl
 
 returns-13 : tie.Need-returns-13
-returns-13 c = zeros-else _ (c .before .before .if1 .left) (c .before .match2 .rest)
+unfolding rowOf
+returns-13 c = rw (c .before .match2 .keys7) refl
+
+returns-14 : tie.Need-returns-14
+returns-14 c = zeros-else _ (c .before .before .if1 .left) (c .before .match2 .rest)
 
 pub row-of-spec : {M : Type 1} → statement M
 row-of-spec =
@@ -122,10 +129,12 @@ row-of-spec =
     array-copy-out-result-11
     array-copy-out-result-12
     array-copy-out-result-13
+    array-copy-out-result-14
     returns-7
     returns-8
     returns-9
     returns-10
     returns-11
     returns-12
-    returns-13)
+    returns-13
+    returns-14)

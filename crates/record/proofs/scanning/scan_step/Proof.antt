@@ -142,6 +142,17 @@ scan-kind-requires-11 c κs =
     let room = at-end .end-refusal .ensures .1 (at-kind .before .if1 .left) in
     row-at (args .trace .now) (args .at) _ 11 (at-kind .word-at .ensures) (c .before .match .keys11) refl room
 
+array-copy-out-scan-kind-12 : tie.Need-array-copy-out-scan-kind-12
+array-copy-out-scan-kind-12 c = search needs
+
+scan-kind-requires-12 : tie.Need-scan-kind-requires-12
+scan-kind-requires-12 c κs =
+    let at-kind = c .before .before in
+    let at-end = at-kind .before .before in
+    let args = at-end .before .before .args in
+    let room = at-end .end-refusal .ensures .1 (at-kind .before .if1 .left) in
+    row-at (args .trace .now) (args .at) _ 12 (at-kind .word-at .ensures) (c .before .match .keys12) refl room
+
 refusal-at-requires : tie.Need-refusal-at-requires
 refusal-at-requires c κs = search needs
 
@@ -179,7 +190,10 @@ returns-12 : tie.Need-returns-12
 returns-12 c = search needs
 
 returns-13 : tie.Need-returns-13
-returns-13 c =
+returns-13 c = search needs
+
+returns-14 : tie.Need-returns-14
+returns-14 c =
     let at-kind = c .before .before in
     let at-end = at-kind .before .before in
     let args = at-end .before .before .args in
@@ -216,6 +230,8 @@ scan-step-spec =
     scan-kind-requires-10
     array-copy-out-scan-kind-11
     scan-kind-requires-11
+    array-copy-out-scan-kind-12
+    scan-kind-requires-12
     refusal-at-requires
     returns-2
     returns-3
@@ -228,4 +244,5 @@ scan-step-spec =
     returns-10
     returns-11
     returns-12
-    returns-13)
+    returns-13
+    returns-14)
