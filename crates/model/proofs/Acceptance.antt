@@ -12,15 +12,16 @@ use lib.Dec.{eqb, ltb, leb}
 use borrow.Author.Tests.{eqb-true, eq-eqb, ne-eqb, ltb-true, ltb-false}
 use Rattle.record.specs.declared.events.Event.{Event}
 use Rattle.model.specs.Search.{last}
-use Rattle.model.specs.Trace.{thread, location, source, is, issue?, commit?, load?, crash?, begin?, mfence?}
+use Rattle.model.specs.Trace.{thread, location, source, is, issue?, commit?, load?, crash?, begin?, drained?}
 use Rattle.model.specs.Trace.{skipOn?, skipOff?, Issue, Commit, Load, hasThread?, hasLocation?}
 use Rattle.model.specs.Trace.{threads, locations, stretch, commits, place}
 use Rattle.model.specs.Machine.{beside, commitsBefore, queued, oldest, committed, waits, waiting, commitsHere}
 use Rattle.model.specs.Machine.{current, past, sourceFits, crossing, skipping, counted}
 use Rattle.model.specs.Rules.{Rules, pass, _refuses_else_, answer, beginFits, rules, Accepted}
-use Rattle.model.proofs.Searching.{false-true, same?, parts, or-cases, or-fails, not-without, last-is}
+use Rattle.model.proofs.Searching.{false-true, same?, parts, or-cases, or-fails, not-without, fails-after}
+use Rattle.model.proofs.Searching.{last-is}
 use Rattle.model.proofs.Counting.{earlier-stretch}
-use Rattle.model.proofs.Roles.{one-kind}
+use Rattle.model.proofs.Roles.{neither, begin-no-load}
 
 -- ---- the list of refusals, read backwards
 
@@ -53,9 +54,9 @@ module _ (ev : ℕ → Event) where
     pub no-6 : (begin? ev n && not (beginFits ev n)) ≡ false
     pub no-7 : (hasThread? ev n && leb (threads ev) (thread ev n)) ≡ false
     pub no-8 : (hasLocation? ev n && leb (locations ev) (location ev n)) ≡ false
+    pub no-11 : (drained? ev n && queued ev n) ≡ false
     pub no-9 : (load? ev n && not (sourceFits ev n)) ≡ false
-    pub no-10 : (commit? ev n && not (queued ev n)) ≡ false
-    pub no-11 : (mfence? ev n && queued ev n) ≡ false
+    pub no-10 : (commit? ev n && not (queued ev n || issue? ev n)) ≡ false
     pub no-12 :
         (skipOn? ev n && skipping ev n (thread ev n) || skipOff? ev n && not (skipping ev n (thread ev n))) ≡ false
 
@@ -65,7 +66,7 @@ module _ (ev : ℕ → Event) where
     passed n inside = by-number (passes (rules ev n) (accepted .passes n inside))
       where
         by-number : Passes (rules ev n) → Passed n
-        by-number (no-1, (no-5, (no-13, (no-6, (no-7, (no-8, (no-9, (no-10, (no-11, (no-12, end)))))))))) =
+        by-number (no-1, (no-5, (no-13, (no-6, (no-7, (no-8, (no-11, (no-9, (no-10, (no-12, end)))))))))) =
             record {
               no-1 = no-1;
               no-5 = no-5;
@@ -73,9 +74,9 @@ module _ (ev : ℕ → Event) where
               no-6 = no-6;
               no-7 = no-7;
               no-8 = no-8;
+              no-11 = no-11;
               no-9 = no-9;
               no-10 = no-10;
-              no-11 = no-11;
               no-12 = no-12;
             }
 
@@ -85,7 +86,8 @@ module _ (ev : ℕ → Event) where
 
     -- so it is no store and no commit: 0, which a search gives that finds none, names neither
     pub first-is-no-store-no-commit : (issue? ev 0 ≡ false) × (commit? ev 0 ≡ false)
-    first-is-no-store-no-commit = (one-kind ev 0 1 2 (omega arith) begins, one-kind ev 0 1 3 (omega arith) begins)
+    first-is-no-store-no-commit =
+        (neither ev 0 1 2 12 (omega arith) (omega arith) begins, neither ev 0 1 3 12 (omega arith) (omega arith) begins)
 
     pub store-not-0 : {p : ℕ} → Issue ev p → p ≢ 0
     store-not-0 store is-0 = false-true (sym (first-is-no-store-no-commit .0) ∙ rw is-0 at (store .test))
@@ -98,9 +100,14 @@ module _ (ev : ℕ → Event) where
     pub fitting : (l : ℕ) → l < N → Load ev l → sourceFits ev l ≡ true
     fitting l inside loads = not-without (load? ev l) (sourceFits ev l) (passed l inside .no-9) (loads .test)
 
-    -- a commit's thread has a waiting store
-    pub commit-queued : (n : ℕ) → n < N → Commit ev n → queued ev n ≡ true
-    commit-queued n inside commits = not-without (commit? ev n) (queued ev n) (passed n inside .no-10) (commits .test)
+    -- a commit's thread has a waiting store, or the event issues one
+    pub commit-queued : (n : ℕ) → n < N → Commit ev n → (queued ev n || issue? ev n) ≡ true
+    commit-queued n inside commits =
+        not-without (commit? ev n) (queued ev n || issue? ev n) (passed n inside .no-10) (commits .test)
+
+    -- an event that needs an empty queue finds it so
+    pub drained-empty : (n : ℕ) → n < N → drained? ev n ≡ true → queued ev n ≡ false
+    drained-empty n inside drains = fails-after (drained? ev n) (queued ev n) (passed n inside .no-11) drains
 
   -- ---- counted loads
 
@@ -149,7 +156,7 @@ module _ (ev : ℕ → Event) where
     pub commit : ℕ
     pub commits : Commit ev commit
     pub before-load : commit < l
-    pub earlier : s < commit
+    pub earlier : s ≤ commit
     pub in-stretch : stretch ev commit ≡ stretch ev l
     pub of-thread : Beside commit s
     pub at-place : place ev s ≡ commitsBefore ev commit
@@ -180,7 +187,7 @@ module _ (ev : ℕ → Event) where
   unfolding current committed
   current-is-committed l some =
       let c = last l (commitsHere ev l) in
-      let found = last-is c (oldest ev c) some in
+      let found = last-is (suc c) (oldest ev c) some in
       let chosen = last-is l (commitsHere ev l) (λ is-0. omega (arith, found .0)) in
       let place-fits = parts (beside ev (current ev l) c) _ (found .1) in
       let here = parts (commit? ev c && eqb (stretch ev c) (stretch ev l)) _ (chosen .1) in
@@ -189,7 +196,7 @@ module _ (ev : ℕ → Event) where
         commit = c;
         commits = record { test = commit-here .0 };
         before-load = chosen .0;
-        earlier = found .0;
+        earlier = omega (arith, found .0);
         in-stretch = eqb-true _ _ (commit-here .1);
         of-thread = beside-is c (current ev l) (place-fits .0);
         at-place = eqb-true _ _ (place-fits .1);
@@ -253,17 +260,20 @@ module _ (ev : ℕ → Event) where
         by-case (inl none-waits) (inl none-current) =
             from-past (crossing-source l fits none-waits none-current some)
 
-    -- and it comes no later than the load
-    pub source-early : (l : ℕ) → l < N → Load ev l → source ev l ≤ l
+    -- and it comes before the load, also where one event loads and stores
+    pub source-early : (l : ℕ) → l < N → Load ev l → source ev l < l
     source-early l inside loads = by-source (same? (source ev l) 0)
       where
-        by-case : From l (source ev l) → source ev l ≤ l
+        by-case : From l (source ev l) → source ev l < l
         by-case (from-own from) = omega (arith, from .earlier)
         by-case (from-commit from) = omega (arith, from .earlier, from .before-load)
         by-case (from-past from) = omega (arith, earlier-stretch ev (source ev l) l (from .earlier))
 
-        by-source : (source ev l ≡ 0) ⊎ (source ev l ≢ 0) → source ev l ≤ l
-        by-source (inl none) = omega arith
+        not-first : l ≢ 0
+        not-first is-0 = false-true (sym (begin-no-load ev 0 (begins N accepted)) ∙ rw is-0 at (loads .test))
+
+        by-source : (source ev l ≡ 0) ⊎ (source ev l ≢ 0) → source ev l < l
+        by-source (inl none) = let later = not-first in omega arith
         by-source (inr some) = by-case (source-from l inside loads some)
 
     -- the source of a counted load, if it is a store

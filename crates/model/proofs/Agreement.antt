@@ -102,9 +102,9 @@ module _ {N : ℕ} {ev other : ℕ → Event} (agree : Agree N ev other) where
 
   committed-same : (c : ℕ) → c < N → committed ev c ≡ committed other c
   unfolding committed
-  committed-same c inside = last-same c (oldest ev c) (oldest other c) oldest-same
+  committed-same c inside = last-same (suc c) (oldest ev c) (oldest other c) oldest-same
     where
-      oldest-same : (p : ℕ) → p < c → oldest ev c p ≡ oldest other c p
+      oldest-same : (p : ℕ) → p < suc c → oldest ev c p ≡ oldest other c p
       oldest-same p earlier =
           rw (beside-same p c (omega arith) inside, place-same p (omega arith), commitsBefore-same c inside)
 
@@ -150,7 +150,7 @@ module _ {N : ℕ} {ev other : ℕ → Event} (agree : Agree N ev other) where
       commits-here-same c earlier =
           rw (
             committed-same c (omega arith),
-            location-same (committed other c) (omega (arith, last-within c (oldest other c))),
+            location-same (committed other c) (omega (arith, last-within (suc c) (oldest other c))),
             stretch-same c (omega arith),
             stretch-same n (omega arith),
             location-same n inside,

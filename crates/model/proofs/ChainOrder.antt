@@ -224,7 +224,9 @@ module _ (ev : ℕ → Event) where
 
         -- the last such commit commits a store, and event 0 is none
         by-equality : (d ≡ 0) ⊎ (d ≢ 0) → ⊥
-        by-equality (inl is-0) = omega (arith, last-most n (commitsHere ev n) c inside here, it .early)
+        by-equality (inl is-0) =
+            let none-before = last-most n (commitsHere ev n) c inside here in
+            store-not-0 ev N accepted (it .own .store) (omega (arith, it .early))
         by-equality (inr some) =
             let found = last-is n (commitsHere ev n) some in
             let of-stretch = parts (commit? ev d && eqb (stretch ev d) (stretch ev n)) _ (found .1) in

@@ -1,12 +1,12 @@
 -- In an accepted trace, whatever happens before a committed store is committed, and earlier in commit order: at the
 -- store's commit all that its thread issued before it is committed, and so is what its thread loaded from, since a load
 -- from another thread's store of its stretch reads one whose commit comes before the load.
--- In order: the commit of a store; in an accepted trace, commits never pass issues, so that a store's commit comes
--- after it; what happens before an event whose thread's earlier stores are committed (`settled`), by one recursion
+-- In order: the commit of a store; in an accepted trace, commits never pass issues, so that no store's commit comes
+-- before it; what happens before an event whose thread's earlier stores are committed (`settled`), by one recursion
 -- over happens-before; the theorem `before-committed`.
 use Prim.Native.Nat.{ℕ, zero, suc, _≤_, _<_}
 use native.Mathlib.Omega.{arith}
-use mathlib.Core.Path.{_≡_, sym, _∙_}
+use mathlib.Core.Path.{_≡_, refl, sym, _∙_}
 use mathlib.Core.Bool.{Bool, true, false, _&&_}
 use mathlib.Core.Logic.{_⊎_, inl, inr, _≢_}
 use lib.Dec.{eqb}
@@ -14,11 +14,11 @@ use borrow.Author.Tests.{eqb-true, eqb-false, eq-eqb, not-true}
 use Rattle.record.specs.declared.events.Event.{Event}
 use Rattle.model.specs.Trace.{thread, source, issue?, commit?, Issue, Commit}
 use Rattle.model.specs.Trace.{stretch, count, issues, commits, place}
-use Rattle.model.specs.Machine.{commitsBefore, commitsIt, commitOf}
+use Rattle.model.specs.Machine.{commitsBefore, queued, commitsIt, commitOf}
 use Rattle.model.specs.HappensBefore.{Precedes, own, read, chain, Before}
 use Rattle.model.specs.Rules.{Accepted}
-use Rattle.model.proofs.Searching.{test, less?, both, parts, last-of}
-use Rattle.model.proofs.Counting.{count-mono, count-lt, AtPlace, at-place, place-unique}
+use Rattle.model.proofs.Searching.{test, less?, both, parts, or-cases, last-of}
+use Rattle.model.proofs.Counting.{count-it, count-mono, count-lt, AtPlace, at-place, place-unique}
 use Rattle.model.proofs.Acceptance.{store-not-0, commit-queued, source-from}
 use Rattle.model.proofs.Acceptance.{From, from-own, from-commit, from-past}
 use Rattle.model.proofs.Ordering.{precedes-lt}
@@ -103,9 +103,30 @@ module _ (ev : ℕ → Event) where
   module _ (N : ℕ) (accepted : Accepted ev N) where
     -- ---- in an accepted trace, commits never pass issues
 
-    -- at a commit, not all stores of the thread are committed
-    pub store-waits : (n : ℕ) → n < N → Commit ev n → issues ev n (stretch ev n) (thread ev n) ≢ commitsBefore ev n
-    store-waits n inside commits = eqb-false _ _ (not-true _ (commit-queued ev N accepted n inside commits))
+    -- with the event's own store, not all stores of a commit's thread are committed
+    one-more :
+        (n : ℕ) → n < N → Commit ev n → commitsBefore ev n ≤ issues ev n (stretch ev n) (thread ev n)
+        → commitsBefore ev n < issues ev (suc n) (stretch ev n) (thread ev n)
+    one-more n inside commits so-far =
+        by-role (or-cases (queued ev n) (issue? ev n) (commit-queued ev N accepted n inside commits))
+      where
+        by-role :
+            (queued ev n ≡ true) ⊎ (issue? ev n ≡ true)
+            → commitsBefore ev n < issues ev (suc n) (stretch ev n) (thread ev n)
+        by-role (inl waits) =
+            let some-wait : issues ev n (stretch ev n) (thread ev n) ≢ commitsBefore ev n =
+            eqb-false _ _ (not-true _ waits)
+            in
+            let still = count-mono ev (issue? ev) n (suc n) (stretch ev n) (thread ev n) (omega arith) in
+            omega arith
+        by-role (inr issues-it) =
+            omega (arith, count-it ev (issue? ev) n (stretch ev n) (thread ev n) issues-it refl refl)
+
+    one-more-at :
+        (n j t : ℕ) → n < N → Commit ev n → stretch ev n ≡ j → thread ev n ≡ t
+        → commits ev n j t ≤ issues ev n j t → commits ev n j t < issues ev (suc n) j t
+    one-more-at n j t inside commits in-j by-t so-far =
+        rw (in-j, by-t) at (one-more n inside commits (rw (in-j, by-t) so-far))
 
     pub commits-below-issues : (n j t : ℕ) → n ≤ N → commits ev n j t ≤ issues ev n j t
     unfolding count
@@ -124,14 +145,17 @@ module _ (ev : ℕ → Event) where
             let inner = parts (commit? ev n) _ (outer .0) in
             let in-j : stretch ev n ≡ j = eqb-true _ _ (inner .1) in
             let by-t : thread ev n ≡ t = eqb-true _ _ (outer .1) in
-            let waits : issues ev n j t ≢ commits ev n j t =
-            rw (in-j, by-t) at (store-waits n within (record { test = inner .0 }))
-            in
-            rw passes (omega arith)
+            rw passes (omega (arith, one-more-at n j t within (record { test = inner .0 }) in-j by-t earlier))
 
-    -- a store's commit comes after it
-    commit-after-store : (p : ℕ) → Committed N p → p < commitOf ev N p
-    commit-after-store p committed = by-order (less? p e)
+    -- a commit finds a store that is not committed: one that waits, or its own
+    pub store-there :
+        (n : ℕ) → n < N → Commit ev n → commitsBefore ev n < issues ev (suc n) (stretch ev n) (thread ev n)
+    store-there n inside commits =
+        one-more n inside commits (commits-below-issues n (stretch ev n) (thread ev n) (omega arith))
+
+    -- a store's commit is its own event or comes after it
+    commit-after-store : (p : ℕ) → Committed N p → p ≤ commitOf ev N p
+    commit-after-store p committed = by-order (less? e p)
       where
         e : ℕ
         e = commitOf ev N p
@@ -139,18 +163,13 @@ module _ (ev : ℕ → Event) where
         it : CommitOf N p e
         it = commit-of N p committed
 
-        by-order : (p < e) ⊎ (e ≤ p) → p < e
-        by-order (inl after) = after
-        by-order (inr not-after) = absurd (omega (arith, it .at-place, waits, below, all-before))
+        by-order : (e < p) ⊎ (p ≤ e) → p ≤ e
+        by-order (inr after) = after
+        by-order (inl sooner) =
+            absurd (omega (arith, it .at-place, store-there e (it .inside) (it .commits-it), all-before))
           where
-            waits : issues ev e (stretch ev e) (thread ev e) ≢ commitsBefore ev e
-            waits = store-waits e (it .inside) (it .commits-it)
-
-            below : commitsBefore ev e ≤ issues ev e (stretch ev e) (thread ev e)
-            below = commits-below-issues e (stretch ev e) (thread ev e) (omega (arith, it .inside))
-
-            all-before : issues ev e (stretch ev e) (thread ev e) ≤ place ev p
-            all-before = rw (← it .in-stretch, ← it .by-thread) (count-mono ev (issue? ev) e p _ _ not-after)
+            all-before : issues ev (suc e) (stretch ev e) (thread ev e) ≤ place ev p
+            all-before = rw (← it .in-stretch, ← it .by-thread) (count-mono ev (issue? ev) (suc e) p _ _ sooner)
 
     -- ---- what happens before a committed store
 
@@ -220,11 +239,8 @@ module _ (ev : ℕ → Event) where
             in
             omega arith
 
-        later : n ≤ c
-        later = omega (arith, commit-after-store n n-committed)
-
         found : CommitOf c p (commitOf ev c p)
-        found = commit-of c p (settled precedes c later (it .inside) settles)
+        found = commit-of c p (settled precedes c (commit-after-store n n-committed) (it .inside) settles)
 
         p-commit : CommitOf N p (commitOf ev c p)
         p-commit = record {

@@ -7,7 +7,7 @@ use mathlib.Core.Path.{_≡_, refl, _∙_}
 use mathlib.Core.Bool.{Bool, true, false}
 use mathlib.Core.Logic.{inl, inr, _≢_}
 use mathlib.Core.List.{List}
-use lib.ListN.{length}
+use lib.ListN.{length, getD}
 use borrow.Author.Tests.{eq-eqb, ne-eqb, le-ltb}
 use Rattle.record.specs.declared.events.Event.{Event}
 use Rattle.record.specs.Tests.{_gives_else_}
@@ -27,7 +27,7 @@ use Rattle.model.proofs.Tabulating.{tabulate-length, tabulate-at}
 use Rattle.model.proofs.Ordering.{before-lt}
 use Rattle.model.proofs.Ranges.{issue-has-thread, thread-bound}
 use Rattle.model.proofs.Closure.{CommittedEarlier}
-use Rattle.model.proofs.WindowPlaces.{window-is, observed-has-window}
+use Rattle.model.proofs.WindowPlaces.{window-is, brings-itself-none, observed-has-window}
 use Rattle.model.proofs.Exactness.{exact, named-missing, named-observed}
 use Rattle.model.proofs.TurnedAway.{accepted-exactly, turned-away-exactly, accepted-events}
 
@@ -44,15 +44,19 @@ module _ (ev : ℕ → Event) (N : ℕ) (accepted : Accepted ev N) {load p q : �
     each = λ t below.
         rw (tabulate-at 8 (windowOf ev p q) t none below)
         (window-is ev p q t (named-missing ev it) (observed-settled .store));
-    observed-has =
-        let inside = it .inside in
-        let q-thread =
-        thread-bound ev N accepted q (omega (arith, observed-settled .early))
-        (issue-has-thread ev (observed-settled .store))
-        in
-        let (from, to, is) = observed-has-window ev p q before in
-        (from, to, tabulate-at 8 (windowOf ev p q) (thread ev q) none q-thread ∙ is);
+    observed-none = λ itself.
+        at-observed ∙ brings-itself-none ev p q (named-missing ev it) (observed-settled .store) itself;
+    observed-has = λ not-itself.
+        let (from, to, is) = observed-has-window ev p q before not-itself in
+        (from, to, at-observed ∙ is);
   }
+    where
+      at-observed : getD (tabulate 8 (windowOf ev p q)) (thread ev q) none ≡ windowOf ev p q (thread ev q)
+      at-observed =
+          let inside = it .inside in
+          tabulate-at 8 (windowOf ev p q) (thread ev q) none
+          (thread-bound ev N accepted q (omega (arith, observed-settled .early))
+          (issue-has-thread ev (observed-settled .store)))
 
   pub fault-is : FaultClaims ev p q (faultOf ev p q)
   unfolding faultOf

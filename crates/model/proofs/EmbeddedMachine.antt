@@ -2,7 +2,7 @@
 -- stores or commits of the part's threads, or at its locations, and so finds the same event. Searches by thread need
 -- the embedding alone, searches by location also that locations stay apart.
 -- In order: stores and commits that are searched for by thread; by location; the load rule; which loads count.
-use Prim.Native.Nat.{ℕ}
+use Prim.Native.Nat.{ℕ, suc}
 use mathlib.Core.Path.{_≡_, refl, sym, _∙_}
 use mathlib.Core.Bool.{Bool, true, false, cond, _&&_}
 use mathlib.Core.List.{List, [], _∷_, map}
@@ -38,7 +38,8 @@ module _
       search-kept via (via .issuing) (via .committing .thread-same e commits) (via .committing .thread-own e commits)
       (stretch-store via) (stretch-commit via e) (λ b p. b && eqb (place whole p) (commitsBefore whole here))
       (λ b p. b && eqb (place part p) (commitsBefore part e)) (λ p. refl) (λ p. refl)
-      (λ b p store. rw (place-at via p store, commits-before-commit via e commits)) here e (via .stores-at-commit e)
+      (λ b p store. rw (place-at via p store, commits-before-commit via e commits)) (suc here) (suc e)
+      (via .stores-at-commit e)
 
   -- the commit of a store, among those before a load
   pub commitOf-at :

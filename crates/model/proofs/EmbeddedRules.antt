@@ -4,17 +4,17 @@
 use Prim.Native.Nat.{ℕ, _≤_, _<_}
 use native.Mathlib.Omega.{arith}
 use mathlib.Core.Path.{_≡_, sym, _∙_}
-use mathlib.Core.Bool.{true, _&&_, not}
+use mathlib.Core.Bool.{true, _&&_, _||_, not}
 use lib.Dec.{eqb, ltb, leb}
 use borrow.Author.Tests.{le-ltb}
 use Rattle.record.specs.declared.events.Event.{Event}
 use Rattle.model.specs.Trace.{thread, location, hasThread?, hasLocation?, threads, locations, stretch, begin?}
-use Rattle.model.specs.Trace.{commit?, load?, mfence?, skipOn?, skipOff?}
+use Rattle.model.specs.Trace.{issue?, commit?, load?, drained?, skipOn?, skipOff?}
 use Rattle.model.specs.Machine.{queued, sourceFits, skipping}
 use Rattle.model.specs.Rules.{beginFits, rules, refusal, Accepted}
 use Rattle.model.specs.Embedding.{Naming, Embedding, Apart, SameEvent, SameBegin}
 use Rattle.model.proofs.Acceptance.{event-bound}
-use Rattle.model.proofs.Ranges.{commit-has-thread, mfence-has-thread, skip-on-has-thread, skip-off-has-thread}
+use Rattle.model.proofs.Ranges.{commit-has-thread, drained-has-thread, skip-on-has-thread, skip-off-has-thread}
 use Rattle.model.proofs.Numberings.{number-zero, kept-lt, kept-le, number-below, number-eqb-zero, number-ltb}
 use Rattle.model.proofs.EmbeddedTrace.{by-role, stretch-kept, issues-at, commits-before-at, skipping-kept}
 use Rattle.model.proofs.EmbeddedMachine.{sourceFits-at}
@@ -65,15 +65,17 @@ module _
           commits-before-at via n e (same .thread-same has) (same .thread-own has) stretch-same at-commit,
         )
 
-    commit-rule : (commit? whole n && not (queued whole n)) ≡ (commit? part e && not (queued part e))
+    commit-rule :
+        (commit? whole n && not (queued whole n || issue? whole n))
+        ≡ (commit? part e && not (queued part e || issue? part e))
     commit-rule =
         by-role (commit? part e)
         (λ it. rw (queued-same (commit-has-thread part {c = e} (record { test = it })), same .kind-same))
         (λ other. rw (same .kind-same, other))
 
-    mfence-rule : (mfence? whole n && queued whole n) ≡ (mfence? part e && queued part e)
-    mfence-rule =
-        by-role (mfence? part e) (λ it. rw (queued-same (mfence-has-thread part e it), same .kind-same))
+    drained-rule : (drained? whole n && queued whole n) ≡ (drained? part e && queued part e)
+    drained-rule =
+        by-role (drained? part e) (λ it. rw (queued-same (drained-has-thread part e it), same .kind-same))
         (λ other. rw (same .kind-same, other))
 
     skipping-same : hasThread? part e ≡ true → skipping whole n (thread whole n) ≡ skipping part e (thread part e)
@@ -105,7 +107,7 @@ module _
         (λ other. rw (same .kind-same, other))
 
     -- an event that is not past the limit meets the same refusal in both traces
-    refusal-same : n ≤ 2048 → refusal whole n ≡ refusal part e
+    pub refusal-same : n ≤ 2048 → refusal whole n ≡ refusal part e
     unfolding rules
     refusal-same inside =
         let limit-same : ltb 2048 n ≡ ltb 2048 e =
@@ -115,9 +117,9 @@ module _
           begin-rule,
           thread-rule,
           location-rule,
+          drained-rule,
           load-rule,
           commit-rule,
-          mfence-rule,
           skip-on-rule,
           skip-off-rule,
           first-same,

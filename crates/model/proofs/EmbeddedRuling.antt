@@ -10,7 +10,8 @@ use mathlib.Core.Logic.{_⊎_, inl, inr, _↔_}
 use Rattle.record.specs.declared.events.Event.{Event}
 use Rattle.model.specs.Choice.{Choice, Ruling, robust, broken, Counted, Explains, Robust, Least, Observed}
 use Rattle.model.specs.Choice.{Forbidden, Pair, Broken, Exact}
-use Rattle.model.specs.Embedding.{everything, Embedding, Apart, Cover, carryBy}
+use Rattle.model.specs.Flushes.{carryBy}
+use Rattle.model.specs.Embedding.{everything, Embedding, Apart, Cover}
 use Rattle.model.proofs.Numberings.{kept-mono, kept-lt, number-below, number-le, number-order, kept-past}
 use Rattle.model.proofs.EmbeddedMachine.{counted-kept}
 use Rattle.model.proofs.CountedLoads.{counted-is-load}

@@ -131,6 +131,11 @@ module _
 
   -- ---- counts and places
 
+  pub issues-kept :
+      (n j t : ℕ) → threadsBy .own? (threadsBy .into t) ≡ true
+      → issues whole n j (threadsBy .into t) ≡ issues part (via .stores .kept n) j t
+  issues-kept n j t own = count-kept (via .issuing) refl own stretch-store refl n
+
   pub commits-kept :
       (n j t : ℕ) → threadsBy .own? (threadsBy .into t) ≡ true
       → commits whole n j (threadsBy .into t) ≡ commits part (via .commits .kept n) j t

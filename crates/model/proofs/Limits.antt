@@ -3,7 +3,7 @@
 use Prim.Native.Nat.{ℕ, zero, suc, _≤_, _<_}
 use native.Mathlib.Omega.{arith}
 use mathlib.Core.Path.{_≡_, refl}
-use mathlib.Core.Bool.{Bool, true, false, _&&_}
+use mathlib.Core.Bool.{true, false, _&&_}
 use mathlib.Core.Logic.{_⊎_, inl, inr, _≢_}
 use lib.Dec.{eqb, ltb, leb}
 use borrow.Author.Tests.{eqb-true, eqb-false, leb-true, leb-false}
@@ -12,14 +12,9 @@ use Rattle.record.specs.Fields.{fieldsOf}
 use Rattle.model.specs.Trace.{thread, location, is, crash?, hasThread?, hasLocation?, threads, locations}
 use Rattle.model.specs.Trace.{stretch}
 use Rattle.model.specs.Rules.{within, beginFits, refusal, Accepted}
-use Rattle.model.proofs.Searching.{false-true, test, parts, or-fails, not-without}
+use Rattle.model.proofs.Searching.{test, parts, or-fails, not-without, fails-after}
 use Rattle.model.proofs.Counting.{stretch-crash, stretch-else}
 use Rattle.model.proofs.Acceptance.{passed, begins}
-
--- `a && b` fails and a passes: b fails
-fails-after : (a b : Bool) → (a && b) ≡ false → a ≡ true → b ≡ false
-fails-after true b fails passes-a = fails
-fails-after false b fails passes-a = false-true passes-a
 
 first-stretch : (ev : ℕ → Event) → stretch ev 0 ≡ 1
 unfolding stretch

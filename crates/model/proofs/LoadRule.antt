@@ -5,7 +5,7 @@
 use Prim.Native.Nat.{ℕ, zero, suc, _≤_, _<_}
 use native.Mathlib.Omega.{arith}
 use mathlib.Core.Path.{_≡_, refl, sym, _∙_, ap}
-use mathlib.Core.Bool.{true, false, cond, _&&_}
+use mathlib.Core.Bool.{Bool, true, false, cond, _&&_}
 use mathlib.Core.List.{_∷_}
 use mathlib.Core.Logic.{_⊎_, inl, inr, _≢_}
 use lib.Dec.{eqb}
@@ -13,7 +13,7 @@ use borrow.Author.Tests.{eqb-true, eq-eqb, le-leb, leb-true}
 use Rattle.record.specs.declared.events.Event.{Event}
 use Rattle.model.specs.Search.{last}
 use Rattle.model.specs.Trace.{thread, location, issue?, commit?, Issue, Commit, stretch, place}
-use Rattle.model.specs.Machine.{beside, commitsBefore, committed, waits, waiting, commitsHere, current}
+use Rattle.model.specs.Machine.{beside, commitsBefore, oldest, committed, waits, waiting, commitsHere, current}
 use Rattle.model.specs.Rules.{Accepted}
 use Rattle.model.specs.Stores.{headOf, madeAt, newestAt, landsAt, landed}
 use Rattle.model.proofs.Searching.{test, both, parts, last-is, last-of, last-none}
@@ -125,7 +125,11 @@ module _ (ev : ℕ → Event) where
 
   pub committed-zero : committed ev 0 ≡ 0
   unfolding committed last
-  committed-zero = refl
+  committed-zero = either (oldest ev 0 0)
+    where
+      either : (b : Bool) → _≡_ {A = ℕ} (cond b 0 0) 0
+      either true = refl
+      either false = refl
 
   -- the last event that commits a store at location x
   abbrev lastCommit : ℕ → ℕ → ℕ
@@ -185,9 +189,9 @@ module _ (ev : ℕ → Event) where
       pub commit : ℕ
       pub lands : Lands n x commit
       pub is-last : lastCommit n x ≡ commit
-      pub store : Store ev commit (stretch ev commit) (thread ev commit) (commitsBefore ev commit) p
+      pub store : Store ev (suc commit) (stretch ev commit) (thread ev commit) (commitsBefore ev commit) p
 
-    pub head-store : (x p : ℕ) → headOf (landed ev n x) ≡ p → p ≢ 0 → Head x p
+    head-store : (x p : ℕ) → headOf (landed ev n x) ≡ p → p ≢ 0 → Head x p
     head-store x p is-head some =
         let lands = last-lands n x (λ is-0. some (from-zero is-0)) in
         record {
@@ -239,12 +243,12 @@ module _ (ev : ℕ → Event) where
             below : c ≤ lastCommit n x
             below = lands-most n x c (here .lands)
 
-            is-store : Store ev c (stretch ev c) (thread ev c) (commitsBefore ev c) (committed ev c)
+            is-store : Store ev (suc c) (stretch ev c) (thread ev c) (commitsBefore ev c) (committed ev c)
             is-store =
                 committed-store ev N c accepted (omega (arith, here .lands .early)) (here .lands .commits)
 
             last-some : lastCommit n x ≢ 0
-            last-some is-0 = omega (arith, is-store .early, below)
+            last-some is-0 = store-not-0 ev N accepted (is-store .store) (omega (arith, is-store .early, below))
 
             lands : Lands n x (lastCommit n x)
             lands = last-lands n x last-some
@@ -253,7 +257,8 @@ module _ (ev : ℕ → Event) where
             c-last = lastCommit n x
 
             head :
-                Store ev c-last (stretch ev c-last) (thread ev c-last) (commitsBefore ev c-last) (committed ev c-last)
+                Store ev (suc c-last) (stretch ev c-last) (thread ev c-last) (commitsBefore ev c-last)
+                (committed ev c-last)
             head =
                 committed-store ev N (lastCommit n x) accepted (omega (arith, lands .early)) (lands .commits)
 

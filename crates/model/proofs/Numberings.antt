@@ -12,6 +12,13 @@ use Rattle.model.specs.Search.{last}
 use Rattle.model.specs.Embedding.{Numbering, Naming}
 use Rattle.model.proofs.Searching.{same?, less?, test, same-test, false-true}
 
+-- a function that keeps numbers apart
+pub injective-eqb :
+    (f : ℕ → ℕ) → ((a b : ℕ) → f a ≡ f b → a ≡ b) → (a b : ℕ) → eqb (f a) (f b) ≡ eqb a b
+injective-eqb f injective a b =
+    same-test (eqb (f a) (f b)) (eqb a b) (λ passes. eq-eqb a b (injective a b (eqb-true (f a) (f b) passes)))
+    (λ passes. eq-eqb (f a) (f b) (ap f (eqb-true a b passes)))
+
 -- ---- numbers of threads and locations
 
 pub into-injective : (name : Naming) (s t : ℕ) → name .into s ≡ name .into t → s ≡ t
@@ -19,10 +26,7 @@ into-injective name s t same = sym (name .back-into s) ∙ rw same (name .back-i
 
 -- the part's numbers keep their differences
 pub into-eqb : (name : Naming) (s t : ℕ) → eqb (name .into s) (name .into t) ≡ eqb s t
-into-eqb name s t =
-    same-test (eqb (name .into s) (name .into t)) (eqb s t)
-    (λ passes. eq-eqb s t (into-injective name s t (eqb-true _ _ passes)))
-    (λ passes. eq-eqb (name .into s) (name .into t) (ap (name .into) (eqb-true s t passes)))
+into-eqb name = injective-eqb (name .into) (into-injective name)
 
 -- a number that is not the part's is none of them
 pub not-own : (name : Naming) (u v : ℕ) → name .own? u ≡ false → name .own? v ≡ true → eqb u v ≡ false
@@ -99,10 +103,7 @@ module _ (by : Numbering) where
   -- ---- equality and order, as tests
 
   pub number-eqb : (d e : ℕ) → eqb (by .number d) (by .number e) ≡ eqb d e
-  number-eqb d e =
-      same-test (eqb (by .number d) (by .number e)) (eqb d e)
-      (λ passes. eq-eqb d e (number-injective d e (eqb-true _ _ passes)))
-      (λ passes. eq-eqb (by .number d) (by .number e) (ap (by .number) (eqb-true d e passes)))
+  number-eqb = injective-eqb (by .number) number-injective
 
   pub number-eqb-zero : (e : ℕ) → eqb (by .number e) 0 ≡ eqb e 0
   number-eqb-zero e = rw number-zero at (number-eqb e 0)

@@ -3,35 +3,55 @@
 use Prim.Native.Nat.{ℕ, _<_}
 use native.Mathlib.Omega.{arith}
 use mathlib.Core.Path.{_≡_, refl}
-use mathlib.Core.Bool.{true}
+use mathlib.Core.Bool.{Bool, true, _||_, not}
+use mathlib.Core.Logic.{_⊎_, inl, inr}
+use lib.Dec.{eqb}
 use borrow.Author.Tests.{eqb-true}
 use Rattle.record.specs.declared.events.Event.{Event}
+use Rattle.record.specs.Fields.{threadIn, locationIn}
 use Rattle.record.specs.Table.{rowOf}
 use Rattle.model.specs.Trace.{kind, thread, location, hasThread?, hasLocation?, Issue, Commit, Load}
-use Rattle.model.specs.Trace.{mfence?, skipOn?, skipOff?}
+use Rattle.model.specs.Trace.{is, drained?, skipOn?, skipOff?}
 use Rattle.model.specs.Rules.{Accepted}
+use Rattle.model.proofs.Searching.{or-cases}
 use Rattle.model.proofs.Limits.{few-threads, few-locations, thread-below, location-below}
 
 module _ (ev : ℕ → Event) where
+  -- a test of kinds that two kinds pass is passed by an event of either
+  of-two :
+      (passes? : ℕ → Bool) (a b : ℕ) → passes? a ≡ true → passes? b ≡ true
+      → (e : ℕ) → (is ev a e || is ev b e) ≡ true → passes? (kind ev e) ≡ true
+  of-two passes? a b by-a by-b e either = by-kind (or-cases (is ev a e) (is ev b e) either)
+    where
+      by-kind : (is ev a e ≡ true) ⊎ (is ev b e ≡ true) → passes? (kind ev e) ≡ true
+      by-kind (inl is-a) = rw (eqb-true (kind ev e) a is-a) by-a
+      by-kind (inr is-b) = rw (eqb-true (kind ev e) b is-b) by-b
+
+  abbrev threadOf? : ℕ → Bool
+  threadOf? k = not (eqb (threadIn (rowOf k)) 0)
+
+  abbrev locationOf? : ℕ → Bool
+  locationOf? k = not (eqb (locationIn (rowOf k)) 0)
+
   pub issue-has-thread : {p : ℕ} → Issue ev p → hasThread? ev p ≡ true
   unfolding rowOf
-  issue-has-thread {p} store = rw (eqb-true (kind ev p) 2 (store .test)) refl
+  issue-has-thread {p} store = of-two threadOf? 2 12 refl refl p (store .test)
 
   pub issue-has-location : {p : ℕ} → Issue ev p → hasLocation? ev p ≡ true
   unfolding rowOf
-  issue-has-location {p} store = rw (eqb-true (kind ev p) 2 (store .test)) refl
+  issue-has-location {p} store = of-two locationOf? 2 12 refl refl p (store .test)
 
   pub commit-has-thread : {c : ℕ} → Commit ev c → hasThread? ev c ≡ true
   unfolding rowOf
-  commit-has-thread {c} commits = rw (eqb-true (kind ev c) 3 (commits .test)) refl
+  commit-has-thread {c} commits = of-two threadOf? 3 12 refl refl c (commits .test)
 
   pub load-has-thread : {l : ℕ} → Load ev l → hasThread? ev l ≡ true
   unfolding rowOf
-  load-has-thread {l} loads = rw (eqb-true (kind ev l) 4 (loads .test)) refl
+  load-has-thread {l} loads = of-two threadOf? 4 12 refl refl l (loads .test)
 
-  pub mfence-has-thread : (e : ℕ) → mfence? ev e ≡ true → hasThread? ev e ≡ true
+  pub drained-has-thread : (e : ℕ) → drained? ev e ≡ true → hasThread? ev e ≡ true
   unfolding rowOf
-  mfence-has-thread e it = rw (eqb-true (kind ev e) 8 it) refl
+  drained-has-thread e it = of-two threadOf? 8 12 refl refl e it
 
   pub skip-on-has-thread : (e : ℕ) → skipOn? ev e ≡ true → hasThread? ev e ≡ true
   unfolding rowOf
@@ -43,7 +63,7 @@ module _ (ev : ℕ → Event) where
 
   pub load-has-location : {l : ℕ} → Load ev l → hasLocation? ev l ≡ true
   unfolding rowOf
-  load-has-location {l} loads = rw (eqb-true (kind ev l) 4 (loads .test)) refl
+  load-has-location {l} loads = of-two locationOf? 4 12 refl refl l (loads .test)
 
   module _ (N : ℕ) (accepted : Accepted ev N) where
     pub thread-bound : (n : ℕ) → n < N → hasThread? ev n ≡ true → thread ev n < 8

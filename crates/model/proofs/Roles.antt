@@ -5,32 +5,43 @@
 use Prim.Native.Nat.{ℕ, _≤_}
 use native.Mathlib.Omega.{arith}
 use mathlib.Core.Path.{_≡_}
-use mathlib.Core.Bool.{true, false}
+use mathlib.Core.Bool.{true, false, _||_}
 use mathlib.Core.Logic.{_⊎_, inl, inr, _≢_}
 use borrow.Author.Tests.{eqb-true, ne-eqb}
 use Rattle.record.specs.declared.events.Event.{Event}
 use Rattle.model.specs.Trace.{kind, is, begin?, issue?, commit?, load?, crash?, skipOn?, skipOff?}
 use Rattle.model.specs.Trace.{Issue, Commit, Load}
-use Rattle.model.proofs.Searching.{test}
+use Rattle.model.proofs.Searching.{test, or-cases}
 
 module _ (ev : ℕ → Event) where
   -- an event of one kind is of no other
   pub one-kind : (e a b : ℕ) → a ≢ b → is ev a e ≡ true → is ev b e ≡ false
   one-kind e a b differ is-a = ne-eqb (kind ev e) b (λ is-b. omega (arith, eqb-true (kind ev e) a is-a))
 
+  -- so an event of one of two kinds is of no third, and one of a third kind is of neither
+  no-third : (e a b c : ℕ) → a ≢ c → b ≢ c → (is ev a e || is ev b e) ≡ true → is ev c e ≡ false
+  no-third e a b c not-a not-b either = by-kind (or-cases (is ev a e) (is ev b e) either)
+    where
+      by-kind : (is ev a e ≡ true) ⊎ (is ev b e ≡ true) → is ev c e ≡ false
+      by-kind (inl is-a) = one-kind e a c not-a is-a
+      by-kind (inr is-b) = one-kind e b c not-b is-b
+
+  pub neither : (e c a b : ℕ) → c ≢ a → c ≢ b → is ev c e ≡ true → (is ev a e || is ev b e) ≡ false
+  neither e c a b not-a not-b is-c = rw (one-kind e c a not-a is-c, one-kind e c b not-b is-c)
+
   -- ---- what the roles exclude
 
   pub issue-no-crash : {e : ℕ} → Issue ev e → crash? ev e ≡ false
-  issue-no-crash {e} store = one-kind e 2 9 (omega arith) (store .test)
+  issue-no-crash {e} store = no-third e 2 12 9 (omega arith) (omega arith) (store .test)
 
   pub commit-no-crash : {e : ℕ} → Commit ev e → crash? ev e ≡ false
-  commit-no-crash {e} commits = one-kind e 3 9 (omega arith) (commits .test)
+  commit-no-crash {e} commits = no-third e 3 12 9 (omega arith) (omega arith) (commits .test)
 
   pub load-no-crash : {e : ℕ} → Load ev e → crash? ev e ≡ false
-  load-no-crash {e} loads = one-kind e 4 9 (omega arith) (loads .test)
+  load-no-crash {e} loads = no-third e 4 12 9 (omega arith) (omega arith) (loads .test)
 
   pub begin-no-load : (e : ℕ) → is ev 1 e ≡ true → load? ev e ≡ false
-  begin-no-load e = one-kind e 1 4 (omega arith)
+  begin-no-load e = neither e 1 4 12 (omega arith) (omega arith)
 
   -- ---- the kinds that play no role
 
@@ -48,13 +59,16 @@ module _ (ev : ℕ → Event) where
   pub quiet-kind : (e : ℕ) → 5 ≤ kind ev e → kind ev e ≤ 8 → Quiet e
   quiet-kind e low high = record {
     no-begin = ne-eqb (kind ev e) 1 (λ is. omega arith);
-    no-issue = ne-eqb (kind ev e) 2 (λ is. omega arith);
-    no-commit = ne-eqb (kind ev e) 3 (λ is. omega arith);
-    no-load = ne-eqb (kind ev e) 4 (λ is. omega arith);
+    no-issue = rw (ne-eqb (kind ev e) 2 (λ is. omega arith), not-locked);
+    no-commit = rw (ne-eqb (kind ev e) 3 (λ is. omega arith), not-locked);
+    no-load = rw (ne-eqb (kind ev e) 4 (λ is. omega arith), not-locked);
     no-crash = ne-eqb (kind ev e) 9 (λ is. omega arith);
     no-skip-on = ne-eqb (kind ev e) 10 (λ is. omega arith);
     no-skip-off = ne-eqb (kind ev e) 11 (λ is. omega arith);
   }
+    where
+      not-locked : is ev 12 e ≡ false
+      not-locked = ne-eqb (kind ev e) 12 (λ is. omega arith)
 
   -- ---- the decisions
 

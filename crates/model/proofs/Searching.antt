@@ -28,6 +28,11 @@ pub parts : (a b : Bool) → (a && b) ≡ true → (a ≡ true) × (b ≡ true)
 parts true b t = (refl, t)
 parts false b t = false-true t
 
+-- `a && b` fails and a passes: b fails
+pub fails-after : (a b : Bool) → (a && b) ≡ false → a ≡ true → b ≡ false
+fails-after true b fails passes-a = fails
+fails-after false b fails passes-a = false-true passes-a
+
 pub or-cases : (a b : Bool) → (a || b) ≡ true → (a ≡ true) ⊎ (b ≡ true)
 or-cases true b t = inl refl
 or-cases false b t = inr t

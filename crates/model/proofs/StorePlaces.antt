@@ -8,16 +8,17 @@ use mathlib.Core.Path.{_≡_, refl, sym, _∙_}
 use mathlib.Core.Bool.{Bool, true, false, cond, _&&_}
 use mathlib.Core.Logic.{_⊎_, inl, inr, _≢_}
 use lib.Dec.{eqb}
-use borrow.Author.Tests.{eqb-true, eq-eqb}
+use borrow.Author.Tests.{eqb-true, eq-eqb, not-false}
 use Rattle.record.specs.declared.events.Event.{Event}
 use Rattle.model.specs.Search.{bit, last}
-use Rattle.model.specs.Trace.{thread, issue?, Issue, Commit, stretch, count, issues, place}
+use Rattle.model.specs.Trace.{thread, issue?, drained?, Issue, Commit, stretch, count, issues, place}
 use Rattle.model.specs.Machine.{commitsBefore, committed}
 use Rattle.model.specs.Rules.{Accepted}
 use Rattle.model.specs.Stores.{atPlace, storeAt}
 use Rattle.model.proofs.Searching.{false-true, test, same?, both, parts, last-of, last-none}
 use Rattle.model.proofs.Counting.{count-lt, at-place, place-unique}
-use Rattle.model.proofs.Committed.{store-waits, commits-below-issues}
+use Rattle.model.proofs.Acceptance.{drained-empty}
+use Rattle.model.proofs.Committed.{store-there}
 
 -- ---- searches
 
@@ -154,18 +155,36 @@ module _ (ev : ℕ → Event) where
 
   -- ---- the store that a commit makes take effect
 
-  pub committed-at : (c : ℕ) → committed ev c ≡ storeAt ev c (stretch ev c) (thread ev c) (commitsBefore ev c)
+  pub committed-at : (c : ℕ) → committed ev c ≡ storeAt ev (suc c) (stretch ev c) (thread ev c) (commitsBefore ev c)
   unfolding committed storeAt
   committed-at c = refl
 
   pub committed-store :
       (N c : ℕ) → Accepted ev N → c < N → Commit ev c
-      → Store c (stretch ev c) (thread ev c) (commitsBefore ev c) (committed ev c)
+      → Store (suc c) (stretch ev c) (thread ev c) (commitsBefore ev c) (committed ev c)
   committed-store N c accepted inside commits =
       rw (committed-at c)
-      (store-at-is c (stretch ev c) (thread ev c) (commitsBefore ev c)
-      (omega (
-        arith,
-        store-waits ev N accepted c inside commits,
-        commits-below-issues ev N accepted c (stretch ev c) (thread ev c) (omega arith),
-      )))
+      (store-at-is (suc c) (stretch ev c) (thread ev c) (commitsBefore ev c)
+      (store-there ev N accepted c inside commits))
+
+  -- an event that needs an empty queue, and issues, commits its own store
+  pub committed-itself :
+      (N c : ℕ) → Accepted ev N → c < N → drained? ev c ≡ true → Issue ev c → committed ev c ≡ c
+  committed-itself N c accepted inside drains store =
+      let empty = drained-empty ev N accepted c inside drains in
+      let all : issues ev c (stretch ev c) (thread ev c) ≡ commitsBefore ev c = eqb-true _ _ (not-false _ empty) in
+      committed-at c
+      ∙ store-at-here c (stretch ev c) (thread ev c) (commitsBefore ev c) store refl refl all
+
+  -- a commit that issues nothing commits an earlier store
+  pub committed-earlier :
+      (N c : ℕ) → Accepted ev N → c < N → Commit ev c → issue? ev c ≡ false → committed ev c < c
+  committed-earlier N c accepted inside commits no-issue =
+      let it = committed-store N c accepted inside commits in
+      by-order (same? (committed ev c) c) (it .early) (it .store)
+    where
+      by-order :
+          (committed ev c ≡ c) ⊎ (committed ev c ≢ c) → committed ev c < suc c → Issue ev (committed ev c)
+          → committed ev c < c
+      by-order (inl is) early store = false-true (sym no-issue ∙ rw is at (store .test))
+      by-order (inr differs) early store = omega arith

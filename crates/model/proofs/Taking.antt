@@ -12,10 +12,12 @@ use lib.Dec.{ltb}
 use borrow.Author.Tests.{eq-eqb, ne-eqb, lt-ltb, le-ltb}
 use Rattle.record.specs.declared.events.Event.{Event}
 use Rattle.record.specs.declared.events.Event.the-variants.{Begin, Issue, Commit, Load, Clwb}
+use Rattle.record.specs.Fields.{eventOf}
 use Rattle.model.specs.Trace.{traceOf}
 use Rattle.model.specs.Flushes.{later, kept, number, moved, staying, without, taken, only}
 use Rattle.model.specs.Embedding.{Numbering}
 use Rattle.model.proofs.Searching.{test, same?, less?, false-true}
+use Rattle.model.proofs.Moving.{moved-crash}
 
 pub kept-none : (out? : ℕ → Bool) (es : List Event) → kept out? es 0 ≡ 0
 unfolding kept
@@ -124,8 +126,8 @@ taking out? es inside first-stays = record {
 pub event-there :
     (out? : ℕ → Bool) (f : ℕ → ℕ) (es : List Event) (n : ℕ)
     → traceOf (staying out? f es) n ≡ moved f (traceOf es (number out? es n))
-unfolding staying number moved
-event-there out? f [] n = refl
+unfolding staying number
+event-there out? f [] n = sym (moved-crash f)
 event-there out? f (e ∷ es) n = by-first (test (out? 0)) (λ m. event-there (later out?) f es m) n
   where
     by-first :
@@ -211,5 +213,5 @@ unfolding number
 example-number = refl
 
 example-without : without (only 1) whole ≡ short
-unfolding kept staying moved
+unfolding kept staying moved eventOf
 example-without = refl

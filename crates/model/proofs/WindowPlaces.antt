@@ -1,8 +1,9 @@
 -- Windows (specs/Windows.antt): what is computed is the window (`window-is`), and a thread has no other
 -- (`window-unique`); its places are those behind what gives the thread the missing store and at or before a store of
 -- its own that is the observed one or happens before it (`window-places`), and what the thread issues from a place on
--- happens after the missing store (`has-precedes`); the observed store's thread always has one (`observed-has-window`),
--- because what happens before it is its thread's own or was brought by a load in front of it.
+-- happens after the missing store (`has-precedes`); the observed store's thread has one (`observed-has-window`), for
+-- what happens before that store is its thread's own or was brought by a load in front of it, unless the load that
+-- first brings it is the observed store's own record (`brings-itself-none`).
 -- In order: what brings a store; the two ends; the window; its places; the observed store's thread.
 use Prim.Native.Nat.{ℕ, suc, _≤_, _<_}
 use native.Mathlib.Omega.{arith}
@@ -13,17 +14,17 @@ use lib.Dec.{eqb}
 use borrow.Author.Tests.{eqb-true, eq-eqb, ne-eqb, lt-ltb, le-ltb}
 use Rattle.record.specs.declared.events.Event.{Event}
 use Rattle.model.specs.Search.{first, last}
-use Rattle.model.specs.Trace.{thread, source, issue?, load?, Issue, Load, stretch}
+use Rattle.model.specs.Trace.{thread, source, issue?, load?, Issue, stretch}
 use Rattle.model.specs.HappensBefore.{Precedes, Before, AtOrBefore, own, read, chain}
 use Rattle.model.specs.Rules.{Accepted}
 use Rattle.model.specs.Clocks.{covers?}
-use Rattle.model.specs.Windows.{Places, none, between, Brings, FirstBrings, FirstPlace, LastPlace, WindowIs}
-use Rattle.model.specs.Windows.{Has, Reaches, PlaceIn, brings?, behind, lastCovered, windowOf}
+use Rattle.model.specs.Windows.{Places, none, between, Brings, FirstBrings, FirstPlace, LastPlace, Window}
+use Rattle.model.specs.Windows.{WindowIs, BringsItself, Has, Reaches, PlaceIn, brings?, behind, lastCovered}
+use Rattle.model.specs.Windows.{windowOf}
 use Rattle.model.specs.Windows as windows
-use Rattle.model.proofs.Searching.{both, parts, false-true, same?, less?, →some, first-is}
+use Rattle.model.proofs.Searching.{both, parts, same?, less?, →some, first-is}
 use Rattle.model.proofs.Searching.{first-found, last-is, last-largest}
 use Rattle.model.proofs.Counting.{stretch-mono}
-use Rattle.model.proofs.Roles.{one-kind}
 use Rattle.model.proofs.Ordering.{precedes-lt, precedes-stretch, before-lt, before-first, same-stretch}
 use Rattle.model.proofs.Ordering.{at-or-before-le, before-at-or-before}
 use Rattle.model.proofs.Clocks.{covers-exactly}
@@ -36,11 +37,6 @@ module _ (ev : ℕ → Event) where
   pub store-behind : {p q : ℕ} → Issue ev p → AtOrBefore ev p q → Issue ev q
   store-behind store (inl same) = rw same at store
   store-behind store (inr before) = before .store
-
-  -- what loads issues no store
-  pub load-no-issue : {e : ℕ} → Load ev e → ¬ Issue ev e
-  load-no-issue {e} loads store =
-      false-true (sym (one-kind ev e 4 2 (λ is. omega arith) (loads .test)) ∙ store .test)
 
   brings→ : (p n : ℕ) → Issue ev p → brings? ev p n ≡ true → Brings ev p n
   brings→ p n store passes =
@@ -61,15 +57,6 @@ module _ (ev : ℕ → Event) where
       both _ _
       (both _ _ (both _ _ (it .loads .test) (eq-eqb _ _ (it .in-stretch))) (source-store .test))
       (covers-exactly ev p (source ev n) store source-store .1 (it .from))
-
-  -- in an accepted trace what brings a store comes behind its source, since it is no store itself
-  pub source-before :
-      (N : ℕ) → Accepted ev N → {p l : ℕ} → l < N → Issue ev p → Brings ev p l → source ev l < l
-  source-before N accepted {p} {l} inside store it =
-      let differs : source ev l ≢ l =
-      λ same. load-no-issue (it .loads) (rw same at (store-behind store (it .from)))
-      in
-      omega (arith, source-early ev N accepted l inside (it .loads))
 
   -- ---- when thread t has store p, and reaches store q
 
@@ -303,7 +290,7 @@ module _ (ev : ℕ → Event) where
       s-precedes =
           read l s-store (sym (same-stretch ev p s (brings .from)) ∙ sym in-stretch) (brings .loads) refl
           (by-thread ∙ sym by-t) (brings .in-stretch ∙ sym in-stretch)
-          (source-before N accepted (omega arith) store brings) (omega arith)
+          (source-early ev N accepted l (omega arith) (brings .loads)) (omega arith)
 
       by-source : AtOrBefore ev p s → Precedes ev p e
       by-source (inl same) = rw same s-precedes
@@ -356,20 +343,62 @@ module _ (ev : ℕ → Event) where
             };
           }
 
-  -- "The thread of q must always have one."
+  -- "if q's own record is the load that first brings p to its thread, that thread has no window"
+  pub brings-itself-none :
+      (p q : ℕ) → Issue ev p → Issue ev q → BringsItself ev p q → windowOf ev p q (thread ev q) ≡ none
+  brings-itself-none p q p-store q-store itself =
+      window-unique p q (thread ev q) _ none (window-is p q (thread ev q) p-store q-store) no-window
+    where
+      no-window : (from to : ℕ) → ¬ Window ev p q (thread ev q) from to
+      no-window from to it = by-has (starts-has {n = from} (it .starts) (omega arith))
+        where
+          by-has : Has ev p (thread ev q) from → ⊥
+          by-has (inl (is-own, late)) = itself .other is-own
+          by-has (inr (other, (l, late, by-t, brings))) =
+              let early = at-or-before-le ev to q (it .ends .order) in
+              itself .first-brings .none-earlier l (omega (arith, it .in-order)) by-t brings
+
+  -- "The thread of q must always have one", but for that
   pub observed-has-window :
-      (p q : ℕ) → Before ev p q → (from to : ℕ) × (windowOf ev p q (thread ev q) ≡ between from to)
-  observed-has-window p q before =
-      has-window p q (thread ev q) (before-first ev before) (before .store) q
+      (p q : ℕ) → Before ev p q → ¬ BringsItself ev p q
+      → (from to : ℕ) × (windowOf ev p q (thread ev q) ≡ between from to)
+  observed-has-window p q before not-itself =
+      has-window p q (thread ev q) p-store (before .store) q
       (by-thread (same? (thread ev q) (thread ev p))) (q, omega arith, refl, before .store, inl refl)
     where
-      -- the load that brings p is not q's own record, which is a store
-      not-itself : (l : ℕ) → Brings ev p l → l ≢ q
-      not-itself l brings same = load-no-issue (brings .loads) (rw same (before .store))
+      p-store : Issue ev p
+      p-store = before-first ev before
+
+      has : behind ev p q (thread ev q) < q → Has ev p (thread ev q) q
+      has = has-exactly p (thread ev q) p-store q .0
+
+      -- an event before q does not bring p: then q's own does
+      itself : thread ev q ≢ thread ev p → q ≤ behind ev p q (thread ev q) → BringsItself ev p q
+      itself other not-behind =
+          let it = brought (before .precedes) (λ same. other (sym same)) in
+          record {
+            other = other;
+            first-brings = record { by-t = refl; brings = at-q it; none-earlier = none-earlier };
+          }
+        where
+          none-earlier : (n : ℕ) → n < q → thread ev n ≡ thread ev q → ¬ Brings ev p n
+          none-earlier n early by-thread brings =
+              let found = has-exactly p (thread ev q) p-store q .1 (inr (other, (n, early, by-thread, brings))) in
+              omega arith
+
+          at-q : BroughtBy p q → Brings ev p q
+          at-q it = by-place (same? (it .load) q)
+            where
+              by-place : (it .load ≡ q) ⊎ (it .load ≢ q) → Brings ev p q
+              by-place (inl is-q) = rw is-q at (it .brings)
+              by-place (inr differs) =
+                  absurd (none-earlier (it .load) (omega (arith, it .early)) (it .by-thread) (it .brings))
 
       by-thread : (thread ev q ≡ thread ev p) ⊎ (thread ev q ≢ thread ev p) → Has ev p (thread ev q) q
       by-thread (inl same) = inl (same, before-lt ev before)
-      by-thread (inr differs) =
-          let it = brought (before .precedes) (λ same. differs (sym same)) in
-          let elsewhere = not-itself (it .load) (it .brings) in
-          inr (differs, (it .load, omega (arith, it .early), it .by-thread, it .brings))
+      by-thread (inr other) = by-order (less? (behind ev p q (thread ev q)) q)
+        where
+          by-order :
+              (behind ev p q (thread ev q) < q) ⊎ (q ≤ behind ev p q (thread ev q)) → Has ev p (thread ev q) q
+          by-order (inl found) = has found
+          by-order (inr not-behind) = absurd (not-itself (itself other not-behind))

@@ -9,10 +9,10 @@ use Rattle.record.specs.declared.events.Event.{Event}
 use Rattle.model.specs.Trace.{thread}
 use Rattle.model.specs.HappensBefore.{Before}
 use Rattle.model.specs.Choice.{Choice, finished, Least, Broken}
-use Rattle.model.specs.Windows.{Places, none, between, WindowIs}
+use Rattle.model.specs.Windows.{Places, none, between, WindowIs, BringsItself}
 use Rattle.model.specs.Answers as answers
 
--- what a broken answer's kind, with missing p and observed q, claims: document 02, job 1
+-- what a broken answer's kind, with missing p and observed q, claims: document 02, jobs 1 and 2
 module _ (ev : ℕ → Event) (p q : ℕ) where
   -- of a flush fault
   pub record FlushClaims (primary : ℕ) (windows : List Places) : Type 0 where
@@ -22,8 +22,10 @@ module _ (ev : ℕ → Event) (p q : ℕ) where
     -- "Each thread gets its window, or none"
     pub threads-0-to-7 : length windows ≡ 8
     pub each : (t : ℕ) → t < 8 → WindowIs ev p q t (getD windows t none)
-    -- "The thread of q must always have one."
-    pub observed-has : (from to : ℕ) × (getD windows (thread ev q) none ≡ between from to)
+    -- "if q's own record is the load that first brings p to its thread, that thread has no window"
+    pub observed-none : BringsItself ev p q → getD windows (thread ev q) none ≡ none
+    -- "The thread of q must always have one", but for that
+    pub observed-has : ¬ BringsItself ev p q → (from to : ℕ) × (getD windows (thread ev q) none ≡ between from to)
 
   abbrev pub FaultClaims : answers.Fault → Type 0
   -- "Contradictions have none."

@@ -1,9 +1,10 @@
 -- A trace as a part of a larger one. `whole` has the events of `part`, in order, with other numbers for events, threads
 -- and locations. An event of the part may be several of the whole: it has a number as a store, one as a load and one as
 -- a commit. What else stands in the whole, the gaps, plays no role, or plays it for threads that are not the part's.
--- A trace without its flushes is a part of that trace: one number for all roles, all threads and locations its own.
+-- A trace without its flushes is a part of that trace: one number for all roles, all threads and locations its own. A
+-- trace with a locked operation is a part of that with the three records in its place: it has three numbers there.
 -- In order: numbers of events; of threads and locations; the relation; what stays apart; events that are one in both;
--- two parts that cover the whole; choices and rulings.
+-- two parts that cover the whole; choices.
 use Prim.Native.Nat.{ℕ, suc}
 use mathlib.Core.Path.{_≡_, refl}
 use mathlib.Core.Bool.{Bool, true, false, cond}
@@ -14,7 +15,7 @@ use Rattle.model.specs.Trace.{kind, thread, location, source, hasThread?
 use Rattle.model.specs.Trace.{begin?, issue?, commit?, load?, crash?, skipOn?, skipOff?}
 use Rattle.model.specs.Machine.{committed}
 use Rattle.model.specs.Rules.{beginFits}
-use Rattle.model.specs.Choice.{Choice, Ruling, robust, broken}
+use Rattle.model.specs.Choice.{Choice}
 
 -- ---- numbers of events
 
@@ -91,10 +92,11 @@ pub record Embedding (threadsBy locationsBy : Naming) (part whole : ℕ → Even
       (e : ℕ) → load? part e ≡ true → location whole (loads .number e) ≡ locationsBy .into (location part e)
   pub location-own : (e : ℕ) → load? part e ≡ true → locationsBy .own? (locationsBy .into (location part e)) ≡ true
   pub source-same : (e : ℕ) → load? part e ≡ true → source whole (loads .number e) ≡ stores .number (source part e)
-  -- before an event loads, and before it commits, the stores and commits of the earlier events are there, no others
+  -- before an event loads, the stores and commits of the earlier events are there, no others; when it commits, its own
+  -- store is there too
   pub stores-at-load : (e : ℕ) → stores .kept (loads .number e) ≡ e
   pub commits-at-load : (e : ℕ) → commits .kept (loads .number e) ≡ e
-  pub stores-at-commit : (e : ℕ) → stores .kept (commits .number e) ≡ e
+  pub stores-at-commit : (e : ℕ) → stores .kept (suc (commits .number e)) ≡ suc e
   -- the first n events of the whole may end inside an event of the part, which then has loaded, but not yet stored or
   -- committed; no crash is divided so
   pub store-near : (n : ℕ) → Near part (loads .kept n) (stores .kept n)
@@ -154,13 +156,8 @@ pub record Cover
       (l : ℕ) → load? whole l ≡ true → (left .loads .gap? l ≡ false) ⊎ (right .loads .gap? l ≡ false)
   pub each-thread : (u : ℕ) → (leftThreads .own? u ≡ true) ⊎ (rightThreads .own? u ≡ true)
 
--- ---- choices and rulings
+-- ---- choices
 
 -- what a choice of the whole gives the part's threads
 abbrev pub restricted : Naming → Choice → Choice
 restricted threadsBy c j t = cond (threadsBy .own? (threadsBy .into t)) (c j (threadsBy .into t)) 0
-
--- a ruling with its event numbers carried over, those of loads by f and those of stores by g; the choice stays
-abbrev pub carryBy : (ℕ → ℕ) → (ℕ → ℕ) → Ruling → Ruling
-carryBy f g (robust c) = robust c
-carryBy f g (broken load missing observed) = broken (f load) (g missing) (g observed)

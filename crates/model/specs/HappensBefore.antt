@@ -12,7 +12,8 @@ module _ (ev : ℕ → Event) where
   pub data Precedes : ℕ → ℕ → Type 0 where
     -- "p is issued earlier by the same thread"
     own : {p n : ℕ} → Issue ev p → stretch ev p ≡ stretch ev n → thread ev p ≡ thread ev n → p < n → Precedes p n
-    -- "q's thread, before issuing q, loaded from p in that stretch", by the load l
+    -- "q's thread, before issuing q, loaded from p in that stretch", by the load l. It may be n itself: a locked
+    -- operation loads before it issues (document 02, job 2)
     read :
         {p n : ℕ} (l : ℕ) → Issue ev p → stretch ev p ≡ stretch ev n
         → Load ev l → source ev l ≡ p → thread ev l ≡ thread ev n → stretch ev l ≡ stretch ev n

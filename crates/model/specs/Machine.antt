@@ -29,12 +29,12 @@ module _ (ev : ℕ → Event) where
   queued n = not (eqb (issues ev n (stretch ev n) (thread ev n)) (commitsBefore n))
 
   -- "Commit: the oldest waiting store of the thread takes effect": the store that commit c makes take effect, and 0 if
-  -- there is none
+  -- there is none. It may be c's own: a locked operation commits the store that it issues
   abbrev pub oldest : ℕ → ℕ → Bool
   oldest c p = beside p c && eqb (place ev p) (commitsBefore c)
 
   unfoldable pub committed : ℕ → ℕ
-  committed c = last c (oldest c)
+  committed c = last (suc c) (oldest c)
 
   -- "the order of commits is the stretch's store order": the commit, before event n, that makes p take effect, and 0 if
   -- there is none
@@ -63,7 +63,7 @@ module _ (ev : ℕ → Event) where
   unfoldable pub current : ℕ → ℕ
   current n = committed (last n (commitsHere n))
 
-  -- s is such a store
+  -- s is a store to n's location committed in an earlier stretch
   abbrev pub past : ℕ → ℕ → Bool
   past n s =
       issue? ev s && eqb (location ev s) (location ev n) && ltb (stretch ev s) (stretch ev n)

@@ -1,5 +1,6 @@
 -- Which events the machine's rules forbid, and in which order: document 01, "When a trace is turned away", refusals 1
--- and 5 to 13. Refusals 2 to 4 are the record layer's; specs/Reading.antt puts them in front.
+-- and 5 to 13; document 02, job 2: "11 also if kind 12's thread has a waiting store, before 9". Refusals 2 to 4 are the
+-- record layer's; specs/Reading.antt puts them in front.
 use Prim.Native.Nat.{ℕ, _<_}
 use mathlib.Core.Path.{_≡_}
 use mathlib.Core.Bool.{Bool, cond, _&&_, _||_, not}
@@ -7,7 +8,7 @@ use lib.Dec.{eqb, ltb, leb}
 use Rattle.record.specs.declared.events.Event.{Event}
 use Rattle.record.specs.Fields.{fieldsOf}
 use Rattle.model.specs.Trace.{thread, location, stretch}
-use Rattle.model.specs.Trace.{begin?, commit?, load?, mfence?, crash?, skipOn?, skipOff?}
+use Rattle.model.specs.Trace.{begin?, issue?, commit?, load?, drained?, crash?, skipOn?, skipOff?}
 use Rattle.model.specs.Trace.{hasThread?, hasLocation?, threads, locations}
 use Rattle.model.specs.Machine.{queued, sourceFits, skipping}
 
@@ -47,12 +48,12 @@ module _ (ev : ℕ → Event) where
       (hasThread? ev n && leb (threads ev) (thread ev n)) refuses 7 else
       -- "no such location": so are locations
       (hasLocation? ev n && leb (locations ev) (location ev n)) refuses 8 else
+      -- "mfence, queue not empty": "mfence needs an empty queue."; "also if kind 12's thread has a waiting store"
+      (drained? ev n && queued ev n) refuses 11 else
       -- "source against the load rule"
       (load? ev n && not (sourceFits ev n)) refuses 9 else
-      -- "commit, empty queue"
-      (commit? ev n && not (queued ev n)) refuses 10 else
-      -- "mfence, queue not empty": "mfence needs an empty queue."
-      (mfence? ev n && queued ev n) refuses 11 else
+      -- "commit, empty queue": an event that issues has its own store to commit
+      (commit? ev n && not (queued ev n || issue? ev n)) refuses 10 else
       -- "skip already on, or already off"
       (skipOn? ev n && skipping ev n (thread ev n)
       || skipOff? ev n && not (skipping ev n (thread ev n))) refuses 12 else

@@ -1,10 +1,10 @@
 -- A trace is a numbering of events: `ev e` is event number e. How many there are, N, is said apart, so that the records
 -- 0 to e are the trace with e + 1 records, and nothing about an event changes with what comes later.
 -- Here: what an event says, the roles that it plays, stretches, and counting. Document 01, "The trace" and "Rules of
--- the machine".
+-- the machine"; document 02, job 2: "Wherever issues, commits or loads are named", kind 12 "is meant too".
 use Prim.Native.Nat.{ℕ, zero, suc, _+_}
 use mathlib.Core.Path.{_≡_}
-use mathlib.Core.Bool.{Bool, true, not, _&&_}
+use mathlib.Core.Bool.{Bool, true, not, _&&_, _||_}
 use mathlib.Core.List.{List}
 use lib.ListN.{getD}
 use lib.Dec.{eqb}
@@ -49,20 +49,21 @@ module _ (ev : ℕ → Event) where
   abbrev pub locations : ℕ
   locations = fieldsOf (ev 0) .locations
 
-  -- ---- the roles that an event plays, as tests and as facts
+  -- ---- the roles that an event plays, as tests and as facts. A locked operation, kind 12, "is a load, issue and
+  -- commit with nothing between"
 
   abbrev pub is : ℕ → ℕ → Bool
   is k e = eqb (kind e) k
 
-  -- "A store is named by its issue's event number."
+  -- "A store is named by its issue's event number", and a locked operation's "event number names its store"
   abbrev pub issue? : ℕ → Bool
-  issue? e = is 2 e
+  issue? e = is 2 e || is 12 e
 
   abbrev pub commit? : ℕ → Bool
-  commit? e = is 3 e
+  commit? e = is 3 e || is 12 e
 
   abbrev pub load? : ℕ → Bool
-  load? e = is 4 e
+  load? e = is 4 e || is 12 e
 
   abbrev pub crash? : ℕ → Bool
   crash? e = is 9 e
@@ -70,8 +71,9 @@ module _ (ev : ℕ → Event) where
   abbrev pub begin? : ℕ → Bool
   begin? e = is 1 e
 
-  abbrev pub mfence? : ℕ → Bool
-  mfence? e = is 8 e
+  -- it needs an empty queue: an mfence, a locked operation
+  abbrev pub drained? : ℕ → Bool
+  drained? e = is 8 e || is 12 e
 
   abbrev pub skipOn? : ℕ → Bool
   skipOn? e = is 10 e

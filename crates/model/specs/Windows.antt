@@ -1,8 +1,9 @@
--- Where the flush may go: document 02, job 1. "For a flush fault, developers want the records in front of which a
--- thread may flush the missing store's line. For missing p, observed q and thread t": the first place, the last place,
--- and the window from the one to the other. A place is the number of the record in front of which the flush may stand.
--- In order: which events bring p to a thread; the two places; the window; what theorems say of its places; the window,
--- computed.
+-- Where the flush may go: document 02, jobs 1 and 2. "For a flush fault, developers want the records in front of which
+-- a thread may flush the missing store's line. For missing p, observed q and thread t": the first place, the last
+-- place, and the window from the one to the other. A place is the number of the record in front of which the flush may
+-- stand.
+-- In order: which events bring p to a thread; the two places; the window; when q's own record brings p; what theorems
+-- say of a window's places; the window, computed.
 use Prim.Native.Nat.{ℕ, suc, _≤_, _<_}
 use mathlib.Core.Path.{_≡_}
 use mathlib.Core.Logic.{_⊎_, _≢_}
@@ -59,6 +60,11 @@ module _ (ev : ℕ → Event) where
   abbrev pub WindowIs : ℕ → ℕ → ℕ → Places → Type 0
   WindowIs p q t none = (from to : ℕ) → ¬ Window p q t from to
   WindowIs p q t (between from to) = Window p q t from to
+
+  -- document 02, job 2: "q's own record is the load that first brings p to its thread", which is not p's
+  pub record BringsItself (p q : ℕ) : Type 0 where
+    pub other : thread ev q ≢ thread ev p
+    pub first-brings : FirstBrings p (thread ev q) q
 
   -- ---- what the theorems of proofs/WindowPlaces.antt say of places; no contract cites it
 
