@@ -4,8 +4,10 @@
 -- `exact-same` (Prefixes), `fault-same` (WindowPrefixes), `explains-is-replay` (Replay), `accepted-exactly`,
 -- `turned-away-exactly` (TurnedAway), `ordered-as-demanded` (Queries), `judged-as-demanded` (Demanded), `cut-rest`
 -- (CutPlaces), `broken-as-trace`, `robust-before-load` (TakenAsTrace), `accepted-encoded` (AcceptedBytes),
--- `flushes-move-no-verdict` (FlushNeutral), `refusals-14-and-15` (BufferSizes), `cases-1-to-11` (Cases),
--- `errors-of-the-trade` (CasesOfTrade), `windows-as-worked` (CasesOfWindows), `refusals-1-to-5` (NoTrace) and
+-- `flushes-move-no-verdict` (FlushNeutral), `replaced-accepted` (ReplacedRules), `replaced-exact` (Replacements),
+-- `none-left`, `all-replaced-exact` (Unlocked), `replaced-verdict`, `all-replaced-verdict` (ReplacedBytes),
+-- `refusals-14-and-15` (BufferSizes), `cases-1-to-11` (Cases), `errors-of-the-trade` (CasesOfTrade),
+-- `windows-as-worked` (CasesOfWindows), `locked-as-worked` (CasesOfLocked), `refusals-1-to-5` (NoTrace) and
 -- `random-sessions` (RandomSessions).
 pub mod Searching
 pub mod Induction
@@ -43,6 +45,8 @@ pub mod EmbeddedLoads
 pub mod EmbeddedChoices
 pub mod EmbeddedRuling
 pub mod EmbeddedWindows
+pub mod Moving
+pub mod AcceptedLists
 pub mod Taking
 pub mod Removing
 pub mod TurnedAway
@@ -52,12 +56,20 @@ pub mod CutPlaces
 pub mod TakenAsTrace
 pub mod Encoding
 pub mod AcceptedBytes
+pub mod Carrying
 pub mod RemovedBytes
 pub mod FlushNeutral
+pub mod Spreading
+pub mod Replacing
+pub mod ReplacedRules
+pub mod Replacements
+pub mod Unlocked
+pub mod ReplacedBytes
 pub mod Sessions
 pub mod BufferSizes
 pub mod Cases
 pub mod CasesOfTrade
 pub mod CasesOfWindows
+pub mod CasesOfLocked
 pub mod NoTrace
 pub mod RandomSessions

@@ -1,57 +1,36 @@
 -- Records that play no role, taken out of a trace's bytes: the bytes of those that stay are accepted, and the verdict
 -- on the whole trace is that on them, apart from event numbers. For accepted bytes are their events, encoded
--- (proofs/AcceptedBytes.antt); and the computed ruling is exact, a trace has one exact ruling, which Removing carries
--- over, with the fault of the stores that it names.
+-- (proofs/AcceptedBytes.antt), of which Removing carries the ruling over, with the fault of the stores that it names.
 -- In order: fields; the ruling and the share; the answer to a list of events; bytes.
 use Prim.Native.Nat.{ℕ, _+_, _-_, _≤_, _<_}
 use native.Mathlib.Omega.{arith}
-use mathlib.Core.Path.{_≡_, refl, sym, ap, _∙_, fun-ext}
-use mathlib.Core.Bool.{Bool, true, false, cond}
+use mathlib.Core.Path.{_≡_, refl, ap, _∙_}
+use mathlib.Core.Bool.{Bool, true}
 use mathlib.Core.List.{List}
 use lib.ListN.{length}
-use lib.Dec.{eqb, lit<}
 use Rattle.record.specs.declared.events.Event.{Event}
-use Rattle.record.specs.declared.events.Event.the-variants.{Load}
-use Rattle.record.specs.Events.{kindOf}
 use Rattle.record.specs.Fields.{fieldsOf, TwoByte}
-use Rattle.record.specs.Tests.{_gives_else_}
 use Rattle.record.proofs.RoundTrips.{AllBytes}
 use Rattle.model.specs.Trace.{traceOf}
 use Rattle.model.specs.Rules.{Accepted}
 use Rattle.model.specs.Choice.{Choice, Ruling, robust, broken, finished, Exact}
 use Rattle.model.specs.Verdict.{rulingOf}
-use Rattle.model.specs.Answers.{Answer, refused, shareOf}
+use Rattle.model.specs.Answers.{shareOf}
 use Rattle.model.specs.Reading.{events, firstEvents, encode, AcceptedWith}
-use Rattle.model.specs.Judge.{smallWork, wrongCut, ruledAnswer, ruledCut, judgeOf, cutAfter}
-use Rattle.model.specs.Flushes.{carry, shifted, SameVerdict, kept, number, moved, without, taken}
+use Rattle.model.specs.Judge.{ruledAnswer, judgeOf, cutAfter}
+use Rattle.model.specs.Flushes.{carry, shifted, SameVerdict, kept, number, without, taken}
 use Rattle.model.proofs.Tabulating.{tabulate-length}
 use Rattle.model.proofs.Roles.{Quiet}
 use Rattle.model.proofs.Numberings.{number-below, kept-le}
-use Rattle.model.proofs.Taking.{event-there, length-kept}
-use Rattle.model.proofs.Exactness.{exact, unique, named-missing, named-observed}
-use Rattle.model.proofs.TurnedAway.{accepted-exactly}
-use Rattle.model.proofs.Encoding.{AllTwoByte, same-events, encoded-accepted}
+use Rattle.model.proofs.Moving.{moved-two-byte}
+use Rattle.model.proofs.AcceptedLists.{source-two-byte}
+use Rattle.model.proofs.Taking.{length-kept}
+use Rattle.model.proofs.Exactness.{named-missing, named-observed}
+use Rattle.model.proofs.Encoding.{AllTwoByte, encoded-accepted}
 use Rattle.model.proofs.AcceptedBytes.{accepted-encoded, accepted-two-byte, accepted-list}
-use Rattle.model.proofs.Removing.{numbering, removed-accepted, removed-exact, removed-finished, removed-fault}
-
--- ---- fields
-
--- a renumbered event has two-byte fields, if no new number is greater than the old
-moved-two-byte :
-    (f : ℕ → ℕ) → ((s : ℕ) → f s ≤ s) → (e : Event) → TwoByte (fieldsOf e) → TwoByte (fieldsOf (moved f e))
-unfolding moved
-moved-two-byte f not-greater e two-byte = by-test (eqb (kindOf e) 4)
-  where
-    load : Event
-    load = Load (fieldsOf e .thread) (fieldsOf e .location) (f (fieldsOf e .source))
-
-    by-test : (loads : Bool) → TwoByte (fieldsOf (cond loads load e))
-    by-test false = two-byte
-    by-test true =
-        let (thread, (location, (source, rest))) = two-byte .small in
-        let none : _<_ 0 65536 = lit< tt in
-        let new-source : f (fieldsOf e .source) < 65536 = omega (arith, not-greater (fieldsOf e .source)) in
-        record { small = (thread, (location, (new-source, (none, (none, (none, tt)))))) }
+use Rattle.model.proofs.Carrying.{SameRuling, carried-ruling, carried-share, carried-answer, carried-cut}
+use Rattle.model.proofs.Removing.{numbering, there, removed-accepted, removed-exact, removed-finished}
+use Rattle.model.proofs.Removing.{removed-fault}
 
 module _
     (es : List Event) (accepted : Accepted (traceOf es) (length es))
@@ -65,28 +44,30 @@ module _
     where
       two-byte : (e : ℕ) → e < length short → TwoByte (fieldsOf (traceOf short e))
       two-byte e below =
-          let by = numbering es accepted out? quiet in
-          let there : number out? es e < length es =
-          number-below by e (length es) (rw (length-kept out? (kept out? es) es) below)
+          let inside : number out? es e < length es =
+          number-below (numbering es accepted out? quiet) e (length es) (rw (length-kept out? (kept out? es) es) below)
           in
-          rw (event-there out? (kept out? es) es e)
-          (moved-two-byte (kept out? es) (kept-le by) (traceOf es (number out? es e)) (small .two-byte _ there))
+          moved-two-byte (there es accepted out? quiet e)
+          (source-two-byte short (removed-accepted es accepted out? quiet) e below) (small .two-byte _ inside)
 
   -- ---- the ruling and the share
 
+  same-ruling : SameRuling (number out? es) (number out? es) short es
+  same-ruling = record {
+    short-accepted = removed-accepted es accepted out? quiet;
+    long-accepted = accepted;
+    exact-same = removed-exact es accepted out? quiet;
+    finished-same = removed-finished es accepted out? quiet;
+  }
+
   pub removed-ruling :
       rulingOf (traceOf es) (length es) ≡ carry (number out? es) (rulingOf (traceOf short) (length short))
-  removed-ruling =
-      let short-ruling : Ruling = rulingOf (traceOf short) (length short) in
-      let short-exact = exact (traceOf short) (length short) (removed-accepted es accepted out? quiet) in
-      unique (traceOf es) (length es) (rulingOf (traceOf es) (length es)) (carry (number out? es) short-ruling)
-      (exact (traceOf es) (length es) accepted) (removed-exact es accepted out? quiet short-ruling .0 short-exact)
+  removed-ruling = carried-ruling same-ruling
 
   pub removed-share :
       (least : Choice)
       → shareOf least (finished (traceOf es) (length es)) ≡ shareOf least (finished (traceOf short) (length short))
-  removed-share least =
-      ap (shareOf least) (fun-ext λ j. fun-ext λ t. sym (removed-finished es accepted out? quiet j t))
+  removed-share = carried-share same-ruling
 
   -- ---- the answer to a list of events
 
@@ -114,43 +95,7 @@ module _
         removed-fault es accepted out? quiet missing observed (named-missing (traceOf short) it) (settled .store),
       )
 
-  ruled-cut-same :
-      (cut : List ℕ) (v : Ruling)
-      → ruledCut (traceOf es) (length es) cut (carry (number out? es) v)
-      ≡ ruledCut (traceOf short) (length short) cut v
-  ruled-cut-same cut (robust c) = refl
-  ruled-cut-same cut (broken load missing observed) = refl
-
 -- ---- bytes
-
--- the answer to the bytes of an accepted list of events, and the cut buffer afterwards
-module _ (xs : List Event) (small : AllTwoByte xs) (accepted : Accepted (traceOf xs) (length xs)) where
-  judged-encoded :
-      (work cut : ℕ)
-      → judgeOf (encode xs) work cut
-      ≡ (smallWork work gives refused 14 0 else wrongCut cut gives refused 15 0 else
-      ruledAnswer (traceOf xs) (length xs) (rulingOf (traceOf xs) (length xs)))
-  unfolding judgeOf
-  judged-encoded work cut =
-      rw (accepted-exactly (encode xs) (length xs) .1 (encoded-accepted xs small accepted), same-events xs small)
-
-  cut-encoded :
-      (work : ℕ) (cut : List ℕ)
-      → cutAfter (encode xs) work cut
-      ≡ (smallWork work gives cut else wrongCut (length cut) gives cut else
-      ruledCut (traceOf xs) (length xs) cut (rulingOf (traceOf xs) (length xs)))
-  unfolding cutAfter
-  cut-encoded work cut =
-      rw (accepted-exactly (encode xs) (length xs) .1 (encoded-accepted xs small accepted), same-events xs small)
-
--- refusals 14 and 15 stay
-shifted-behind :
-    (f : ℕ → ℕ) (n : ℕ) (small wrong : Bool) (a : Answer)
-    → (small gives refused 14 0 else wrong gives refused 15 0 else shifted f n a)
-    ≡ shifted f n (small gives refused 14 0 else wrong gives refused 15 0 else a)
-shifted-behind f n true wrong a = refl
-shifted-behind f n false true a = refl
-shifted-behind f n false false a = refl
 
 module _
     (bytes : List ℕ) (all-bytes : AllBytes bytes) (N : ℕ) (accepted : AcceptedWith bytes N)
@@ -182,29 +127,21 @@ module _
       in
       rw stay (encoded-accepted rest rest-small rest-accepted)
 
+  as-encoded : bytes ≡ encode es
+  as-encoded = accepted-encoded bytes all-bytes N accepted
+
   judged-shifted :
       (work cut : ℕ)
       → judgeOf bytes work cut ≡ shifted (number out? es) (taken out? es) (judgeOf (encode rest) work cut)
   judged-shifted work cut =
-      ap (λ (s : List ℕ). judgeOf s work cut) (accepted-encoded bytes all-bytes N accepted)
-      ∙ rw (
-        judged-encoded es whole-small whole-accepted work cut,
-        judged-encoded rest rest-small rest-accepted work cut,
-        removed-ruling es whole-accepted out? quiet,
-        ruled-shifted es whole-accepted out? quiet (rulingOf (traceOf rest) (length rest))
-            (exact (traceOf rest) (length rest) rest-accepted),
-      )
-      (shifted-behind (number out? es) (taken out? es) (smallWork work) (wrongCut cut) _)
+      ap (λ (s : List ℕ). judgeOf s work cut) as-encoded
+      ∙ carried-answer (same-ruling es whole-accepted out? quiet) rest-small whole-small (λ a. a)
+      (shifted (number out? es) (taken out? es)) (λ k. refl) (ruled-shifted es whole-accepted out? quiet) work cut
 
   cut-same : (work : ℕ) (cut : List ℕ) → cutAfter bytes work cut ≡ cutAfter (encode rest) work cut
   cut-same work cut =
-      ap (λ (s : List ℕ). cutAfter s work cut) (accepted-encoded bytes all-bytes N accepted)
-      ∙ rw (
-        cut-encoded es whole-small whole-accepted work cut,
-        cut-encoded rest rest-small rest-accepted work cut,
-        removed-ruling es whole-accepted out? quiet,
-        ruled-cut-same es whole-accepted out? quiet cut (rulingOf (traceOf rest) (length rest)),
-      )
+      ap (λ (s : List ℕ). cutAfter s work cut) as-encoded
+      ∙ carried-cut (same-ruling es whole-accepted out? quiet) rest-small whole-small work cut
 
   -- QUIET RECORDS MOVE NO VERDICT
   pub removed-verdict : SameVerdict (number out? es) (taken out? es) bytes (encode rest)

@@ -2,32 +2,29 @@
 -- ruling is exact of it exactly if, with its event numbers carried over, it is exact of the whole trace. The fault of
 -- two stores is carried over alike. What stays of the list is a part of it (specs/Embedding.antt): an accepted load's
 -- source is a store or event 0, and both stay.
--- In order: renumbered events; the embedding; what follows from it.
-use Prim.Native.Nat.{ℕ, _≤_, _<_}
+-- In order: the embedding; what follows from it.
+use Prim.Native.Nat.{ℕ, suc}
 use mathlib.Core.Path.{_≡_, refl, sym, _∙_, ap}
 use mathlib.Core.Bool.{Bool, true, false}
 use mathlib.Core.List.{List}
 use mathlib.Core.Logic.{_⊎_, inl, inr, _≢_, _↔_}
-use lib.Dec.{eqb}
 use lib.ListN.{length, List·getD-eq-default}
 use Rattle.record.specs.declared.events.Event.{Event}
-use Rattle.record.specs.declared.events.Event.the-variants.{Begin, Issue, Commit, Load, Clflush, Clwb, Sfence, Mfence}
-use Rattle.record.specs.declared.events.Event.the-variants.{Crash, SkipOn, SkipOff}
-use Rattle.record.specs.Events.{kindOf}
-use Rattle.record.specs.Fields.{fieldsOf}
+use Rattle.record.specs.declared.events.Event.the-variants.{Crash}
 use Rattle.model.specs.Trace.{traceOf, source, issue?, commit?, load?, begin?, skipOn?, skipOff?, crash?}
 use Rattle.model.specs.Trace as trace
 use Rattle.model.specs.Machine.{committed}
 use Rattle.model.specs.Rules.{Accepted}
-use Rattle.model.specs.Choice.{Ruling, robust, broken, finished, Exact}
+use Rattle.model.specs.Choice.{Ruling, finished, Exact}
 use Rattle.model.specs.Answers.{faultOf}
-use Rattle.model.specs.Flushes.{moved, carry, shiftedFault, kept, number, without}
+use Rattle.model.specs.Flushes.{carry, shiftedFault, kept, number, without}
 use Rattle.model.specs.Embedding.{Numbering, everything, Role, Embedding, Finds, Apart, SameEvent, SameBegin}
-use Rattle.model.specs.Embedding.{Cover, carryBy}
-use Rattle.model.proofs.Searching.{same?, less?, test, false-true, excluded}
+use Rattle.model.specs.Embedding.{Cover}
+use Rattle.model.proofs.Searching.{same?, test, false-true, excluded}
 use Rattle.model.proofs.Roles.{Quiet}
-use Rattle.model.proofs.Acceptance.{begins, From, from-own, from-commit, from-past, source-from}
-use Rattle.model.proofs.StorePlaces.{committed-store}
+use Rattle.model.proofs.Acceptance.{begins}
+use Rattle.model.proofs.Moving.{Renumbered, moved-is, no-source}
+use Rattle.model.proofs.AcceptedLists.{accepted-finds}
 use Rattle.model.proofs.Taking.{kept-none, number-kept, Inside, taking, event-there, length-kept}
 use Rattle.model.proofs.Numberings.{number-zero, number-injective}
 use Rattle.model.proofs.EmbeddedMachine.{committed-at}
@@ -35,64 +32,6 @@ use Rattle.model.proofs.EmbeddedRules.{accepted-part}
 use Rattle.model.proofs.EmbeddedChoices.{finished-kept}
 use Rattle.model.proofs.EmbeddedRuling.{exact-both}
 use Rattle.model.proofs.EmbeddedWindows.{fault-at}
-
--- ---- renumbered events
-
--- event d is event e, but for a renumbered source
-record Renumbered (f : ℕ → ℕ) (e d : Event) : Type 0 where
-  kind-same : kindOf e ≡ kindOf d
-  thread-same : fieldsOf e .thread ≡ fieldsOf d .thread
-  location-same : fieldsOf e .location ≡ fieldsOf d .location
-  source-moved : fieldsOf d .source ≡ f (fieldsOf e .source)
-  version-same : fieldsOf e .version ≡ fieldsOf d .version
-  threads-same : fieldsOf e .threads ≡ fieldsOf d .threads
-  locations-same : fieldsOf e .locations ≡ fieldsOf d .locations
-
-module _ (f : ℕ → ℕ) (none : f 0 ≡ 0) where
-  -- an event without a source is left as it is
-  unmoved : (e : Event) → moved f e ≡ e → fieldsOf e .source ≡ 0 → Renumbered f e (moved f e)
-  unmoved e left no-source = record {
-    kind-same = rw left;
-    thread-same = rw left;
-    location-same = rw left;
-    source-moved = rw (left, no-source) (sym none);
-    version-same = rw left;
-    threads-same = rw left;
-    locations-same = rw left;
-  }
-
-  moved-is : (e : Event) → Renumbered f e (moved f e)
-  unfolding moved
-  moved-is (Begin v n m) = unmoved (Begin v n m) refl refl
-  moved-is (Issue t x) = unmoved (Issue t x) refl refl
-  moved-is (Commit t) = unmoved (Commit t) refl refl
-  moved-is (Load t x s) = record {
-    kind-same = refl;
-    thread-same = refl;
-    location-same = refl;
-    source-moved = refl;
-    version-same = refl;
-    threads-same = refl;
-    locations-same = refl;
-  }
-  moved-is (Clflush t x) = unmoved (Clflush t x) refl refl
-  moved-is (Clwb t x) = unmoved (Clwb t x) refl refl
-  moved-is (Sfence t) = unmoved (Sfence t) refl refl
-  moved-is (Mfence t) = unmoved (Mfence t) refl refl
-  moved-is Crash = unmoved Crash refl refl
-  moved-is (SkipOn t) = unmoved (SkipOn t) refl refl
-  moved-is (SkipOff t) = unmoved (SkipOff t) refl refl
-
--- an event that is no load has no source
-no-source : (e : Event) → eqb (kindOf e) 4 ≡ false → fieldsOf e .source ≡ 0
-unfolding moved
-no-source e other = rw other at (moved-is (λ s. 0) refl e .source-moved)
-
--- ---- rulings whose event numbers are all carried over alike
-
-carry-alike : (f : ℕ → ℕ) (v : Ruling) → carryBy f f v ≡ carry f v
-carry-alike f (robust c) = refl
-carry-alike f (broken load missing observed) = refl
 
 -- ---- the embedding
 
@@ -116,28 +55,7 @@ module _
       excluded (out? 0) (begin? whole 0) (λ out. quiet 0 out .no-begin) (begins whole (length es) accepted)
 
   whole-finds : Finds whole
-  whole-finds = record {
-    commit-finds = λ e commits. commit-finds e commits (less? e (length es));
-    source-store = λ e loads some. source-store e loads some (less? e (length es));
-  }
-    where
-      commit-finds :
-          (e : ℕ) → commit? whole e ≡ true → (e < length es) ⊎ (length es ≤ e) → issue? whole (committed whole e) ≡ true
-      commit-finds e commits (inl inside) =
-          committed-store whole (length es) e accepted inside (record { test = commits }) .store .test
-      commit-finds e commits (inr past) = false-true (rw (List·getD-eq-default es Crash past) at commits)
-
-      is-store : {e s : ℕ} → From whole e s → issue? whole s ≡ true
-      is-store (from-own from) = from .own .store .test
-      is-store (from-commit from) = from .of-thread .store .test
-      is-store (from-past from) = from .store .test
-
-      source-store :
-          (e : ℕ) → load? whole e ≡ true → source whole e ≢ 0 → (e < length es) ⊎ (length es ≤ e)
-          → issue? whole (source whole e) ≡ true
-      source-store e loads some (inl inside) =
-          is-store (source-from whole (length es) accepted e inside (record { test = loads }) some)
-      source-store e loads some (inr past) = false-true (rw (List·getD-eq-default es Crash past) at loads)
+  whole-finds = accepted-finds es accepted
 
   -- the source of an event stays: it is a store, or event 0
   source-stays : (n : ℕ) → out? (source whole n) ≡ false
@@ -159,7 +77,7 @@ module _
   numbering = taking out? es inside first-stays
 
   -- event e of those that stay is the event with its number, renumbered
-  there : (e : ℕ) → Renumbered (kept out? es) (whole (number out? es e)) (short e)
+  pub there : (e : ℕ) → Renumbered (kept out? es) (whole (number out? es e)) (short e)
   there e =
       rw (event-there out? (kept out? es) es e)
       (moved-is (kept out? es) (kept-none out? es) (whole (number out? es e)))
@@ -197,7 +115,8 @@ module _
     source-same = λ e loads. source-there e;
     stores-at-load = numbering .kept-number;
     commits-at-load = numbering .kept-number;
-    stores-at-commit = numbering .kept-number;
+    stores-at-commit = λ e.
+        numbering .kept-event (number out? es e) (numbering .number-stays e) ∙ ap suc (numbering .kept-number e);
     store-near = λ n. inl refl;
     commit-near = λ n. inl refl;
   }
@@ -270,14 +189,13 @@ module _
       (v : Ruling)
       → Exact (traceOf (without out? es)) (length (without out? es)) v
       ↔ Exact (traceOf es) (length es) (carry (number out? es) v)
-  removed-exact v =
-      rw (length-short, carry-alike (number out? es) v) at (exact-both embedding apart cover (length es) v)
+  removed-exact v = rw length-short at (exact-both embedding apart cover (length es) v)
 
   -- and in each finished stretch the same commits of each thread
   pub removed-finished :
       (j t : ℕ)
-      → finished (traceOf (without out? es)) (length (without out? es)) j t ≡ finished (traceOf es) (length es) j t
-  removed-finished j t = sym (rw length-short at (finished-kept embedding (length es) j t refl))
+      → finished (traceOf es) (length es) j t ≡ finished (traceOf (without out? es)) (length (without out? es)) j t
+  removed-finished j t = rw length-short at (finished-kept embedding (length es) j t refl)
 
   -- and two of its stores have the same fault, apart from event numbers
   pub removed-fault :

@@ -1,6 +1,7 @@
 -- A trace with flush records taken out. Demand 2: "in an accepted trace flush records never move a verdict, apart from
 -- shifting event numbers". Here is what that says, and in proofs/FlushNeutral.antt that it holds: the answer to the
--- whole trace is the answer to the trace without them, `shifted`.
+-- whole trace is the answer to the trace without them, `shifted`. What carries rulings, answers and events over by
+-- their numbers serves specs/Locked.antt too.
 -- In order: shifted event numbers; records taken out; flushes; sfences.
 use Prim.Native.Nat.{ℕ, zero, suc, _+_, _-_}
 use mathlib.Core.Path.{_≡_}
@@ -9,9 +10,9 @@ use mathlib.Core.List.{List, [], _∷_, map}
 use lib.ListN.{length}
 use lib.Dec.{eqb}
 use Rattle.record.specs.declared.events.Event.{Event}
-use Rattle.record.specs.declared.events.Event.the-variants.{Load}
+use Rattle.record.specs.declared.events.Fields.{Fields}
 use Rattle.record.specs.Events.{kindOf}
-use Rattle.record.specs.Fields.{fieldsOf}
+use Rattle.record.specs.Fields.{eventOf, fieldsOf}
 use Rattle.model.specs.Trace.{traceOf}
 use Rattle.model.specs.Choice.{Ruling, robust, broken}
 use Rattle.model.specs.Windows.{Places, none, between}
@@ -20,11 +21,16 @@ use Rattle.model.specs.Judge.{judgeOf, cutAfter}
 
 -- ---- "apart from shifting event numbers"
 
+-- a ruling with its event numbers carried over, those of loads by f and those of stores by g. The choice stays, and so
+-- the cut.
+abbrev pub carryBy : (ℕ → ℕ) → (ℕ → ℕ) → Ruling → Ruling
+carryBy f g (robust c) = robust c
+carryBy f g (broken load missing observed) = broken (f load) (g missing) (g observed)
+
 -- from the ruling of the trace without the records to that of the whole trace: each event by its number there, given
--- by f. The choice stays, and so the cut.
+-- by f
 abbrev pub carry : (ℕ → ℕ) → Ruling → Ruling
-carry f (robust c) = robust c
-carry f (broken load missing observed) = broken (f load) (f missing) (f observed)
+carry f = carryBy f f
 
 -- a thread's window: its last place is an event; its first place is one behind an event, the missing store or the load
 -- that brings it to the thread, and so it is in the whole trace
@@ -37,13 +43,17 @@ abbrev pub shiftedFault : (ℕ → ℕ) → answers.Fault → answers.Fault
 shiftedFault f answers.contradiction = answers.contradiction
 shiftedFault f (answers.flush primary windows) = answers.flush primary (map (shiftedPlaces f) windows)
 
--- from the answer to the trace without the records to that to the whole trace, which has n records more: the share
--- stays, and so does a refusal, which an accepted trace only gets for its buffers
+-- an answer carried over to a trace that has n records more: its loads by f, its stores by g and its kind by h. The
+-- share stays, and so does a refusal, which an accepted trace only gets for its buffers
+abbrev pub shiftedBy : (ℕ → ℕ) → (ℕ → ℕ) → (answers.Fault → answers.Fault) → ℕ → answers.Answer → answers.Answer
+shiftedBy f g h n (answers.refused k e) = answers.refused k e
+shiftedBy f g h n (answers.robust events share) = answers.robust (events + n) share
+shiftedBy f g h n (answers.broken events load missing observed kind) =
+    answers.broken (events + n) (f load) (g missing) (g observed) (h kind)
+
+-- from the answer to the trace without the records to that to the whole trace, which has n records more
 abbrev pub shifted : (ℕ → ℕ) → ℕ → answers.Answer → answers.Answer
-shifted f n (answers.refused k e) = answers.refused k e
-shifted f n (answers.robust events share) = answers.robust (events + n) share
-shifted f n (answers.broken events load missing observed kind) =
-    answers.broken (events + n) (f load) (f missing) (f observed) (shiftedFault f kind)
+shifted f n = shiftedBy f f (shiftedFault f) n
 
 -- the verdict on the bytes `whole` is that on the bytes `short`, apart from event numbers, whatever buffers are lent:
 -- event e of the short trace is event f e of the whole one, which has n records more
@@ -80,9 +90,21 @@ number out? [] n = n
 number out? (e ∷ es) zero = cond (out? 0) (suc (number (later out?) es 0)) 0
 number out? (e ∷ es) (suc n) = suc (number (later out?) es (cond (out? 0) (suc n) n))
 
--- from an event of the whole trace to the same event of the short one: if it is a load, its source renumbered by f
+-- fields with the source renumbered by f
+abbrev pub resourced : (ℕ → ℕ) → Fields → Fields
+resourced f fields =
+    record {
+      thread = fields .thread;
+      location = fields .location;
+      source = f (fields .source);
+      version = fields .version;
+      threads = fields .threads;
+      locations = fields .locations;
+    }
+
+-- the event with its source renumbered by f, if its kind has one: so it is the same event of another trace
 unfoldable pub moved : (ℕ → ℕ) → Event → Event
-moved f e = cond (eqb (kindOf e) 4) (Load (fieldsOf e .thread) (fieldsOf e .location) (f (fieldsOf e .source))) e
+moved f e = eventOf (kindOf e) (resourced f (fieldsOf e))
 
 -- from the whole trace to the events that stay, their sources renumbered by f
 unfoldable pub staying : (ℕ → Bool) → (ℕ → ℕ) → List Event → List Event

@@ -8,8 +8,8 @@
 --                  `cutAfter` and `orderOf` that 14 and 15 come first; of `readingStanding` that the trace's refusal is
 --                  next; of `store?` and `standing` that then comes 16
 --   Demand
--- and, for theorems that no contract cites, Memory, Flushes, of Reading `firstEvents` and `encode`, and of Windows
--- `PlaceIn`, `Has` and `Reaches`.
+-- and, for theorems that no contract cites, Memory, Flushes, Locked, of Reading `firstEvents` and `encode`, and of
+-- Windows `PlaceIn`, `Has` and `Reaches`.
 --
 -- What only computes, and the theorem that says what:
 --   Search         `some`, `firstFrom`, `first`, `most`: proofs/Searching.antt
@@ -31,6 +31,7 @@ pub mod HappensBefore
 pub mod Choice
 pub mod Memory
 pub mod Flushes
+pub mod Locked
 pub mod Reading
 pub mod Windows
 pub mod Answers

@@ -1,0 +1,139 @@
+-- Locked operations replaced by their three records in a trace's bytes (specs/Locked.antt): the bytes of the longer
+-- trace are accepted, and the verdict on them is, windows apart, that on the trace, event numbers carried over. For
+-- accepted bytes are their events, encoded, and answers rest on what Replacements and Unlocked carry over.
+-- In order: the answer to a list of events; bytes; one record; all of them.
+use Prim.Native.Nat.{ℕ, _+_, _-_, _*_, _≤_, _<_}
+use native.Mathlib.Omega.{arith}
+use mathlib.Core.Path.{_≡_, refl, sym, _∙_, ap}
+use mathlib.Core.Bool.{Bool, true, false, cond}
+use mathlib.Core.List.{List}
+use lib.ListN.{length}
+use lib.Dec.{eqb}
+use Rattle.record.specs.declared.events.Event.{Event}
+use Rattle.record.specs.declared.events.Event.the-variants.{Crash}
+use Rattle.record.proofs.RoundTrips.{AllBytes}
+use Rattle.model.specs.Trace.{traceOf, Issue}
+use Rattle.model.specs.Rules.{Accepted}
+use Rattle.model.specs.Choice.{Ruling, robust, broken, Exact}
+use Rattle.model.specs.Windows.{Places}
+use Rattle.model.specs.Answers.{contradiction, flush, faultOf}
+use Rattle.model.specs.Reading.{events, firstEvents, encode, AcceptedWith}
+use Rattle.model.specs.Judge.{ruledAnswer, judgeOf, cutAfter}
+use Rattle.model.specs.Flushes.{carryBy, shiftedBy}
+use Rattle.model.specs.Locked.{locked?, asLoad, asStore, replaced, unlocked, lockedBefore, unlockedLoad}
+use Rattle.model.specs.Locked.{unlockedStore, bareFault, bare, SameBareVerdict}
+use Rattle.model.proofs.Numberings.{injective-eqb}
+use Rattle.model.proofs.Tabulating.{tabulate-length, tabulate-at}
+use Rattle.model.proofs.Exactness.{named-missing}
+use Rattle.model.proofs.Encoding.{AllTwoByte, encoded-accepted}
+use Rattle.model.proofs.AcceptedBytes.{accepted-encoded, accepted-two-byte, accepted-list}
+use Rattle.model.proofs.Carrying.{carried-share, carried-answer, carried-cut}
+use Rattle.model.proofs.Replacing.{length-replaced}
+use Rattle.model.proofs.Replacements.{Replacement, one-replaced}
+use Rattle.model.proofs.Unlocked.{length-unlocked, all-replaced}
+
+-- ---- the answer to a list of events
+
+module _ {f g : ℕ → ℕ} {short long : List Event} (by : Replacement f g short long) where
+  fault-same :
+      (p q : ℕ) → Issue (traceOf short) p
+      → bareFault (faultOf (traceOf long) (g p) (g q)) ≡ bareFault (faultOf (traceOf short) p q)
+  unfolding faultOf
+  fault-same p q store =
+      rw (injective-eqb g (by .numbers-differ) p q, by .thread-there store) (by-test (eqb p q) _ _ _)
+    where
+      by-test :
+          (equal : Bool) (t : ℕ) (ws vs : List Places)
+          → bareFault (cond equal contradiction (flush t ws)) ≡ bareFault (cond equal contradiction (flush t vs))
+      by-test true t ws vs = refl
+      by-test false t ws vs = refl
+
+  module _ (n : ℕ) (longer : length long ≡ length short + n) where
+    -- "Events after begin"
+    more-events : length long - 1 ≡ length short - 1 + n
+    more-events = omega (arith, by .same .short-accepted .some-record)
+
+    ruled-bare :
+        (v : Ruling) → Exact (traceOf short) (length short) v
+        → bare (ruledAnswer (traceOf long) (length long) (carryBy f g v))
+        ≡ shiftedBy f g bareFault n (ruledAnswer (traceOf short) (length short) v)
+    ruled-bare (robust c) least = rw (more-events, carried-share (by .same) c)
+    ruled-bare (broken load missing observed) it =
+        rw (more-events, fault-same missing observed (named-missing (traceOf short) it))
+
+-- ---- bytes
+
+module _ (bytes : List ℕ) (all-bytes : AllBytes bytes) (N : ℕ) (accepted : AcceptedWith bytes N) where
+  -- the events of the trace
+  abbrev es : List Event
+  es = firstEvents bytes N
+
+  es-length : length es ≡ N
+  es-length = tabulate-length N (events bytes)
+
+  es-accepted : Accepted (traceOf es) (length es)
+  es-accepted = accepted-list bytes all-bytes N accepted
+
+  module _
+      {f g : ℕ → ℕ} {long : List Event} (by : Replacement f g es long) (n : ℕ) (longer : length long ≡ N + n) where
+    es-small : AllTwoByte es
+    es-small = accepted-two-byte bytes all-bytes N accepted
+
+    bytes-accepted : AcceptedWith (encode long) (N + n)
+    bytes-accepted = rw longer at (encoded-accepted long (by .two-byte es-small) (by .same .long-accepted))
+
+    bytes-verdict : SameBareVerdict f g n (encode long) bytes
+    bytes-verdict = record { answer = answer; cut-buffer = cut-buffer }
+      where
+        as-encoded : encode es ≡ bytes
+        as-encoded = sym (accepted-encoded bytes all-bytes N accepted)
+
+        answer :
+            (work cut : ℕ) → bare (judgeOf (encode long) work cut) ≡ shiftedBy f g bareFault n (judgeOf bytes work cut)
+        answer work cut =
+            carried-answer (by .same) es-small (by .two-byte es-small) bare (shiftedBy f g bareFault n) (λ k. refl)
+            (ruled-bare by n (longer ∙ ap (λ m. m + n) (sym es-length))) work cut
+            ∙ ap (λ (s : List ℕ). shiftedBy f g bareFault n (judgeOf s work cut)) as-encoded
+
+        cut-buffer : (work : ℕ) (cut : List ℕ) → cutAfter (encode long) work cut ≡ cutAfter bytes work cut
+        cut-buffer work cut =
+            carried-cut (by .same) es-small (by .two-byte es-small) work cut
+            ∙ ap (λ (s : List ℕ). cutAfter s work cut) as-encoded
+
+  -- ---- one record
+
+  -- WITH LOCKED OPERATION k REPLACED BY LOAD, ISSUE AND COMMIT, WHILE THE EVENT LIMIT HOLDS, A TRACE IS ACCEPTED, AND
+  -- HAS THE SAME VERDICT, CUT AND SHARE, EVENT NUMBERS CARRIED OVER
+  module _ (k : ℕ) (below : k < N) (locked : locked? (events bytes k) ≡ true) (room : N + 2 ≤ 2049) where
+    there : k < length es
+    there = rw es-length below
+
+    one : Replacement (asLoad k) (asStore k) es (replaced k es)
+    one =
+        one-replaced es es-accepted k there (rw (tabulate-at N (events bytes) k Crash below) locked) (rw es-length room)
+
+    longer-by-2 : length (replaced k es) ≡ N + 2
+    longer-by-2 = rw es-length at (length-replaced es k there)
+
+    pub replaced-bytes-accepted : AcceptedWith (encode (replaced k es)) (N + 2)
+    replaced-bytes-accepted = bytes-accepted one 2 longer-by-2
+
+    pub replaced-verdict : SameBareVerdict (asLoad k) (asStore k) 2 (encode (replaced k es)) bytes
+    replaced-verdict = bytes-verdict one 2 longer-by-2
+
+  -- ---- all of them
+
+  -- THE SAME WITH ALL LOCKED OPERATIONS REPLACED
+  module _ (room : length (unlocked es) ≤ 2049) where
+    all : Replacement (unlockedLoad es) (unlockedStore es) es (unlocked es)
+    all = all-replaced es es-accepted room
+
+    longer-by-all : length (unlocked es) ≡ N + 2 * lockedBefore es N
+    longer-by-all = length-unlocked es ∙ ap (λ (m : ℕ). m + 2 * lockedBefore es m) es-length
+
+    pub all-replaced-bytes-accepted : AcceptedWith (encode (unlocked es)) (N + 2 * lockedBefore es N)
+    all-replaced-bytes-accepted = bytes-accepted all (2 * lockedBefore es N) longer-by-all
+
+    pub all-replaced-verdict :
+        SameBareVerdict (unlockedLoad es) (unlockedStore es) (2 * lockedBefore es N) (encode (unlocked es)) bytes
+    all-replaced-verdict = bytes-verdict all (2 * lockedBefore es N) longer-by-all
