@@ -32,11 +32,13 @@ def without(events: list[Event], kinds: tuple[int, ...]) -> tuple[bytes, dict[in
     new = {old: place for place, old in enumerate(kept)}
     changed = []
     for number in kept:
-        event = events[number]
-        if event.kind == oracle.LOAD:
-            event = Event(oracle.LOAD, event.fields[:2] + (new[event.get("source")],))
-        changed.append(event)
+        changed.append(renumbered(events[number], new))
     return generate.encode_all(changed), new
+
+
+def renumbered(event: Event, new: dict[int, int]) -> Event:
+    """The event with the new number of its source, if its kind has one."""
+    return Event(event.kind, event.fields[:2] + (new[event.get("source")],)) if event.has("source") else event
 
 
 def check_neutral(data: bytes, answer: Answer, kinds: tuple[int, ...]) -> None:
@@ -56,6 +58,61 @@ def carried(windows: tuple[Optional[Window], ...], new: dict[int, int]) -> tuple
     return tuple(ends and (new[ends[0] - 1] + 1, new[ends[1]]) for ends in windows)
 
 
+def in_three(event: Event) -> list[Event]:
+    """ "a load, issue and commit": the three records of a locked operation. """
+    thread, location, _ = event.fields
+    return [Event(oracle.LOAD, event.fields), Event(oracle.ISSUE, (thread, location)), Event(oracle.COMMIT, (thread,))]
+
+
+def replaced(events: list[Event], chosen: list[int]) -> tuple[bytes, dict[int, int], dict[int, int]]:
+    """The trace with the chosen locked operations as three records, and for each old number the new one, of a load and
+    of a store: as a store, a locked operation that was replaced is the second of the three."""
+    of_load = {number: number + 2 * sum(k < number for k in chosen) for number in range(len(events))}
+    of_store = {number: new + (number in chosen) for number, new in of_load.items()}
+    changed = []
+    for number, event in enumerate(events):
+        event = renumbered(event, of_store)
+        changed += in_three(event) if number in chosen else [event]
+    return generate.encode_all(changed), of_load, of_store
+
+
+def check_replaced(data: bytes, m: Machine, answer: Answer) -> int:
+    """ "In an accepted trace, replacing it by the three, while the event limit holds, must give the same verdict, cut
+    and share, event numbers being carried over": each locked operation alone, and all at once. Says how many traces
+    that is. """
+    events = read_events(data)
+    locked = [number for number, event in enumerate(events) if event.kind == oracle.LOCKED]
+    tried = [[k] for k in locked] + ([locked] if len(locked) > 1 else [])
+    for chosen in tried:
+        longer, of_load, of_store = replaced(events, chosen)
+        other = oracle.judge(longer)
+        assert not isinstance(other, Refused) and other.events == answer.events + 2 * len(chosen)
+        if isinstance(answer, Robust):
+            assert other == replace(answer, events=other.events)
+        else:
+            assert other == Broken(other.events, of_load[answer.load], of_store[answer.missing],
+                                   of_store[answer.observed], answer.kind, answer.primary,
+                                   replaced_windows(m, answer, chosen, of_load, of_store))
+    return len(tried)
+
+
+def replaced_windows(m: Machine, answer: Broken, chosen: list[int], of_load: dict[int, int],
+                     of_store: dict[int, int]) -> tuple[Optional[Window], ...]:
+    """The windows with locked operations as three records. A thread whose last place is also the first load that brings
+    p has no window; if that locked operation is replaced, it has the place between load and issue."""
+    before, p, found = oracle.happens_before(m), answer.missing, []
+    for thread, ends in enumerate(answer.windows):
+        last = oracle.last_place(m, before, answer.observed, thread)
+        if ends is not None:
+            brought = of_store[p] if ends[0] - 1 == p else of_load[ends[0] - 1]
+            found.append((brought + 1, of_store[ends[1]]))
+        elif last in chosen and oracle.first_place(m, before, p, thread) == last + 1 and thread != answer.primary:
+            found.append((of_store[last], of_store[last]))
+        else:
+            found.append(None)
+    return tuple(found)
+
+
 def check_prefixes(data: bytes, answer: Answer) -> None:
     """Records 0 to e are broken exactly from the named load on, and robust before."""
     for last in range(len(read_events(data))):
@@ -67,22 +124,39 @@ def check_prefixes(data: bytes, answer: Answer) -> None:
 
 
 def check_windows(data: bytes, answer: Broken) -> None:
-    """ "The thread of q must always have one. Contradictions have none." Every place of a window is a record of the
-    stretch, behind one that brought p to the thread, and at or in front of a store of it that is q or happens before q. """
+    """ "The thread of q must always have one", but "if q's own record is the load that first brings p to its thread,
+    that thread has no window". "Contradictions have none." Every place of a window is a record of the stretch, behind
+    one that brought p to the thread, and at or in front of a store of it that is q or happens before q. If no thread
+    has one, p and q are of one location. """
     if answer.kind == "contradiction":
         assert answer.primary is None and answer.windows == ()
         return
     events, m, p, q = read_events(data), oracle.run(data), answer.missing, answer.observed
-    assert answer.primary == m.stores[p].thread and answer.windows[m.stores[q].thread] is not None
+    assert answer.primary == m.stores[p].thread
+    assert (answer.windows[m.stores[q].thread] is None) == brought_by_observed(data, events, p, q)
+    assert any(answer.windows) or m.stores[p].location == m.stores[q].location
     assert all(event.kind != oracle.CRASH for event in events[p:q + 1])
     for thread, ends in enumerate(answer.windows):
         if ends is not None:
             first, last = ends
             brought = events[first - 1]
             assert p < first <= last <= q
-            assert events[last].kind == oracle.ISSUE and events[last].get("thread") == brought.get("thread") == thread
-            assert oracle.order(data, last, q) in ("same", "before")
-            assert first - 1 == p or oracle.order(data, p, brought.get("source")) in ("same", "before")
+            assert events[last].get("thread") == brought.get("thread") == thread
+            assert events[last].kind in oracle.ISSUES and oracle.order(data, last, q) in ("same", "before")
+            assert first - 1 == p or brings(data, brought, p)
+
+
+def brings(data: bytes, event: Event, p: int) -> bool:
+    """The event is a load "whose source is p or happens after p"."""
+    return event.kind in oracle.LOADS and oracle.order(data, p, event.get("source")) in ("same", "before")
+
+
+def brought_by_observed(data: bytes, events: list[Event], p: int, q: int) -> bool:
+    """ "q's own record is the load that first brings p to its thread"; p's own thread had it before. """
+    thread = events[q].get("thread")
+    earlier = [event for event in events[p + 1:q] if event.has("thread") and event.get("thread") == thread]
+    return (thread != events[p].get("thread") and brings(data, events[q], p)
+            and not any(brings(data, event, p) for event in earlier))
 
 
 def check_order(data: bytes, m: Machine) -> None:
@@ -139,13 +213,32 @@ def features(m: Machine, answer: Answer) -> list[str]:
     found += ["dropped store forbidden"] if any(oracle.forbids(m, load) & {s.event for s in dropped}
                                                 for load in counted) else []
     found += ["crossing load in a skip"] if any(load.crossing and not load.counted for load in m.loads) else []
-    return found + [f"crashes {m.stretch - 1}"]
+    return found + locked_features(m, answer) + [f"crashes {m.stretch - 1}"]
+
+
+def locked_features(m: Machine, answer: Answer) -> list[str]:
+    """Names of what the locked operations of an accepted trace show."""
+    locked = [load for load in m.loads if load.event in m.stores]
+    numbers = {load.event for load in locked}
+    shown = {
+        "some": locked,
+        "counted": [load for load in locked if load.counted],
+        "crossing in a skip": [load for load in locked if load.crossing and not load.counted],
+        "a chain": [load for load in locked if load.source in numbers and not load.crossing],
+        "its store observed": numbers & {q for load in m.loads if load.counted for q in oracle.observes(load)},
+    }
+    if isinstance(answer, Broken):
+        shown |= {f"{name} of broken": numbers & {getattr(answer, name)} for name in ("load", "missing", "observed")}
+    return [f"locked: {name}" for name, found in shown.items() if found]
 
 
 def window_features(m: Machine, answer: Broken) -> list[str]:
     """Names of what the windows of a flush fault show."""
     before, pair = oracle.happens_before(m), {m.stores[answer.missing].thread, m.stores[answer.observed].thread}
     found = ["windows: primary has none"] if answer.windows[answer.primary] is None else []
+    observed = m.stores[answer.observed]
+    found += ["windows: observed's thread has none"] if answer.windows[observed.thread] is None else []
+    found += ["windows: none at all"] if not any(answer.windows) else []
     found += ["windows: longer than a record"] if any(ends and ends[0] < ends[1] for ends in answer.windows) else []
     for thread in set(range(m.threads)) - pair:
         first = oracle.first_place(m, before, answer.missing, thread)
@@ -161,7 +254,9 @@ def check(data: bytes, answer: Answer, counts: Counter) -> None:
     check_records(data)
     assert oracle.judge_closure(data) == answer
     if isinstance(answer, Refused):
-        counts[f"refused {answer.number}"] += 1
+        last = oracle.read_record(oracle.record_part(data, answer.event))
+        locked = isinstance(last, Event) and last.kind == oracle.LOCKED
+        counts[f"refused {answer.number}" + (", locked" if locked else "")] += 1
         check_refusal(data, answer)
         return
     m = oracle.run(data)
@@ -169,6 +264,7 @@ def check(data: bytes, answer: Answer, counts: Counter) -> None:
     counts.update(features(m, answer))
     check_neutral(data, answer, (oracle.CLFLUSH, oracle.CLFLUSHOPT))
     check_neutral(data, answer, (oracle.CLFLUSH, oracle.CLFLUSHOPT, oracle.SFENCE, oracle.MFENCE))
+    counts["traces with locked operations replaced"] += check_replaced(data, m, answer)
     check_prefixes(data, answer)
     if isinstance(answer, Broken):
         check_windows(data, answer)

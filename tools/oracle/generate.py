@@ -37,10 +37,10 @@ class Limits:
 MODES = ["strict", "strict", "weak", "weak", "torn", "torn", "late", "wild", "wild"]
 
 # Weights of the actions: in a part with stores, and in a part with mostly loads.
-STORING = {"issue": 6.0, "commit": 7.0, "load": 3.0, "relay": 3.0, "chain": 1.0, "flush": 1.2, "fence": 0.7,
-           "skip": 0.4, "skipped": 0.6}
-LOADING = {"issue": 0.8, "commit": 0.6, "load": 6.0, "recover": 3.0, "relay": 0.1, "flush": 0.6, "fence": 0.4,
-           "skip": 0.5, "skipped": 0.6}
+STORING = {"issue": 6.0, "commit": 7.0, "load": 3.0, "relay": 3.0, "chain": 1.0, "swaps": 1.0, "flush": 1.2,
+           "fence": 0.7, "skip": 0.4, "skipped": 0.6}
+LOADING = {"issue": 0.8, "commit": 0.6, "load": 6.0, "recover": 3.0, "relay": 0.1, "swaps": 0.6, "flush": 0.6,
+           "fence": 0.4, "skip": 0.5, "skipped": 0.6}
 
 
 class Builder:
@@ -88,15 +88,32 @@ class Builder:
             self.issue()
 
     def load(self, location: Optional[int] = None, thread: Optional[int] = None) -> None:
-        """Load from a legal source; a crossing load takes it as the mode says, with some disturbance."""
+        """Load from a legal source."""
         thread = self.thread() if thread is None else thread
         location = self.rng.choice(self.used) if location is None else location
+        self.add(Event(oracle.LOAD, (thread, location, self.source(thread, location))))
+
+    def source(self, thread: int, location: int) -> int:
+        """A legal source; a crossing load takes it as the mode says, with some disturbance."""
         sources, crossing = oracle.legal_sources(self.machine, thread, location)
         source = self.rng.choice(sources)
         disturbed = thread in self.machine.skips or self.rng.random() < 0.04
-        if crossing and self.mode != "wild" and not disturbed:
-            source = self.image.get(location, 0)
-        self.add(Event(oracle.LOAD, (thread, location, source)))
+        return self.image.get(location, 0) if crossing and self.mode != "wild" and not disturbed else source
+
+    def swap(self, location: int, thread: int) -> None:
+        """A locked operation, after the commits of the thread's waiting stores."""
+        m = self.machine
+        while m.queues[thread]:
+            self.add(Event(oracle.COMMIT, (thread,)))
+        self.add(Event(oracle.LOCKED, (thread, location, self.source(thread, location))))
+        before = oracle.happens_before(m)[m.events]
+        self.relayed += [(p, m.events) for p in before if m.stores[p].thread != thread]
+
+    def swaps(self) -> None:
+        """Locked operations of any threads over one location, as in compare-and-swap loops."""
+        location = self.rng.choice(self.used)
+        for _ in range(self.rng.randint(1, 3)):
+            self.swap(location, self.thread())
 
     def recover(self) -> None:
         """Load from every used location, as a recovery after a crash would."""
@@ -117,12 +134,16 @@ class Builder:
         return found
 
     def relay(self) -> None:
-        """Load what another thread committed last to some location, then issue a store; otherwise commit."""
+        """Load what another thread committed last to some location, then issue a store, or both by a locked operation;
+        otherwise commit."""
         m, possible = self.machine, self.relays()
         if not possible:
             self.commit()
             return
         thread, location, source = self.rng.choice(possible)
+        if self.rng.random() < 0.2:
+            self.swap(location, thread)
+            return
         parts = [Event(oracle.LOAD, (thread, location, source)),
                  Event(oracle.ISSUE, (thread, self.rng.choice(self.used)))]
         if len(possible) > 1 and self.rng.random() < 0.4:
@@ -170,12 +191,13 @@ class Builder:
         self.add(Event(oracle.SKIP_OFF if thread in self.machine.skips else oracle.SKIP_ON, (thread,)))
 
     def skipped(self) -> None:
-        """One or two loads of a thread in a skip, and then perhaps a store of it after the skip."""
+        """One or two loads or locked operations of a thread in a skip, then perhaps a store of it after the skip."""
         thread = self.thread()
         if thread not in self.machine.skips:
             self.skip(thread)
         for _ in range(self.rng.randint(1, 2)):
-            self.load(thread=thread)
+            kind = self.swap if self.rng.random() < 0.3 else self.load
+            kind(self.rng.choice(self.used), thread)
         if self.rng.random() < 0.7:
             self.skip(thread)
         if self.rng.random() < 0.5:
@@ -266,7 +288,7 @@ def wrong_bytes(rng: Random, number: int) -> bytes:
         record = oracle.encode(Event(kind, tuple(rng.randrange(3) for _ in oracle.KINDS[kind][1])))
         return record[:rng.randrange(1, len(record))]
     if number == 3:
-        kind, length = rng.choice([0, 12, 13, 256 * kind, 256 + kind, 99]), rng.choice([2, 3, 4, 6, 8])
+        kind, length = rng.choice([0, 13, 14, 256 * kind, 256 + kind, 99]), rng.choice([2, 3, 4, 6, 8])
     else:
         length = rng.choice([n for n in range(11) if n != oracle.KINDS[kind][0]])
     return length.to_bytes(2, "little") + kind.to_bytes(2, "little") + some(max(0, length - 2))
@@ -289,10 +311,25 @@ def wrong_event(rng: Random, m: Machine, number: int) -> Optional[Event]:
         legal, _ = oracle.legal_sources(m, thread, location)
         stores = [s for s in m.stores if s not in legal and (m.stores[s].location == location or rng.random() < 0.3)]
         others = [s for s in [0, m.events, m.events + 1, 65535] if s not in legal]
-        return Event(oracle.LOAD, (thread, location, rng.choice(stores * 2 + others)))
+        kind = oracle.LOAD if m.queues[thread] else rng.choice(oracle.LOADS)
+        return Event(kind, (thread, location, rng.choice(stores * 2 + others)))
+    if number == 11 and rng.random() < 0.5:
+        return locked_too_early(rng, m, location)
     kind = {10: oracle.COMMIT, 11: oracle.MFENCE, 12: rng.choice([oracle.SKIP_ON, oracle.SKIP_OFF])}[number]
     fitting = [t for t in range(m.threads) if oracle.own_refusal(m, Event(kind, (t,))) == number]
     return Event(kind, (rng.choice(fitting),)) if fitting else None
+
+
+def locked_too_early(rng: Random, m: Machine, location: int) -> Optional[Event]:
+    """A locked operation of a thread with a waiting store, there or at another location; its source is one that the
+    load rule allows, or not."""
+    waiting = [store for queue in m.queues for store in queue]
+    if not waiting:
+        return None
+    store = m.stores[rng.choice(waiting)]
+    location = rng.choice([store.location, location])
+    legal, _ = oracle.legal_sources(m, store.thread, location)
+    return Event(oracle.LOCKED, (store.thread, location, rng.choice(legal + [0, m.events + 1])))
 
 
 def past_limits(rng: Random, events: list[Event], limits: Limits) -> bytes:
@@ -351,13 +388,13 @@ def damaged(rng: Random, limits: Limits) -> bytes:
     elif way == 1:
         del data[at]
     elif way == 2:
-        data.insert(at, rng.randrange(12))
+        data.insert(at, rng.randrange(13))
     elif way == 3:
         del data[at:]
     elif way == 4:
         data = bytearray(rng.choice([0, 0, 1, 2, 4, 6, 8, 9, rng.randrange(256)]) for _ in range(rng.randrange(40)))
     elif way == 5:
-        data = data[:10] + bytes(rng.randrange(12) for _ in range(rng.randrange(20)))
+        data = data[:10] + bytes(rng.randrange(13) for _ in range(rng.randrange(20)))
     elif way == 6:
         events[record:record + 2] = reversed(events[record:record + 2])
     elif way == 7:

@@ -18,13 +18,13 @@ from oracle import Event, Load, Machine, Store
 TRUE = {name: getattr(oracle, name) for name in ("directly_before", "happens_before", "forbids", "observes",
                                                 "legal_sources", "take_effect", "own_refusal", "smallest_pair",
                                                 "robust_answer", "broken_answer", "first_place", "last_place",
-                                                "window")}
+                                                "window", "COMMITS")}
 
 
-def loaded(m: Machine, q: Store, when: int) -> set[int]:
-    """The stores of q's stretch that q's thread loaded from before an event number."""
-    return {load.source for load in m.loads if load.thread == q.thread and load.stretch == q.stretch
-            and load.event < when and load.source in m.stores and m.stores[load.source].stretch == q.stretch}
+def sources_up_to(m: Machine, q: Store, last: int) -> list[int]:
+    """The stores of q's stretch that q's thread loaded from up to an event number, in the order of the loads."""
+    return [load.source for load in m.loads if load.thread == q.thread and load.stretch == q.stretch
+            and load.event <= last and load.source in m.stores and m.stores[load.source].stretch == q.stretch]
 
 
 def no_loads(m: Machine, q: Store) -> set[int]:
@@ -34,12 +34,12 @@ def no_loads(m: Machine, q: Store) -> set[int]:
 
 def no_issue_order(m: Machine, q: Store) -> set[int]:
     """Only the loads."""
-    return loaded(m, q, q.event)
+    return set(sources_up_to(m, q, q.event))
 
 
 def at_commit(m: Machine, q: Store) -> set[int]:
     """ "order taken at the commit" """
-    return TRUE["directly_before"](m, q) | {p for p in loaded(m, q, q.commit or 0) if p != q.event}
+    return TRUE["directly_before"](m, q) | set(sources_up_to(m, q, q.commit or 0)) - {q.event}
 
 
 def one_crash_point(m: Machine, q: Store) -> set[int]:
@@ -57,14 +57,12 @@ def over_crashes(m: Machine, q: Store) -> set[int]:
 def by_crossing_loads(m: Machine, q: Store) -> set[int]:
     """Crossing loads order stores of two stretches."""
     return TRUE["directly_before"](m, q) | {load.source for load in m.loads if load.thread == q.thread
-                                            and load.stretch == q.stretch and 0 < load.source < load.event < q.event}
+                                            and load.stretch == q.stretch and load.source and load.event <= q.event}
 
 
 def last_load_only(m: Machine, q: Store) -> set[int]:
     """The last load of the stretch before q orders, the others do not."""
-    sources = [load.source for load in m.loads if load.thread == q.thread and load.stretch == q.stretch
-               and load.event < q.event and load.source in m.stores and m.stores[load.source].stretch == q.stretch]
-    return no_loads(m, q) | set(sources[-1:])
+    return no_loads(m, q) | set(sources_up_to(m, q, q.event)[-1:])
 
 
 def no_chains(m: Machine) -> dict[int, set[int]]:
@@ -142,23 +140,20 @@ def keep_queues(m: Machine, old: Machine, event: Event) -> None:
 
 def count_all(m: Machine, old: Machine, event: Event) -> None:
     """Crossing loads in a skip count."""
-    if event.kind == oracle.LOAD:
-        last = m.loads.pop()
-        m.loads.append(Load(last.event, last.thread, last.location, last.source, last.stretch, last.crossing,
-                            last.crossing))
+    if event.kind in oracle.LOADS:
+        m.loads[-1] = replace(m.loads[-1], counted=m.loads[-1].crossing)
 
 
 def skip_unorders(m: Machine, old: Machine, event: Event) -> None:
     """Loads in a skip are forgotten whole."""
-    if event.kind == oracle.LOAD and event.get("thread") in m.skips:
+    if event.kind in oracle.LOADS and event.get("thread") in m.skips:
         m.loads.pop()
 
 
 def any_skip(m: Machine, old: Machine, event: Event) -> None:
     """A skip of any thread is taken as a skip of all."""
-    if event.kind == oracle.LOAD and m.skips:
-        last = m.loads.pop()
-        m.loads.append(Load(last.event, last.thread, last.location, last.source, last.stretch, last.crossing, False))
+    if event.kind in oracle.LOADS and m.skips:
+        m.loads[-1] = replace(m.loads[-1], counted=False)
 
 
 def own_queue_unseen(m: Machine, thread: int, location: int) -> tuple[list[int], bool]:
@@ -241,7 +236,56 @@ def primary_of_observed(m: Machine, load: int, p: int, q: int) -> oracle.Broken:
     return true if p == q else replace(true, primary=m.stores[q].thread)
 
 
-MUTANTS: dict[str, dict[str, Callable]] = {
+def source_before_queue(m: Machine, event: Event) -> int:
+    """For a locked operation, 9 goes before 11."""
+    source = TRUE["own_refusal"](m, Event(oracle.LOAD, event.fields)) if event.kind == oracle.LOCKED else 0
+    return source or TRUE["own_refusal"](m, event)
+
+
+def queue_of_location(m: Machine, event: Event) -> int:
+    """A locked operation is turned away by 11 only if the store waits at its own location."""
+    waits = event.kind == oracle.LOCKED and any(m.stores[store].location == event.get("location")
+                                                for store in m.queues[event.get("thread")])
+    as_load = event.kind == oracle.LOCKED and not waits
+    return TRUE["own_refusal"](m, Event(oracle.LOAD, event.fields) if as_load else event)
+
+
+def locked_uncounted(m: Machine, old: Machine, event: Event) -> None:
+    """The load of a locked operation does not count."""
+    if event.kind == oracle.LOCKED:
+        m.loads[-1] = replace(m.loads[-1], counted=False)
+
+
+def locked_counted(m: Machine, old: Machine, event: Event) -> None:
+    """The load of a locked operation counts in a skip too."""
+    if event.kind == oracle.LOCKED:
+        count_all(m, old, event)
+
+
+def load_after_issue(m: Machine, q: Store) -> set[int]:
+    """A locked operation issues its store before it loads: its source does not happen before its store."""
+    return {p.event for p in m.stores.values() if p.thread == q.thread and p.stretch == q.stretch
+            and p.event < q.event} | set(sources_up_to(m, q, q.event - 1))
+
+
+def own_store_forbidden(m: Machine, load: Load, committed_only: bool = False) -> set[int]:
+    """The load of a locked operation finds its own store committed last at the location, and forbids it."""
+    return TRUE["forbids"](m, load) | ({load.event} & set(m.stores))
+
+
+def first_at_locked(m: Machine, before: dict[int, set[int]], p: int, thread: int) -> Optional[int]:
+    """The first place is the locked operation that brings p, as if a flush could stand inside the record."""
+    true = TRUE["first_place"](m, before, p, thread)
+    return true if true is None or thread == m.stores[p].thread or true - 1 not in m.stores else true - 1
+
+
+def locked_brings_nothing(m: Machine, before: dict[int, set[int]], p: int, thread: int) -> Optional[int]:
+    """Only a plain load brings p."""
+    plain = replace(m, loads=[load for load in m.loads if load.event not in m.stores])
+    return TRUE["first_place"](plain, before, p, thread)
+
+
+MUTANTS: dict[str, dict[str, object]] = {
     "no order by loads": {"directly_before": no_loads},
     "no order by issue": {"directly_before": no_issue_order},
     "order taken at the commit": {"directly_before": at_commit},
@@ -276,11 +320,20 @@ MUTANTS: dict[str, dict[str, Callable]] = {
     "windows out of order": {"window": out_of_order},
     "windows for contradictions": {"broken_answer": contradiction_windows},
     "observed's thread primary": {"broken_answer": primary_of_observed},
+    "locked: 9 before 11": {"own_refusal": source_before_queue},
+    "locked: 11 only at its location": {"own_refusal": queue_of_location},
+    "locked: its commit left waiting": {"COMMITS": (oracle.COMMIT,)},
+    "locked: its load not counted": {"take_effect": changed_effect(locked_uncounted)},
+    "locked: its load counted in a skip": {"take_effect": changed_effect(locked_counted)},
+    "locked: its load after its issue": {"directly_before": load_after_issue},
+    "locked: its own store forbidden": {"forbids": own_store_forbidden},
+    "locked: first place inside": {"first_place": first_at_locked},
+    "locked: brings nothing": {"first_place": locked_brings_nothing},
 }
 
 
 @contextmanager
-def replaced(functions: dict[str, Callable]) -> Iterator[None]:
+def replaced(functions: dict[str, object]) -> Iterator[None]:
     """The oracle with some functions replaced."""
     for name, function in functions.items():
         setattr(oracle, name, function)
@@ -291,7 +344,7 @@ def replaced(functions: dict[str, Callable]) -> Iterator[None]:
             setattr(oracle, name, TRUE[name])
 
 
-def differs(data: bytes, answer: oracle.Answer, functions: dict[str, Callable]) -> bool:
+def differs(data: bytes, answer: oracle.Answer, functions: dict[str, object]) -> bool:
     """Whether the wrong judge gives another answer; one that stumbles counts too."""
     with replaced(functions):
         try:

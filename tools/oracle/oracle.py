@@ -2,7 +2,8 @@
 
 Every function states one sentence of document 01 ("A judge of store order across crashes") and computes it in the
 most direct way: queues are queues, happens-before is a graph search, and the verdict comes from trying all choices.
-The windows of a flush fault are document 02's, job 1. Refusals 14 and 15 (sizes of lent buffers) are not treated here.
+The windows of a flush fault are document 02's, job 1; locked operations, kind 12, are its job 2. Refusals 14 and 15
+(sizes of lent buffers) are not treated here.
 """
 
 from __future__ import annotations
@@ -12,8 +13,9 @@ from dataclasses import dataclass, field
 from itertools import product
 from typing import Iterator, Optional, Union
 
-from records import (BEGIN, CLFLUSH, CLFLUSHOPT, COMMIT, CRASH, ISSUE, KINDS, LOAD, MFENCE, SFENCE, SKIP_OFF, SKIP_ON,
-                     Event, Refused, decode, encode, frame_at, number_at, read_record, record_part, write_event)
+from records import (BEGIN, CLFLUSH, CLFLUSHOPT, COMMIT, CRASH, ISSUE, KINDS, LOAD, LOCKED, MFENCE, SFENCE, SKIP_OFF,
+                     SKIP_ON, Event, Refused, decode, encode, frame_at, number_at, read_record, record_part,
+                     write_event)
 
 MAX_EVENT, MAX_CRASHES, MAX_THREADS, MAX_LOCATIONS, CUT_NUMBERS, MAX_INPUT = 2048, 7, 8, 256, 56, 65535
 
@@ -48,6 +50,10 @@ Answer = Union[Refused, Robust, Broken]
 
 
 # ---- The machine ----
+
+# Document 02, job 2: "Wherever issues, commits or loads are named, this record is meant too."
+ISSUES, COMMITS, LOADS = (ISSUE, LOCKED), (COMMIT, LOCKED), (LOAD, LOCKED)
+
 
 @dataclass
 class Store:
@@ -128,14 +134,15 @@ def general_refusal(m: Machine, number: int, event: Event) -> int:
 
 
 def own_refusal(m: Machine, event: Event) -> int:
-    """The refusal of "the kind's own rule" (9 to 12), or 0."""
-    if event.kind == LOAD:
+    """The refusal of "the kind's own rule" (9 to 12), or 0. "11 also if kind 12's thread has a waiting store, before
+    9."; its own store is there to commit, so 10 is no matter of kind 12. """
+    if event.kind in (MFENCE, LOCKED) and m.queues[event.get("thread")]:
+        return 11
+    if event.kind in LOADS:
         sources, _ = legal_sources(m, event.get("thread"), event.get("location"))
         return 0 if event.get("source") in sources else 9
     if event.kind == COMMIT:
         return 0 if m.queues[event.get("thread")] else 10
-    if event.kind == MFENCE:
-        return 11 if m.queues[event.get("thread")] else 0
     if event.kind == SKIP_ON:
         return 12 if event.get("thread") in m.skips else 0
     if event.kind == SKIP_OFF:
@@ -143,25 +150,41 @@ def own_refusal(m: Machine, event: Event) -> int:
     return 0
 
 
+def take_load(m: Machine, number: int, event: Event) -> None:
+    """ "A crossing load in a skip is checked but not counted; all other crossing loads count." """
+    thread, location, source = event.fields
+    _, crossing = legal_sources(m, thread, location)
+    counted = crossing and thread not in m.skips
+    m.loads.append(Load(number, thread, location, source, m.stretch, crossing, counted))
+
+
+def take_issue(m: Machine, number: int, event: Event) -> None:
+    """ "the store joins its thread's queue" """
+    thread, location = event.get("thread"), event.get("location")
+    m.stores[number] = Store(number, thread, location, m.stretch)
+    m.queues[thread].append(number)
+
+
+def take_commit(m: Machine, number: int, event: Event) -> None:
+    """ "the oldest waiting store of the thread takes effect" """
+    store = m.stores[m.queues[event.get("thread")].popleft()]
+    store.commit = number
+    m.memory.setdefault(store.location, []).append(store.event)
+
+
 def take_effect(m: Machine, number: int, event: Event) -> None:
-    """The change that an accepted event makes. "Each kind has its own rule." """
+    """The change that an accepted event makes. "Each kind has its own rule." Kind 12 "is a load, issue and commit with
+    nothing between, and its event number names its store". """
     m.events = number
+    if event.kind in LOADS:
+        take_load(m, number, event)
+    if event.kind in ISSUES:
+        take_issue(m, number, event)
+    if event.kind in COMMITS:
+        take_commit(m, number, event)
     if event.kind == BEGIN:
         _, m.threads, m.locations = event.fields
         m.queues = [deque() for _ in range(m.threads)]
-    elif event.kind == ISSUE:  # "the store joins its thread's queue"
-        thread, location = event.fields
-        m.stores[number] = Store(number, thread, location, m.stretch)
-        m.queues[thread].append(number)
-    elif event.kind == COMMIT:  # "the oldest waiting store of the thread takes effect"
-        store = m.stores[m.queues[event.get("thread")].popleft()]
-        store.commit = number
-        m.memory.setdefault(store.location, []).append(store.event)
-    elif event.kind == LOAD:  # "A crossing load in a skip is checked but not counted; all other crossing loads count."
-        thread, location, source = event.fields
-        _, crossing = legal_sources(m, thread, location)
-        counted = crossing and thread not in m.skips
-        m.loads.append(Load(number, thread, location, source, m.stretch, crossing, counted))
     elif event.kind == CRASH:  # "a crash finishes it, drops waiting stores, ends skips and starts counts afresh"
         m.stretch += 1
         m.queues = [deque() for _ in range(m.threads)]
@@ -204,11 +227,12 @@ def prefix(data: bytes, last: int) -> bytes:
 
 def directly_before(m: Machine, q: Store) -> set[int]:
     """ "Store p happens before q in the same stretch if p is issued earlier by the same thread, or q's thread, before
-    issuing q, loaded from p in that stretch": all such p, without chains. """
+    issuing q, loaded from p in that stretch": all such p, without chains. A load with q's own number is that of a kind
+    12 record, which loads before it issues. """
     same_thread = {p.event for p in m.stores.values()
                    if p.thread == q.thread and p.stretch == q.stretch and p.event < q.event}
     loaded = {load.source for load in m.loads
-              if load.thread == q.thread and load.stretch == q.stretch and load.event < q.event}
+              if load.thread == q.thread and load.stretch == q.stretch and load.event <= q.event}
     return same_thread | {p for p in loaded if p in m.stores and m.stores[p].stretch == q.stretch}
 
 
@@ -335,7 +359,9 @@ def last_place(m: Machine, before: dict[int, set[int]], q: int, thread: int) -> 
 
 
 def window(m: Machine, before: dict[int, set[int]], p: int, q: int, thread: int) -> Optional[Window]:
-    """ "Each thread gets its window, or none if either end is lacking or they are out of order" """
+    """ "Each thread gets its window, or none if either end is lacking or they are out of order". Job 2: "if q's own
+    record is the load that first brings p to its thread, that thread has no window": its ends, one past the load that
+    is q and the issue that is q, are out of order. """
     first, last = first_place(m, before, p, thread), last_place(m, before, q, thread)
     return None if first is None or last is None or first > last else (first, last)
 

@@ -3,49 +3,49 @@
 python3 proof_file.py cases > ../../crates/model/proofs/Cases.antt
 python3 proof_file.py trade > ../../crates/model/proofs/CasesOfTrade.antt
 python3 proof_file.py windows > ../../crates/model/proofs/CasesOfWindows.antt
+python3 proof_file.py locked > ../../crates/model/proofs/CasesOfLocked.antt
 python3 proof_file.py random SEED COUNT > ../../crates/model/proofs/RandomSessions.antt
 
-The expected answers of the cases, of the errors of the trade and of the windows are those that sessions.py states by
-hand from documents 01 and 02; those of the random sessions come from the brute force of oracle.py.
+The expected answers of the random sessions come from the brute force of oracle.py; those of all others are the ones
+that sessions.py states by hand from documents 01 and 02.
 """
 
 from __future__ import annotations
 
 import re
 import sys
+import textwrap
 from typing import Iterable
 
 import generate
 import oracle
 from oracle import Event, Refused
-from sessions import CASES, ERRORS, WINDOWS
+from sessions import CASES, ERRORS, LOCKED, WINDOWS
 
 CONSTRUCTORS = {oracle.BEGIN: "Begin", oracle.ISSUE: "Issue", oracle.COMMIT: "Commit", oracle.LOAD: "Load",
                 oracle.CLFLUSH: "Clflush", oracle.CLFLUSHOPT: "Clwb", oracle.SFENCE: "Sfence", oracle.MFENCE: "Mfence",
-                oracle.CRASH: "Crash", oracle.SKIP_ON: "SkipOn", oracle.SKIP_OFF: "SkipOff"}
+                oracle.CRASH: "Crash", oracle.SKIP_ON: "SkipOn", oracle.SKIP_OFF: "SkipOff", oracle.LOCKED: "Locked"}
 
-LISTS = {"cases": CASES, "trade": ERRORS, "windows": WINDOWS}
+LISTS = {"cases": CASES, "trade": ERRORS, "windows": WINDOWS, "locked": LOCKED}
 THEOREMS = {"cases": "cases-1-to-11", "trade": "errors-of-the-trade", "windows": "windows-as-worked",
-            "random": "random-sessions"}
+            "locked": "locked-as-worked", "random": "random-sessions"}
 
+# What stands on top of the file, and behind it SHOWN.
 HEADERS = {
-    "cases": """\
--- Document 01, "Sessions": "Cases 1 to 11 are the proved ones." The definitions give each case's bytes the answer that
--- document 01 states, and the cut buffer; case 11 stands for both its loads. Shown together as one list, by
--- computation. Made by tools/oracle/proof_file.py.""",
-    "trade": """\
--- Document 01, "Errors the trade has made": a session for each that has no case of its own, and for rules that no case
--- needs. The definitions give their bytes the answers that follow from document 01, and the cut buffers. Shown together
--- as one list, by computation. Made by tools/oracle/proof_file.py.""",
-    "windows": """\
--- Document 02, job 1, "Where the flush may go": a session for each thing that moves a place or takes a window away. The
--- definitions give their bytes the answers that follow from document 02, and the cut buffers. Shown together as one
--- list, by computation. Made by tools/oracle/proof_file.py.""",
-    "random": """\
--- Random sessions: the definitions give their bytes the answers of an independent brute force over all choices
--- (tools/oracle). Shown together as one list, by computation.
--- Made by tools/oracle/proof_file.py.""",
+    "cases": """Document 01, "Sessions": "Cases 1 to 11 are the proved ones." The definitions give each case's bytes the
+        answer that document 01 states, and the cut buffer; case 11 stands for both its loads.""",
+    "trade": """Document 01, "Errors the trade has made": a session for each that has no case of its own, and for rules
+        that no case needs. The definitions give their bytes the answers that follow from document 01, and the cut
+        buffers.""",
+    "windows": """Document 02, job 1, "Where the flush may go": a session for each thing that moves a place or takes a
+        window away. The definitions give their bytes the answers that follow from document 02, and the cut buffers.""",
+    "locked": """Document 02, job 2, "Locked operations in one record": a session for each thing that the load, the
+        issue and the commit of such a record do, that turns it away, or that it does to a window. The definitions give
+        their bytes the answers that follow from documents 01 and 02, and the cut buffers.""",
+    "random": """Random sessions: the definitions give their bytes the answers of an independent brute force over all
+        choices (tools/oracle).""",
 }
+SHOWN = "Shown together as one list, by computation. Made by tools/oracle/proof_file.py."
 
 IMPORTS = """use mathlib.Core.Path.{_≡_, refl, sym, ap, _∙_}
 use mathlib.Core.List.{List, [], _∷_, map}
@@ -94,6 +94,12 @@ def events_of(data: bytes) -> list[Event]:
         events.append(event)
         at += len(oracle.encode(event))
     return events
+
+
+def header(which: str) -> str:
+    """The comment on top of the file."""
+    words = " ".join(f"{HEADERS[which]} {SHOWN}".split())
+    return textwrap.fill(words, 120, initial_indent="-- ", subsequent_indent="-- ", break_on_hyphens=False)
 
 
 def imported(names: list[str]) -> list[str]:
@@ -153,6 +159,8 @@ def shown_outcome(answer: str, cut: str) -> str:
 def shown_windows(primary: str, lines: list[list[str]]) -> str:
     """A flush fault: its primary thread, and the windows of the threads up to the last that has one."""
     ends = {int(thread): f"between {first} {last}" for _, thread, first, last in lines}
+    if not ends:
+        return f"(flush {primary} (padded []))"
     listed = [ends.get(thread, "none") for thread in range(max(ends) + 1)]
     return f"(flush {primary} (padded ({' ∷ '.join(listed + ['[]'])})))"
 
@@ -183,7 +191,7 @@ def proof_file(which: str, listed: list[tuple[str, bytes, list[str]]]) -> str:
     windows = named(("none", "between"), entries) + ", behind, lastCovered, windowOf"
     faults = named(("refused", "robust", "broken", "contradiction", "flush"), entries)
     return "\n\n".join([
-        HEADERS[which] + "\n" + IMPORTS % (used, windows, faults),
+        header(which) + "\n" + IMPORTS % (used, windows, faults),
         "-- the bytes\n" + "pub " + table("sessions", "(List ℕ)", bytes_),
         "-- the events that they are the records of\n" + table("traces", "(List Event)", events),
         "-- the answers, and the cut buffers afterwards\n" + "pub " + table("answers", "Outcome", answers),

@@ -1,11 +1,11 @@
-"""Records of a trace, by document 01: reading, framing, writing. Nothing here knows of threads or crashes."""
+"""Records of a trace, by documents 01 and 02: reading, framing, writing. Nothing here knows of threads or crashes."""
 
 from __future__ import annotations
 
 from dataclasses import dataclass
 from typing import Optional, Union
 
-BEGIN, ISSUE, COMMIT, LOAD, CLFLUSH, CLFLUSHOPT, SFENCE, MFENCE, CRASH, SKIP_ON, SKIP_OFF = range(1, 12)
+BEGIN, ISSUE, COMMIT, LOAD, CLFLUSH, CLFLUSHOPT, SFENCE, MFENCE, CRASH, SKIP_ON, SKIP_OFF, LOCKED = range(1, 13)
 
 # "Kinds and their lengths are one fixed table": kind -> (length, names of the fields).
 KINDS: dict[int, tuple[int, tuple[str, ...]]] = {
@@ -20,6 +20,7 @@ KINDS: dict[int, tuple[int, tuple[str, ...]]] = {
     CRASH: (2, ()),
     SKIP_ON: (4, ("thread",)),
     SKIP_OFF: (4, ("thread",)),
+    LOCKED: (8, ("thread", "location", "source")),
 }
 
 

@@ -15,7 +15,7 @@ from pathlib import Path
 import generate
 import oracle
 from oracle import Refused
-from sessions import CASES, EDGES, ERRORS, MORE_REFUSALS, ORDERS, REFUSALS, WINDOWS, show, without_windows
+from sessions import CASES, EDGES, ERRORS, LOCKED, MORE_REFUSALS, ORDERS, REFUSALS, WINDOWS, show, without_windows
 
 LONGEST = 32767  # the program's room for a trace; the program `verdict` is run on longer input by tests/verdict
 SEED = 2027
@@ -41,7 +41,7 @@ def listed() -> list[Pair]:
     for name, data, expected in CASES + REFUSALS + MORE_REFUSALS + EDGES + ERRORS:
         if len(data) <= LONGEST:
             pairs += judged("j", name, data, without_windows(expected))
-    for name, data, expected in WINDOWS:
+    for name, data, expected in WINDOWS + LOCKED:
         pairs += judged("w", name, data, expected.split(" / "))
     for name, data, first, second, answer in ORDERS:
         pairs.append((f"# order: {name}", [f"# order: {name}"]))
@@ -50,8 +50,8 @@ def listed() -> list[Pair]:
 
 
 def with_buffers() -> list[Pair]:
-    """ "14, 15; then per record"; "refusals 14 and 15 touch nothing"; a refusal and broken leave the cut buffer as lent;
-    afterwards the work area's "first 32,768 are 0 and the rest untouched". No number of a buffer is 0 before. """
+    """ "14, 15; then per record"; "refusals 14 and 15 touch nothing"; a refusal and broken leave the cut buffer as
+    lent; afterwards the work area's "first 32,768 are 0 and the rest untouched". No number of a buffer is 0 before. """
     robust, broken, refused = CASES[1][1], CASES[0][1], CASES[7][1]
     lines = {data: without_windows(expected) for _, data, expected in CASES}
     cleared, kept = 32768, 0

@@ -1,8 +1,8 @@
 """Sessions of documents 01 and 02 with their expected answers, written down by hand from these documents.
 
 Notation, separated by blanks (T thread, L location, S source):
-I0.1 issue, C0 commit, L0.1<3 load from 3, F0.1 clflush, O0.1 clflushopt or clwb, SF0 sfence, MF0 mfence, X crash,
-SKIP0 skip on, UNSKIP0 skip off, B1.2.2 begin (version, threads, locations).
+I0.1 issue, C0 commit, L0.1<3 load from 3, R0.1<3 locked operation (kind 12) from 3, F0.1 clflush, O0.1 clflushopt or
+clwb, SF0 sfence, MF0 mfence, X crash, SKIP0 skip on, UNSKIP0 skip off, B1.2.2 begin (version, threads, locations).
 
 `python3 sessions.py` compares the oracle with every expectation and prints 'N passed, 0 failed'.
 """
@@ -18,7 +18,7 @@ from oracle import Event, Refused
 
 LETTERS = {"B": oracle.BEGIN, "I": oracle.ISSUE, "C": oracle.COMMIT, "L": oracle.LOAD, "F": oracle.CLFLUSH,
            "O": oracle.CLFLUSHOPT, "SF": oracle.SFENCE, "MF": oracle.MFENCE, "X": oracle.CRASH,
-           "SKIP": oracle.SKIP_ON, "UNSKIP": oracle.SKIP_OFF}
+           "SKIP": oracle.SKIP_ON, "UNSKIP": oracle.SKIP_OFF, "R": oracle.LOCKED}
 NAMES = {kind: letters for letters, kind in LETTERS.items()}
 
 
@@ -31,7 +31,7 @@ def parse_event(word: str) -> Event:
 def show_event(event: Event) -> str:
     """One word of the notation for an event."""
     text = ".".join(str(value) for value in event.fields[:3 if event.kind == oracle.BEGIN else 2])
-    return NAMES[event.kind] + text + (f"<{event.fields[2]}" if event.kind == oracle.LOAD else "")
+    return NAMES[event.kind] + text + (f"<{event.get('source')}" if event.has("source") else "")
 
 
 def show(data: bytes) -> str:
@@ -121,7 +121,9 @@ MORE_REFUSALS: list[tuple[str, bytes, str]] = [
     ("bytes missing before unknown kind", raw("08 00 63 00"), "refused 2 0"),
     ("unknown kind before wrong length", B + raw("03 00 63 00 00"), "refused 3 1"),
     ("kind 0", B + raw("02 00 00 00"), "refused 3 1"),
-    ("kind 12", B + raw("02 00 0c 00"), "refused 3 1"),
+    ("kind 13", B + raw("02 00 0d 00"), "refused 3 1"),
+    ("kind 12 with the length of a crash", B + raw("02 00 0c 00"), "refused 4 1"),
+    ("bytes end inside kind 12", B + raw("08 00 0c 00 00 00 00 00 00"), "refused 2 1"),
     ("kind 256 + 9", B + raw("02 00 09 01"), "refused 3 1"),
     ("odd length for the kind", B + raw("03 00 09 00 00"), "refused 4 1"),
     ("wrong length before no begin", raw("04 00 09 00 00 00"), "refused 4 0"),
@@ -154,6 +156,13 @@ MORE_REFUSALS: list[tuple[str, bytes, str]] = [
     ("load from a commit's number", B + body("I0.0 C0 L0.0<2"), "refused 9 3"),
     ("load in a skip is checked", B + body("SKIP0 L0.0<1"), "refused 9 2"),
     ("a refusal outranks broken", session("I0.0 C0 X L0.0<1 L0.0<0 C0"), "refused 10 6"),
+    ("locked operation: the own waiting store is no source", B + body("I0.0 R0.0<1"), "refused 11 2"),
+    ("locked operation past a commit", session("R0.0<0 R1.0<0"), "refused 9 2"),
+    ("locked operation in a skip is checked", B + body("SKIP0 R0.0<1"), "refused 9 2"),
+    ("locked operation beside another's waiting store", session("I0.0 R1.0<0"),
+     "events 2 / verdict robust / share 100"),
+    ("locked operation after its thread's waiting store was dropped", B + body("I0.0 X R0.0<0"),
+     "events 3 / verdict robust / cut 1 0 / share 100"),
     ("own waiting store before another's commit", session("I0.0 I1.0 C1 L0.0<1"),
      "events 4 / verdict robust / share 100"),
     ("last commit counts, not last issue", session("I0.0 I1.0 C1 C0 L1.0<1"), "events 5 / verdict robust / share 100"),
@@ -169,6 +178,8 @@ EDGES: list[tuple[str, bytes, str]] = [
     ("event 2,049 is unreadable", B + body("SF0 " * 2048) + raw("02 00"), "refused 2 2049"),
     ("last load at 2,048", B + body("I0.0 C0 X L0.0<1 " + "SF0 " * 2043 + "L0.0<0"),
      "events 2048 / verdict broken / load 2048 / missing 1 / observed 1 / kind contradiction"),
+    ("locked operation at 2,048", B + body("SF0 " * 2047 + "R0.0<0"), "events 2048 / verdict robust / share 100"),
+    ("its three records from 2,048 on", B + body("SF0 " * 2047 + "L0.0<0 I0.0 C0"), "refused 13 2049"),
     ("7 crashes", B + body("X " * 7), "events 7 / verdict robust / cut 1 0 / cut 2 0 / cut 3 0 / cut 4 0 / cut 5 0"
      " / cut 6 0 / cut 7 0 / share 100"),
     ("8 crashes", B + body("X " * 8), "refused 13 8"),
@@ -288,6 +299,59 @@ WINDOWS: list[tuple[str, bytes, str]] = [
      "events 8 / verdict broken / load 8 / missing 1 / observed 4 / kind flush / primary 7 / window 0 4 4"),
 ]
 
+# Document 02, job 2, "Locked operations in one record": what the session shows, trace, lines as above. Where a session
+# has the locked operation k of another one as three records, its load is k, its store k + 1, and later numbers are
+# greater by 2.
+SWAPPED = "I0.0 C0 R1.0<1 X"
+PUBLISHED = "I0.0 C0 I0.8 C0"
+LOCKED: list[tuple[str, bytes, str]] = [
+    ("a locked operation's store, 3, is committed behind its source, so a load from 1 forbids it",
+     session(SWAPPED + " L0.0<1"), "events 5 / verdict robust / cut 1 1 0 / share 50"),
+    ("a locked operation's source happens before its store: with 3 observed, 1 is in too",
+     session(SWAPPED + " L0.0<3"), "events 5 / verdict robust / cut 1 1 1 / share 100"),
+    ("observed's own load first brings missing to its thread, and thread 0 stores no more: no window at all",
+     session(SWAPPED + " L0.0<0 L0.0<3"),
+     "events 6 / verdict broken / load 6 / missing 1 / observed 3 / kind flush / primary 0"),
+    ("the same as three records: observed is 4 and the load 8; a flush may stand between the load and the issue",
+     session("I0.0 C0 L1.0<1 I1.0 C1 X L0.0<0 L0.0<4"),
+     "events 8 / verdict broken / load 8 / missing 1 / observed 4 / kind flush / primary 0 / window 1 4 4"),
+    ("locked operation: no such thread goes before no such location", session("R1.2<5", threads=1), "refused 7 1"),
+    ("locked operation: no such location goes before the waiting store", session("I0.0 R0.2<5"), "refused 8 2"),
+    ("locked operation: the waiting store goes before the wrong source", session("I0.0 R0.0<5"), "refused 11 2"),
+    ("locked operation: a store that waits at another location turns it away too", session("I0.0 R0.1<0"),
+     "refused 11 2"),
+    ("locked operation: it is not its own source, since it loads before it issues", session("R0.0<1"), "refused 9 1"),
+    ("locked operation: its store does not wait, so a commit right behind it has an empty queue",
+     session("R0.0<0 C0"), "refused 10 2"),
+    ("locked operation: an mfence behind it passes; a load by another thread that reads past its store does not",
+     session("I0.0 C0 R1.0<1 MF1 L0.0<1"), "refused 9 5"),
+    ("locked operation: nor does a load of its own thread that reads past its store", session("R0.0<0 L0.0<0"),
+     "refused 9 2"),
+    ("a crossing locked operation counts: it reads past 1, which happens before the observed 3, and is the load",
+     session(PUBLISHED + " X L0.8<3 R1.0<0", locations=9),
+     "events 7 / verdict broken / load 7 / missing 1 / observed 3 / kind flush / primary 0 / window 0 2 3"),
+    ("a locked operation in a skip: its load does not count; its store stands and is observed after the next crash",
+     session(PUBLISHED + " X L0.8<3 SKIP1 R1.0<0 X L0.0<8", locations=9),
+     "events 10 / verdict robust / cut 1 2 0 / cut 2 0 1 / share 100"),
+    ("compare-and-swaps of three threads: each happens before the next",
+     session("R0.0<0 R1.0<1 R2.0<2 X L0.0<3"), "events 5 / verdict robust / cut 1 1 1 1 / share 100"),
+    ("the same, thread 1's as three records: its store is 3, which the next one names as its source; that one is 5",
+     session("R0.0<0 L1.0<1 I1.0 C1 R2.0<3 X L0.0<5"), "events 7 / verdict robust / cut 1 1 1 1 / share 100"),
+    ("the locked operations 5 and 6 themselves bring missing to their threads: only thread 0 has a window",
+     session(PUBLISHED + " R1.8<3 R2.8<5 X L0.0<0 L0.8<6", locations=9),
+     "events 9 / verdict broken / load 9 / missing 1 / observed 6 / kind flush / primary 0 / window 0 2 3"),
+    ("an earlier load brought missing to the observed locked operation's thread: that thread has a window",
+     session(PUBLISHED + " L1.0<1 R1.8<3 X L0.0<0 L0.8<6", locations=9),
+     "events 9 / verdict broken / load 9 / missing 1 / observed 6 / kind flush / primary 0 / window 0 2 3"
+     " / window 1 6 6"),
+    ("the locked operation observed is of missing's own thread, where the first place is missing + 1",
+     session(PUBLISHED + " R0.8<3 X L0.0<0 L0.8<5", locations=9),
+     "events 8 / verdict broken / load 8 / missing 1 / observed 5 / kind flush / primary 0 / window 0 2 5"),
+    ("a locked operation is missing, one brings it, and observed is a later store of that thread: a window behind it",
+     session("R0.0<0 R1.0<1 I1.8 C1 X L0.0<0 L0.8<3", locations=9),
+     "events 7 / verdict broken / load 7 / missing 1 / observed 3 / kind flush / primary 0 / window 1 3 3"),
+]
+
 # Order queries: name, trace, first, second, expected answer.
 ORDERS: list[tuple[str, bytes, int, int, object]] = [
     ("query 0", B, 0, 0, Refused(16, 0)),
@@ -301,17 +365,25 @@ ORDERS: list[tuple[str, bytes, int, int, object]] = [
     ("case 6: the load comes after the issue", session("I0.0 C0 I1.1 L1.0<1 C1"), 1, 3, "neither"),
     ("two stretches", session("I0.0 C0 X I0.1"), 1, 4, "neither"),
     ("a crossing load adds nothing", session("I0.0 C0 X L1.0<1 I1.1"), 1, 5, "neither"),
+    ("a locked operation is an issue", session("R0.0<0"), 1, 1, "same"),
+    ("the source of a locked operation", session("I0.0 C0 R1.0<1"), 1, 3, "before"),
+    ("the locked operation and its source", session("I0.0 C0 R1.0<1"), 3, 1, "after"),
+    ("by a locked operation to a later store", session("I0.0 C0 R1.0<1 I1.1"), 1, 4, "before"),
+    ("an earlier store of its thread and its source", session("I1.1 C1 I0.0 C0 R1.0<3"), 1, 3, "neither"),
+    ("a crossing locked operation adds nothing", session("I0.0 C0 X R1.0<1"), 1, 4, "neither"),
 ]
 
 
 def record_checks() -> list[tuple[str, bool]]:
     """The record layer: reading one record, framing, writing, refusal 17."""
     crash, output = Event(oracle.CRASH), bytearray(b"\xaa" * 6)
-    large = Event(oracle.LOAD, (65535, 65535, 65535))
+    large, locked = Event(oracle.LOAD, (65535, 65535, 65535)), raw("08 00 0c 00 01 00 02 00 03 00")
     return [
         ("read: no bytes", oracle.read_record(b"") == Refused(1, 0)),
         ("read: ignores what follows", oracle.read_record(body("C0") + b"\0\0") == Event(oracle.COMMIT, (0,))),
         ("read: ranges are the judge's matter", oracle.read_record(oracle.encode(large)) == large),
+        ("read: locked operation", oracle.read_record(locked) == Event(oracle.LOCKED, (1, 2, 3))),
+        ("write: locked operation", body("R1.2<3") == locked),
         ("write: crash into 3 bytes", oracle.write_event(crash, bytearray(3)) == Refused(17, 0)),
         ("write: crash into 6 bytes", oracle.write_event(crash, output) is None),
         ("write: no other bytes", bytes(output) == raw("02 00 09 00 aa aa")),
@@ -333,7 +405,7 @@ def self_test() -> list[tuple[str, bool]]:
     """All comparisons: a name and whether it holds."""
     results: list[tuple[str, bool]] = []
     judges: list[tuple[str, Callable]] = [("judge", oracle.judge), ("judge_closure", oracle.judge_closure)]
-    for name, data, expected in CASES + REFUSALS + MORE_REFUSALS + EDGES + ERRORS + WINDOWS:
+    for name, data, expected in CASES + REFUSALS + MORE_REFUSALS + EDGES + ERRORS + WINDOWS + LOCKED:
         for label, judging in judges:
             results.append((f"{name} ({label})", " / ".join(oracle.lines_with_windows(data, judging)) == expected))
     for name, data, first, second, answer in ORDERS:
