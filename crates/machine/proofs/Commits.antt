@@ -1,5 +1,6 @@
--- What a commit does to the components of `Sim` that commits concern, whatever else the event may be: the oldest
--- waiting store of its thread, `taken`, takes effect. It becomes the head of its location's chain, in which it was not.
+-- What a commit does to the components of `Sim` that commits concern, whatever else the event may be: the oldest store
+-- of its thread that is not committed, `taken`, takes effect. It becomes the head of its location's chain, in which it
+-- was not.
 -- And the step of kind 3, which is a commit and nothing else: the next store of the thread is then the oldest.
 -- In order: chains; the store; the chains afterwards; the step.
 use mathlib.Core.Path.{_≡_, refl, sym, _∙_}
@@ -16,13 +17,13 @@ use Rattle.model.specs.Trace.{stretch, place}
 use Rattle.model.specs.Machine.{committed}
 use Rattle.model.specs.Rules.{refusal, Accepted}
 use Rattle.model.specs.Stores.{storeAt, landsAt, landed}
-use Rattle.model.proofs.Searching.{test, same?, parts}
+use Rattle.model.proofs.Searching.{false-true, test, same?, parts}
 use Rattle.model.proofs.Roles.{commit-no-crash}
 use Rattle.model.proofs.Acceptance.{store-not-0}
 use Rattle.model.proofs.Limits.{accepted-next}
 use Rattle.model.proofs.Ranges.{issue-has-location, commit-has-thread, location-bound}
-use Rattle.model.proofs.StorePlaces.{Store, its-place, committed-at, committed-store}
-use Rattle.model.proofs.Unchanged.{live-here, landed-away, landed-here, landed-once, Lacks}
+use Rattle.model.proofs.StorePlaces.{Store, its-place, committed-at, committed-store, committed-earlier}
+use Rattle.model.proofs.Unchanged.{live-here, store-at-away, landed-away, landed-here, landed-once, Lacks}
 use Rattle.area.specs.Cells.{getRow, noStore}
 use Rattle.area.specs.Rows.{Linked}
 use Rattle.area.proofs.ReadBack.{rows-apart, put-same, put-row}
@@ -76,13 +77,13 @@ landed-early ev n accepted (suc m) x within =
         rw lands ((omega arith, omega (arith, it .early)), earlier)
 
 -- store p heads the chain of location x, by a commit in stretch j, and the chains are else as they were before event n
-record Headed (n p x j : ℕ) (tables tables′ l l′ : List ℕ) : Type 0 where
-  head-is : getD tables′ (lastCell x) 0 ≡ p
-  stretch-is : getD tables′ (stretchCell x) 0 ≡ j
-  link-is : getRow l′ p 14 ≡ getD tables (lastCell x) 0
-  other-heads : (y : ℕ) → y < 256 → x ≢ y → getD tables′ (lastCell y) 0 ≡ getD tables (lastCell y) 0
-  other-stretches : (y : ℕ) → y < 256 → x ≢ y → getD tables′ (stretchCell y) 0 ≡ getD tables (stretchCell y) 0
-  other-links : (q : ℕ) → 1 ≤ q → q < n → q ≢ p → getRow l′ q 14 ≡ getRow l q 14
+pub record Headed (n p x j : ℕ) (tables tables′ l l′ : List ℕ) : Type 0 where
+  pub head-is : getD tables′ (lastCell x) 0 ≡ p
+  pub stretch-is : getD tables′ (stretchCell x) 0 ≡ j
+  pub link-is : getRow l′ p 14 ≡ getD tables (lastCell x) 0
+  pub other-heads : (y : ℕ) → y < 256 → x ≢ y → getD tables′ (lastCell y) 0 ≡ getD tables (lastCell y) 0
+  pub other-stretches : (y : ℕ) → y < 256 → x ≢ y → getD tables′ (stretchCell y) 0 ≡ getD tables (stretchCell y) 0
+  pub other-links : (q : ℕ) → 1 ≤ q → q < n → q ≢ p → getRow l′ q 14 ≡ getRow l q 14
 
 module _ (ev : ℕ → Event) (n : ℕ) (w : World) (sim : Sim ev n w) (passes : refusal ev n ≡ 0)
     (is-commit : Commit ev n) where
@@ -109,7 +110,7 @@ module _ (ev : ℕ → Event) (n : ℕ) (w : World) (sim : Sim ev n w) (passes :
   accepted : Accepted ev (suc n)
   accepted = accepted-next ev n (sim .limits .accepted) passes
 
-  taken-store : Store ev n j t (done ev n t) taken
+  taken-store : Store ev (suc n) j t (done ev n t) taken
   taken-store = committed-store ev (suc n) n accepted (omega arith) is-commit
 
   abbrev x : ℕ
@@ -117,12 +118,12 @@ module _ (ev : ℕ → Event) (n : ℕ) (w : World) (sim : Sim ev n w) (passes :
 
   x-small : x < 256
   x-small =
-      location-bound ev (suc n) accepted taken (omega (arith, taken-store .early))
+      location-bound ev (suc n) accepted taken (taken-store .early)
       (issue-has-location ev (taken-store .store))
 
   -- ---- the chains: that of the store's location has a new head, and no link changes but the store's own
 
-  chains-next : (tables′ l′ : List ℕ) → Headed n taken x j tables tables′ l l′ → Chains ev (suc n) tables′ l′
+  pub chains-next : (tables′ l′ : List ℕ) → Headed n taken x j tables tables′ l l′ → Chains ev (suc n) tables′ l′
   chains-next tables′ l′ it y small = own-or-other (same? x y)
     where
       -- the store is in no chain so far, so that its new link is in none of them
@@ -166,17 +167,25 @@ module _ (ev : ℕ → Event) (n : ℕ) (w : World) (sim : Sim ev n w) (passes :
 
     -- what the machine's state and rows say is what the store has
     oldest-is : old .oldest ≡ taken
-    oldest-is = sim .queues t few .oldest-is ∙ sym (committed-at ev n)
+    oldest-is =
+        sim .queues t few .oldest-is
+        ∙ sym
+        (committed-at ev n
+        ∙ store-at-away ev n j t (done ev n t) (λ store _. false-true (sym no-issue ∙ store .test)))
+
+    -- it waits: an earlier event issued it
+    taken-early : taken < n
+    taken-early = committed-earlier ev (suc n) n accepted (omega arith) is-commit no-issue
 
     place-is : oldestPlace tables l t ≡ x
     place-is =
-        rw (oldest-is, sim .rows .stores taken (taken-store .early) (taken-store .store) .location-is)
+        rw (oldest-is, sim .rows .stores taken taken-early (taken-store .store) .location-is)
         (omega (arith, x-small))
 
     next-is : getRow l (old .oldest) 11 ≡ storeAt ev n j t (suc (done ev n t))
     next-is =
         rw oldest-is
-        (sim .links taken (taken-store .early) (taken-store .store)
+        (sim .links taken taken-early (taken-store .store)
         ∙ at-next (place ev taken) (taken-store .in-j) (taken-store .by-t) (its-place ev taken-store))
       where
         at-next :
@@ -235,7 +244,7 @@ module _ (ev : ℕ → Event) (n : ℕ) (w : World) (sim : Sim ev n w) (passes :
               beyond (stretchCell z) (omega arith) (λ same. omega arith) (λ same. other (omega arith));
           other-links = λ q from-one early other.
               put-row (noStore l row) p 14 link q 14 (omega arith) (omega arith)
-              (rows-apart p q (omega (arith, oldest-is, taken-store .early, n-small)) from-one
+              (rows-apart p q (omega (arith, oldest-is, taken-early, n-small)) from-one
               (omega (arith, n-small)) (λ same. other (sym same)))
               ∙ no-store-links row n (sim .numbers .row-is) n-small l q;
         })

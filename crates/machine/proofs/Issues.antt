@@ -2,7 +2,8 @@
 -- its thread's queue behind the thread's newest store of the stretch, and its row holds its clock, which is what its
 -- thread has seen, the event included, and of its own thread one more than its place. And the step of kind 2, which is
 -- an issue and nothing else.
--- In order: the newest store so far; the thread; the row; the links; the table of newest stores; the step.
+-- In order: the newest store so far; the thread; the row; the links; the table of newest stores; the row as it is
+-- written; the step.
 use mathlib.Core.Path.{_≡_, refl, sym, ap, _∙_}
 use mathlib.Core.Bool.{false, cond}
 use mathlib.Core.List.{List}
@@ -11,7 +12,7 @@ use Prim.Native.Nat.{ℕ, suc, _+_, _-_, _*_, _≤_, _<_}
 use native.Mathlib.Omega.{arith}
 use borrow.Author.Tests.{eq-eqb, ne-eqb}
 use lib.Dec.{eqb}
-use lib.ListN.{getD}
+use lib.ListN.{length, getD}
 use Rattle.record.specs.declared.events.Event.{Event}
 use Rattle.record.specs.Tests.{_gives_else_}
 use Rattle.model.specs.Trace.{kind, thread, location, issue?, commit?, load?, crash?, skipOn?, skipOff?, Issue}
@@ -71,7 +72,7 @@ module _ (ev : ℕ → Event) (n : ℕ) (w : World) (sim : Sim ev n w) (passes :
 
   -- ---- the thread's newest store so far, 0 if there is none
 
-  abbrev newest : ℕ
+  abbrev pub newest : ℕ
   newest = storeAt ev n j t (issued ev n t - 1)
 
   newest-early : newest < n
@@ -100,7 +101,7 @@ module _ (ev : ℕ → Event) (n : ℕ) (w : World) (sim : Sim ev n w) (passes :
 
   -- ---- the thread: the store is its newest, and stands at the first place that was free
 
-  newest-now : n ≡ storeAt ev (suc n) (stretch ev (suc n)) t (issued ev (suc n) t - 1)
+  pub newest-now : n ≡ storeAt ev (suc n) (stretch ev (suc n)) t (issued ev (suc n) t - 1)
   newest-now =
       rw (live-here ev (issue? ev) n no-crash (store .test), stretch-else ev n no-crash)
       (sym (store-at-here ev n j t (suc (issued ev n t) - 1) store refl refl (omega arith)))
@@ -144,7 +145,7 @@ module _ (ev : ℕ → Event) (n : ℕ) (w : World) (sim : Sim ev n w) (passes :
             rw (ne-eqb t u other, vc-other ev n u no-crash (λ same. other (sym same))) (seen-is u few-u)
 
     -- every store but the new one is an earlier event, whose row is as it was
-    rows-next : Rows ev (suc n) l′
+    pub rows-next : Rows ev (suc n) l′
     rows-next = record {
       room = rw (it .size) (sim .rows .room);
       stores = λ p early is-store. own-or-other p early is-store (same? p n);
@@ -212,7 +213,7 @@ module _ (ev : ℕ → Event) (n : ℕ) (w : World) (sim : Sim ev n w) (passes :
             (store-at-of ev n j t (issued ev n t - 1) p
             (record { store = is-store; early = early; in-j = in-j; by-t = by-t; at-i = omega arith }))
 
-    links-next : Links ev (suc n) l′
+    pub links-next : Links ev (suc n) l′
     links-next p below is-store = by-store (same? p n) (same? p newest)
       where
         by-store :
@@ -224,7 +225,7 @@ module _ (ev : ℕ → Event) (n : ℕ) (w : World) (sim : Sim ev n w) (passes :
 
   -- ---- the table of newest stores, where the store is noted for its location and thread
 
-  newest-next :
+  pub newest-next :
       (tables′ : List ℕ) → getD tables′ (newestCell x t) 0 ≡ n
       → ((i : ℕ) → 704 ≤ i → i < 2752 → newestCell x t ≢ i → getD tables′ i 0 ≡ getD tables i 0)
       → Newest ev (suc n) tables′
@@ -243,12 +244,38 @@ module _ (ev : ℕ → Event) (n : ℕ) (w : World) (sim : Sim ev n w) (passes :
       by-place (inl same-x) (inr other) = stays (λ _ same. other same)
       by-place (inr other) either = stays (λ same _. other same)
 
+  -- ---- the row as it is written, with tables in which the thread's state is as it was
+
+  abbrev row : ℕ
+  row = w .state .row
+
+  pub issue-counted : up (threadOf tables t .issued) ≡ issued ev (suc n) t
+  issue-counted =
+      counted-up ev n no-crash (issue? ev) (threadOf tables t .issued) (sim .limits) (store .test)
+      (sim .queues t few .issued-is)
+
+  begins : row + 16 ≡ 16 * n
+  begins = sim .numbers .row-is
+
+  n-small : n ≤ 2048
+  n-small = in-time ev n (sim .limits) passes
+
+  pub stored :
+      (tables₁ l₁ : List ℕ) → threadOf tables₁ t ≡ threadOf tables t → length l₁ ≡ length l
+      → Stored n newest t (suc (issued ev n t)) x j (λ u. ofThread tables₁ t u) l₁
+      (issuedWork tables₁ l₁ row t x (w .state .stretch))
+  unfolding issuedWork
+  stored tables₁ l₁ same-thread same-size =
+      let old = threadOf tables t in
+      let g-is = sim .queues t few .newest-is in
+      let c-is = issue-counted ∙ live-here ev (issue? ev) n no-crash (store .test) in
+      rw (same-thread, ← g-is, ← c-is, ← sim .numbers .stretch-is)
+      (stored-is row n begins n-small tables₁ t (up (old .issued)) x (w .state .stretch) (old .newest) l₁ few
+      (rw same-size (sim .rows .room)) (omega (arith, newest-early, g-is, n-small)))
+
   -- ---- the step of kind 2, which is no commit, no load and no skip
 
   module _ (kind-is : kind ev n ≡ 2) where
-    abbrev row : ℕ
-    row = w .state .row
-
     abbrev old : Thread
     old = threadOf tables t
 
@@ -258,10 +285,6 @@ module _ (ev : ℕ → Event) (n : ℕ) (w : World) (sim : Sim ev n w) (passes :
     no-load : load? ev n ≡ false
     no-load = rw kind-is refl
 
-    counted : up (old .issued) ≡ issued ev (suc n) t
-    counted =
-        counted-up ev n no-crash (issue? ev) (old .issued) (sim .limits) (store .test) (sim .queues t few .issued-is)
-
     queue-next : Queue ev (suc n) t (issuedT old n)
     unfolding issuedT
     queue-next =
@@ -269,7 +292,7 @@ module _ (ev : ℕ → Event) (n : ℕ) (w : World) (sim : Sim ev n w) (passes :
         let no-commit-here = spares ev n (commit? ev) no-commit t in
         let below = commits-below-issues ev n (sim .limits .accepted) n j t (omega arith) in
         record {
-          issued-is = counted;
+          issued-is = issue-counted;
           committed-is = committed-stays ev n no-crash t old queue no-commit-here;
           skip-is =
               skip-stays ev n no-crash t old queue (spares ev n (skipOn? ev) (rw kind-is refl) t)
@@ -279,23 +302,6 @@ module _ (ev : ℕ → Event) (n : ℕ) (w : World) (sim : Sim ev n w) (passes :
               (ap (λ (p : ℕ). firstOf p n) (queue .oldest-is));
           newest-is = newest-now;
         }
-
-    begins : row + 16 ≡ 16 * n
-    begins = sim .numbers .row-is
-
-    n-small : n ≤ 2048
-    n-small = in-time ev n (sim .limits) passes
-
-    stored :
-        Stored n newest t (suc (issued ev n t)) x j (λ u. ofThread tables t u) l
-        (issuedWork tables l row t x (w .state .stretch))
-    unfolding issuedWork
-    stored =
-        let g-is = sim .queues t few .newest-is in
-        let c-is = counted ∙ live-here ev (issue? ev) n no-crash (store .test) in
-        rw (← g-is, ← c-is, ← sim .numbers .stretch-is)
-        (stored-is row n begins n-small tables t (up (old .issued)) x (w .state .stretch) (old .newest) l few
-        (sim .rows .room) (omega (arith, newest-early, g-is, n-small)))
 
     pub issue-next : Sim ev (suc n) (issueW w t x)
     unfolding issueW issuedWork
@@ -327,6 +333,6 @@ module _ (ev : ℕ → Event) (n : ℕ) (w : World) (sim : Sim ev n w) (passes :
               (written-links row n begins n-small tables t _ x _ _ l few)
               (λ i low high. beyond i low (λ same. omega arith))
               (λ i low high. beyond i (omega arith) (λ same. omega (arith, few, small))) (sim .chains);
-          rows = rows-next (λ u. ofThread tables t u) (λ u. seen-next t u few) _ stored;
-          links = links-next (λ u. ofThread tables t u) (λ u. seen-next t u few) _ stored;
+          rows = rows-next (λ u. ofThread tables t u) (λ u. seen-next t u few) _ (stored tables l refl refl);
+          links = links-next (λ u. ofThread tables t u) (λ u. seen-next t u few) _ (stored tables l refl refl);
         }

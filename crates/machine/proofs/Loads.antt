@@ -2,8 +2,8 @@
 -- brings no clock, for by the load rule its source is none or of an earlier stretch, and is noted; any other load has a
 -- store of the stretch for its source, whose clock joins what its thread has seen. And the step of kind 4, which is a
 -- load and nothing else.
--- In order: the source; what threads have seen; the sources noted; the step.
-use mathlib.Core.Path.{_≡_, refl, sym, ap, _∙_}
+-- In order: the source; what threads have seen; the sources noted; the tables; the step.
+use mathlib.Core.Path.{_≡_, refl, sym, ap, _∙_, subst}
 use mathlib.Core.Bool.{true, false, _&&_}
 use mathlib.Core.List.{List}
 use mathlib.Core.Logic.{_⊎_, inl, inr, _≢_}
@@ -11,7 +11,7 @@ use Prim.Native.Nat.{ℕ, suc, _+_, _*_, _%_, _≤_, _<_, max}
 use native.Mathlib.Omega.{arith}
 use borrow.Author.Tests.{eq-eqb, ne-eqb}
 use lib.Dec.{eqb}
-use lib.ListN.{getD, set, length-set}
+use lib.ListN.{length, getD, set, length-set}
 use lib.Seq.{getD-set-same}
 use Rattle.record.specs.declared.events.Event.{Event}
 use Rattle.record.specs.Tests.{_gives_else_}
@@ -30,8 +30,9 @@ use Rattle.machine.specs.Tables.{threadCell, sourceCell}
 use Rattle.machine.specs.Threads.{ofThread}
 use Rattle.machine.specs.Twin.{World}
 use Rattle.machine.specs.Effects.{meetW, crossW, loadW}
-use Rattle.machine.specs.Sim.{PastAt, Queues, Seen, Sources, Sim}
+use Rattle.machine.specs.Sim.{PastAt, Seen, Sources, Sim}
 use Rattle.machine.proofs.Storing.{Same, Elsewhere, set-leaves}
+use Rattle.machine.proofs.RuleLaws.{load-is}
 use Rattle.machine.proofs.Keep.{limits-next, few-own, small-own, queues-keep, past-keep, sources-keep}
 use Rattle.machine.proofs.Quiet.{Still, still-next}
 use Rattle.machine.proofs.Searches.{→past, crossing-is}
@@ -150,70 +151,84 @@ module _ (ev : ℕ → Event) (n : ℕ) (w : World) (sim : Sim ev n w) (passes :
             rw (leaves (sourceCell y) (omega arith) (omega arith) (λ same. other (omega arith)))
             (λ some. past-keep ev n y _ (sim .sources y few-y some))
 
-  -- ---- the step of kind 4, which is no issue, no commit and no skip
+  -- ---- what a load leaves of the tables, and how it changes the others
 
-  module _ (kind-is : kind ev n ≡ 4) where
-    still : Still ev n
-    still = record { no-issue = rw kind-is refl; no-commit = rw kind-is refl; no-crash = no-crash }
+  pub record Loaded (tables′ : List ℕ) : Type 0 where
+    pub size : length tables′ ≡ 3008
+    pub threads-same : (u : ℕ) → u < 8 → Same (16 * u + 8) (16 * u + 13) tables tables′
+    pub seen-are : Seen ev (suc n) tables′
+    pub sources : Sources ev (suc n) tables′
+    pub heads-same : Same 128 384 tables tables′
+    pub rest-same : Same 640 3008 tables tables′
 
-    queues-stay :
-        (tables′ : List ℕ) → ((u : ℕ) → u < 8 → Same (16 * u + 8) (16 * u + 13) tables tables′)
-        → Queues ev (suc n) tables′
-    queues-stay tables′ same =
-        queues-keep ev n tables tables′ no-crash (still .no-issue) (still .no-commit) (rw kind-is refl)
-        (rw kind-is refl) same (sim .queues)
+  abbrev metTables : List ℕ
+  metTables = joined 8 (w .work) s (threadCell t 0) tables
 
-    meet-next : FromHere → Sim ev (suc n) (meetW w t s)
-    unfolding meetW
-    meet-next from =
-        still-next ev n w sim passes still met (joined-size (w .work) s (threadCell t 0) tables 8 ∙ sim .size)
-        (queues-stay met (λ u few-u i from-8 below. leaves i (λ low high. omega arith)))
-        (seen-met from met
+  abbrev notedTables : List ℕ
+  notedTables = set tables (sourceCell x) s
+
+  met : FromHere → Loaded metTables
+  met from = record {
+    size = joined-size (w .work) s (threadCell t 0) tables 8 ∙ sim .size;
+    threads-same = λ u few-u i from-8 below. leaves i (λ low high. omega arith);
+    seen-are =
+        seen-met from metTables
         (λ u few-u.
         let at : threadCell t u ≡ threadCell t 0 + u = omega arith in
         rw (at, joined-there (w .work) s (threadCell t 0) tables 8 u (omega (arith, few, sim .size)) few-u)
         (ap (max (getD tables (threadCell t 0 + u) 0)) (column-at (w .work) s u (omega arith))))
-        (λ v few-v other i low high. leaves i (λ low′ high′. other (omega arith))))
-        (sources-keep ev n tables met (λ i low high. leaves i (λ low′ high′. omega (arith, few))) (sim .sources))
-        (λ i low high. leaves i (λ low′ high′. omega (arith, few)))
-        (λ i low high. leaves i (λ low′ high′. omega (arith, few)))
-      where
-        met : List ℕ
-        met = joined 8 (w .work) s (threadCell t 0) tables
+        (λ v few-v other i low high. leaves i (λ low′ high′. other (omega arith)));
+    sources =
+        sources-keep ev n tables metTables (λ i low high. leaves i (λ low′ high′. omega (arith, few))) (sim .sources);
+    heads-same = λ i low high. leaves i (λ low′ high′. omega (arith, few));
+    rest-same = λ i low high. leaves i (λ low′ high′. omega (arith, few));
+  }
+    where
+      leaves : Elsewhere (16 * t) (16 * t + 8) tables metTables
+      leaves i outside =
+          joined-leaves (w .work) s (threadCell t 0) tables 8 i (λ low high. outside (omega arith) (omega arith))
 
-        leaves : Elsewhere (16 * t) (16 * t + 8) tables met
-        leaves i outside =
-            joined-leaves (w .work) s (threadCell t 0) tables 8 i (λ low high. outside (omega arith) (omega arith))
+  crossed : waiting ev n ≡ 0 → current ev n ≡ 0 → Loaded notedTables
+  crossed none-waits none-current = record {
+    size = length-set tables _ _ ∙ sim .size;
+    threads-same = λ u few-u i low high. leaves i (λ same. omega arith);
+    seen-are =
+        seen-crossed none-waits none-current notedTables (λ v few-v i low high. leaves i (λ same. omega arith));
+    sources =
+        sources-noted none-waits none-current notedTables
+        (getD-set-same tables (sourceCell x) s 0 (omega (arith, small, sim .size))) (λ i low high. leaves i);
+    heads-same = λ i low high. leaves i (λ same. omega arith);
+    rest-same = λ i low high. leaves i (λ same. omega (arith, small));
+  }
+    where
+      leaves : (i : ℕ) → sourceCell x ≢ i → getD notedTables i 0 ≡ getD tables i 0
+      leaves = set-leaves tables (sourceCell x) s
 
-    cross-next : waiting ev n ≡ 0 → current ev n ≡ 0 → Sim ev (suc n) (crossW w x s)
-    unfolding crossW
-    cross-next none-waits none-current =
-        still-next ev n w sim passes still noted (length-set tables _ _ ∙ sim .size)
-        (queues-stay noted (λ u few-u i low high. leaves i (λ same. omega arith)))
-        (seen-crossed none-waits none-current noted (λ v few-v i low high. leaves i (λ same. omega arith)))
-        (sources-noted none-waits none-current noted
-        (getD-set-same tables (sourceCell x) s 0 (omega (arith, small, sim .size))) (λ i low high. leaves i))
-        (λ i low high. leaves i (λ same. omega arith)) (λ i low high. leaves i (λ same. omega (arith, small)))
-      where
-        noted : List ℕ
-        noted = set tables (sourceCell x) s
+  pub loaded : Loaded (loadW w t x s .tables)
+  unfolding loadW meetW crossW
+  loaded = rw (crossing-is ev n w sim few small) (by-case (same? (waiting ev n) 0) (same? (current ev n) 0))
+    where
+      by-case :
+          (waiting ev n ≡ 0) ⊎ (waiting ev n ≢ 0) → (current ev n ≡ 0) ⊎ (current ev n ≢ 0)
+          → Loaded
+          (((eqb (waiting ev n) 0 && eqb (current ev n) 0) gives crossW w x s else meetW w t s) .tables)
+      by-case (inr waits) either-way = rw (ne-eqb (waiting ev n) 0 waits) (met (waiting-here waits))
+      by-case (inl none-waits) (inr commits) =
+          rw (eq-eqb (waiting ev n) 0 none-waits, ne-eqb (current ev n) 0 commits)
+          (met (current-here none-waits commits))
+      by-case (inl none-waits) (inl none-current) =
+          rw (eq-eqb (waiting ev n) 0 none-waits, eq-eqb (current ev n) 0 none-current)
+          (crossed none-waits none-current)
 
-        leaves : (i : ℕ) → sourceCell x ≢ i → getD noted i 0 ≡ getD tables i 0
-        leaves = set-leaves tables (sourceCell x) s
+  -- ---- the step of kind 4, which is no issue, no commit and no skip
 
-    pub load-next : Sim ev (suc n) (loadW w t x s)
-    unfolding loadW
-    load-next =
-        rw (crossing-is ev n w sim few small) (by-case (same? (waiting ev n) 0) (same? (current ev n) 0))
-      where
-        by-case :
-            (waiting ev n ≡ 0) ⊎ (waiting ev n ≢ 0) → (current ev n ≡ 0) ⊎ (current ev n ≢ 0)
-            → Sim ev (suc n)
-            ((eqb (waiting ev n) 0 && eqb (current ev n) 0) gives crossW w x s else meetW w t s)
-        by-case (inr waits) either-way = rw (ne-eqb (waiting ev n) 0 waits) (meet-next (waiting-here waits))
-        by-case (inl none-waits) (inr commits) =
-            rw (eq-eqb (waiting ev n) 0 none-waits, ne-eqb (current ev n) 0 commits)
-            (meet-next (current-here none-waits commits))
-        by-case (inl none-waits) (inl none-current) =
-            rw (eq-eqb (waiting ev n) 0 none-waits, eq-eqb (current ev n) 0 none-current)
-            (cross-next none-waits none-current)
+  pub load-next : kind ev n ≡ 4 → Sim ev (suc n) (loadW w t x s)
+  load-next kind-is =
+      subst (Sim ev (suc n)) (sym (load-is w t x s))
+      (still-next ev n w sim passes still _ (loaded .size)
+      (queues-keep ev n tables _ no-crash (still .no-issue) (still .no-commit) (rw kind-is refl) (rw kind-is refl)
+      (loaded .threads-same) (sim .queues))
+      (loaded .seen-are) (loaded .sources) (loaded .heads-same) (loaded .rest-same))
+    where
+      still : Still ev n
+      still = record { no-issue = rw kind-is refl; no-commit = rw kind-is refl; no-crash = no-crash }

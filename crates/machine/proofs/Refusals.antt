@@ -8,7 +8,7 @@ use borrow.Author.Tests.{ne-eqb, lt-ltb, le-ltb, ltb-true, le-leb, leb-true, leb
 use lib.Dec.{eqb, ltb, leb}
 use Rattle.record.specs.declared.events.Event.{Event}
 use Rattle.record.specs.declared.events.Event.the-variants.{Begin, Issue, Commit, Load, Clflush, Clwb}
-use Rattle.record.specs.declared.events.Event.the-variants.{Sfence, Mfence, Crash, SkipOn, SkipOff}
+use Rattle.record.specs.declared.events.Event.the-variants.{Sfence, Mfence, Crash, SkipOn, SkipOff, Locked}
 use Rattle.record.specs.Fields.{fieldsOf}
 use Rattle.record.specs.Table.{rowOf}
 use Rattle.record.specs.Tests.{_gives_else_}
@@ -20,11 +20,15 @@ use Rattle.machine.specs.Arms.{byKind}
 use Rattle.machine.specs.Twin.{World, threadAt, fitsW}
 use Rattle.machine.specs.Turning.{empty, onThread, onPlace, refusalK, refusalW, beginRule, beginK, beginRefusal}
 use Rattle.machine.specs.Sim.{issued, done, Sim}
-use Rattle.machine.proofs.Searches.{fits-is}
+use Rattle.machine.proofs.Searches.{none-oldest, fits-is}
 
 or-off : (b : Bool) → (b || false) ≡ b
 or-off true = refl
 or-off false = refl
+
+or-on : (b : Bool) → (b || true) ≡ true
+or-on true = refl
+or-on false = refl
 
 -- ---- what the definitions say of each kind
 
@@ -58,13 +62,38 @@ module _ (ev : ℕ → Event) (n : ℕ) (begun : 0 < n) where
       → refusal ev n ≡ threadRule t (cond (not (not (eqb (issued ev n t) (done ev n t)))) 10 0)
   unfolding rules answer rowOf
   refusal-commit t is =
-      rw (is, thread-of (Commit t) is, not-first, lt-ltb 0 n begun, or-off) refl
+      rw (
+        is,
+        thread-of (Commit t) is,
+        not-first,
+        lt-ltb 0 n begun,
+        or-off (ltb 2048 n),
+        or-off (not (eqb (issued ev n t) (done ev n t))),
+      )
+      refl
 
   refusal-load :
       (t x s : ℕ) → ev n ≡ Load t x s → refusal ev n ≡ placeRule t x (cond (not (sourceFits ev n)) 9 0)
   unfolding rules answer rowOf
   refusal-load t x s is =
       rw (is, thread-of (Load t x s) is, location-of (Load t x s) is, not-first, lt-ltb 0 n begun, or-off) refl
+
+  refusal-locked :
+      (t x s : ℕ) → ev n ≡ Locked t x s
+      → refusal ev n
+      ≡ placeRule t x (cond (not (eqb (issued ev n t) (done ev n t))) 11 (cond (not (sourceFits ev n)) 9 0))
+  unfolding rules answer rowOf
+  refusal-locked t x s is =
+      rw (
+        is,
+        thread-of (Locked t x s) is,
+        location-of (Locked t x s) is,
+        not-first,
+        lt-ltb 0 n begun,
+        or-off (ltb 2048 n),
+        or-on (not (eqb (issued ev n t) (done ev n t))),
+      )
+      refl
 
   refusal-clflush : (t x : ℕ) → ev n ≡ Clflush t x → refusal ev n ≡ placeRule t x 0
   unfolding rules answer rowOf
@@ -182,14 +211,24 @@ module _ (ev : ℕ → Event) (n : ℕ) (w : World) (sim : Sim ev n w) where
   skip-is t a r few = rw (sim .queues t few .skip-is) (chosen (skipping ev n t) a r)
 
   load-rule :
-      (t x s : ℕ) → ev n ≡ Load t x s → t < 8 → x < 256
-      → _≡_ {A = ℕ} (fitsW w t x s gives 0 else 9) (cond (not (sourceFits ev n)) 9 0)
-  load-rule t x s is few-t few-x =
-      let t-is : t ≡ thread ev n = sym (ap (λ (e : Event). fieldsOf e .thread) is) in
-      let x-is : x ≡ location ev n = sym (ap (λ (e : Event). fieldsOf e .location) is) in
-      let s-is : s ≡ source ev n = sym (ap (λ (e : Event). fieldsOf e .source) is) in
+      (e : Event) → ev n ≡ e → fieldsOf e .thread < 8 → fieldsOf e .location < 256
+      → _≡_ {A = ℕ} (fitsW w (fieldsOf e .thread) (fieldsOf e .location) (fieldsOf e .source) gives 0 else 9)
+      (cond (not (sourceFits ev n)) 9 0)
+  load-rule e is few-t few-x =
+      let t-is : fieldsOf e .thread ≡ thread ev n = sym (ap (λ (f : Event). fieldsOf f .thread) is) in
+      let x-is : fieldsOf e .location ≡ location ev n = sym (ap (λ (f : Event). fieldsOf f .location) is) in
+      let s-is : fieldsOf e .source ≡ source ev n = sym (ap (λ (f : Event). fieldsOf f .source) is) in
       rw (t-is, x-is, s-is, fits-is ev n w sim (rw (← t-is) few-t) (rw (← x-is) few-x))
       (chosen (sourceFits ev n) 0 9 ∙ swapped (sourceFits ev n) 0 9)
+
+  -- no store waits exactly if the queue is empty
+  oldest-is :
+      (t a r : ℕ) → t < 8
+      → (eqb (threadAt w t .oldest) 0 gives a else r) ≡ cond (not (eqb (issued ev n t) (done ev n t))) r a
+  oldest-is t a r few =
+      let queue = sim .queues t few in
+      rw (queue .oldest-is, none-oldest ev n w sim t)
+      (chosen (eqb (issued ev n t) (done ev n t)) a r ∙ swapped (eqb (issued ev n t) (done ev n t)) a r)
 
   crash-rule :
       (late eighth : Bool) → _≡_ {A = ℕ} (late gives 13 else eighth gives 13 else 0) (cond (late || eighth) 13 0)
@@ -204,7 +243,7 @@ module _ (ev : ℕ → Event) (n : ℕ) (w : World) (sim : Sim ev n w) where
   refusal-is (Commit t) is =
       on-thread t _ _ (λ few. empty-is t 10 0 few ∙ twice (eqb (issued ev n t) (done ev n t)) 10 0)
       ∙ sym (refusal-commit ev n begun t is)
-  refusal-is (Load t x s) is = on-place t x _ _ (load-rule t x s is) ∙ sym (refusal-load ev n begun t x s is)
+  refusal-is (Load t x s) is = on-place t x _ _ (load-rule (Load t x s) is) ∙ sym (refusal-load ev n begun t x s is)
   refusal-is (Clflush t x) is = on-place t x 0 0 (λ _ _. refl) ∙ sym (refusal-clflush ev n begun t x is)
   refusal-is (Clwb t x) is = on-place t x 0 0 (λ _ _. refl) ∙ sym (refusal-clwb ev n begun t x is)
   refusal-is (Sfence t) is = on-thread t 0 0 (λ _. refl) ∙ sym (refusal-sfence ev n begun t is)
@@ -221,6 +260,12 @@ module _ (ev : ℕ → Event) (n : ℕ) (w : World) (sim : Sim ev n w) where
   refusal-is (SkipOff t) is =
       on-thread t _ _ (λ few. skip-is t 0 12 few ∙ swapped (skipping ev n t) 0 12)
       ∙ sym (refusal-off ev n begun t is)
+  refusal-is (Locked t x s) is =
+      on-place t x _ _
+      (λ few-t few-x.
+      ap (λ (k : ℕ). eqb (threadAt w t .oldest) 0 gives k else 11) (load-rule (Locked t x s) is few-t few-x)
+      ∙ oldest-is t _ 11 few-t)
+      ∙ sym (refusal-locked ev n begun t x s is)
 
   -- THE MACHINE TURNS AWAY WHAT THE DEFINITIONS DO
   pub refusals : refusalW w (ev n) ≡ refusal ev n
@@ -263,6 +308,7 @@ module _ (ev : ℕ → Event) where
   first-is Crash is = rw is
   first-is (SkipOn t) is = rw is
   first-is (SkipOff t) is = rw is
+  first-is (Locked t x s) is = rw is
 
   -- and so of the first event
   pub begin-refusals : beginRefusal (ev 0) ≡ refusal ev 0

@@ -9,7 +9,7 @@ use Prim.Native.Nat.{ℕ, _+_, _*_, _%_, _≤_, _<_}
 use native.Mathlib.Omega.{arith}
 use borrow.Author.Tests.{ne-eqb, lt-ltb, le-leb}
 use lib.Dec.{eqb, leb}
-use lib.ListN.{length, getD, length-set}
+use lib.ListN.{length, getD, set, length-set}
 use Rattle.area.specs.Cells.{rowStart, getRow, putRow, eventAt, noStore}
 use Rattle.area.proofs.ReadBack.{start-is, rows-apart, length-put, put-same, put-row, put-column}
 use Rattle.area.proofs.ReadBack.{set-here, set-column, set-elsewhere}
@@ -45,7 +45,44 @@ pub record Stored (n g t c x j : ℕ) (seen-by : ℕ → ℕ) (l l′ : List ℕ
   pub other-links : (p : ℕ) → 1 ≤ p → p < n → g ≢ p → getRow l′ p 11 ≡ getRow l p 11
   pub earlier : (p k : ℕ) → 1 ≤ p → p < n → k < 11 → getRow l′ p k ≡ getRow l p k
 
+-- it is, also seen from where it was no store yet
+pub stored-behind :
+    {n g t c x j : ℕ} {seen-by : ℕ → ℕ} (l l₁ l′ : List ℕ) → NoStore n l l₁ → Stored n g t c x j seen-by l₁ l′
+    → Stored n g t c x j seen-by l l′
+stored-behind l l₁ l′ none it = record {
+  size = it .size ∙ none .size;
+  clock-is = it .clock-is;
+  thread-is = it .thread-is;
+  location-is = it .location-is;
+  stretch-is = it .stretch-is;
+  no-next = it .no-next;
+  linked = it .linked;
+  other-links = λ p from-one early differs.
+      it .other-links p from-one early differs ∙ none .earlier p 11 from-one early (omega arith);
+  earlier = λ p k from-one early low.
+      it .earlier p k from-one early low ∙ none .earlier p k from-one early (omega arith);
+}
+
 module _ (row n : ℕ) (begins : row + 16 ≡ 16 * n) (to-last : n ≤ 2048) where
+  -- a link in its own row adds nothing to that
+  pub link-stored :
+      {g t c x j : ℕ} {seen-by : ℕ → ℕ} (v : ℕ) (l l′ : List ℕ) → Stored n g t c x j seen-by l l′
+      → Stored n g t c x j seen-by l (set l′ (row + 14) v)
+  link-stored v l l′ it = record {
+    size = length-set l′ (row + 14) v ∙ it .size;
+    clock-is = λ u low. column n u (omega arith) ∙ it .clock-is u low;
+    thread-is = column n 8 (omega arith) ∙ it .thread-is;
+    location-is = column n 9 (omega arith) ∙ it .location-is;
+    stretch-is = column n 10 (omega arith) ∙ it .stretch-is;
+    no-next = column n 11 (omega arith) ∙ it .no-next;
+    linked = λ some early. column _ 11 (omega arith) ∙ it .linked some early;
+    other-links = λ p from-one early differs. column p 11 (omega arith) ∙ it .other-links p from-one early differs;
+    earlier = λ p k from-one early low. column p k (omega arith) ∙ it .earlier p k from-one early low;
+  }
+    where
+      column : (p k : ℕ) → k < 14 → getRow (set l′ (row + 14) v) p k ≡ getRow l′ p k
+      column p k low = set-column l′ row n begins to-last 14 v p k (omega arith) (omega arith) (λ same. omega arith)
+
   -- ---- an event that is no store
 
   pub no-store-is : (l : List ℕ) → 32768 ≤ length l → NoStore n l (noStore l row)

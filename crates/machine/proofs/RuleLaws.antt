@@ -1,13 +1,13 @@
 -- What a step answers, by the rules in their order: a number that is not 0 turns the event away and all is as it was,
 -- else the event passes. And the load rule's three cases.
-use mathlib.Core.Path.{_≡_, refl, sym, _∙_}
+use mathlib.Core.Path.{_≡_, refl, sym, ap, _∙_}
 use mathlib.Core.Bool.{Bool, true, false, not}
 use mathlib.Core.Logic.{_≢_}
 use mathlib.Core.List.{List}
 use Prim.Native.Nat.{ℕ, _+_, _≤_, _<_}
 use native.Mathlib.Omega.{arith}
-use borrow.Author.Tests.{ne-eqb, not-true, not-false}
-use lib.Dec.{leb}
+use borrow.Author.Tests.{eqb-true, ne-eqb, not-true, not-false}
+use lib.Dec.{eqb, leb}
 use lib.ListN.{set}
 use lib.Seq.{getD-set-other}
 use Rattle.record.specs.Tests.{_gives_else_}
@@ -15,11 +15,12 @@ use Rattle.machine.specs.declared.state.Machine.{Machine}
 use Rattle.machine.specs.declared.state.Step.{Step}
 use Rattle.machine.specs.Tables.{threadCell, sourceCell}
 use Rattle.machine.specs.Threads.{threadOf}
-use Rattle.machine.specs.Twin.{World, stateOf, world, ticked, admits, admitted}
-use Rattle.machine.specs.Twin.{waitingW, lastW, hereW, fitsW}
-use Rattle.machine.specs.Turning.{Fits, placeFits, placeRefusal}
-use Rattle.machine.specs.Effects.{loadW}
-use Rattle.machine.specs.Outcomes.{outcome, byRule, onlyO, acrossO, loadO}
+use Rattle.machine.specs.Twin.{State, World, stateOf, world, threadAt, ticked, admits, admitted}
+use Rattle.machine.specs.Twin.{waitingIn, waitingW, lastW, hereW, crossingW, fitsW}
+use Rattle.machine.specs.Turning.{Fits, placeFits, placeRefusal, onPlace, loadRule, lockedRule, countedW}
+use Rattle.machine.specs.Effects.{passWith, meetW, crossW, loadW, exchangedTables, exchangedWork, lockedW}
+use Rattle.machine.specs.Outcomes.{Outcome, stateAfter, outcome, turned, byRule, onlyO, acrossO, memoryO}
+use Rattle.machine.specs.Outcomes.{loadO, lockedO}
 
 -- ---- the work area
 
@@ -101,6 +102,100 @@ module _
   pub load-crosses : p ≡ 0 → hereW w x ≡ false → acrossO w t x s ≡ loadO w t x s
   unfolding fitsW loadW
   load-crosses none not-here = rw (placed, ← p-is, none, not-here) refl
+
+-- ---- a locked operation, behind the tests of the place
+
+-- an outcome by a rule has the rule's number
+pub rule-told : (k : ℕ) (w after : World) (counted : Bool) → byRule k w counted after .refusal ≡ k
+unfolding byRule
+rule-told k w after counted = by-test (eqb k 0) refl
+  where
+    by-test :
+        (none : Bool) → eqb k 0 ≡ none
+        → (none gives record { refusal = 0; counted = counted; after = after } else turned k w) .refusal ≡ k
+    by-test true is = sym (eqb-true k 0 is)
+    by-test false is = refl
+
+module _ (w : World) (t x s : ℕ) where
+  pub memory-here : hereW w x ≡ true → onlyO w t s (lastW w x) ≡ memoryO w t x s
+  memory-here here = rw here refl
+
+  pub memory-crosses : hereW w x ≡ false → acrossO w t x s ≡ memoryO w t x s
+  memory-crosses not-here = rw not-here refl
+
+  module _
+      (placed : placeFits (w .state .threads) (w .state .locations) (w .state .row) t x ≡ true)
+      (none : threadAt w t .oldest ≡ 0) where
+    -- where no store waits, the load is the load rule's
+    by-load-rule : memoryO w t x s ≡ byRule (loadRule w t x s) w (countedW w t x) (loadW w t x s)
+    unfolding waitingIn fitsW loadW
+    by-load-rule = by-here (hereW w x) refl
+      where
+        by-here :
+            (here : Bool) → hereW w x ≡ here
+            → memoryO w t x s ≡ byRule (loadRule w t x s) w (countedW w t x) (loadW w t x s)
+        by-here true is = rw (none, is) refl
+        by-here false is = rw (none, is) refl
+
+    its-rule : onPlace (w .state) t x (lockedRule w t x s) ≡ loadRule w t x s
+    its-rule = rw (placed, none) refl
+
+    module _ (o : Outcome) (o-is : o ≡ memoryO w t x s) where
+      number-is : loadRule w t x s ≡ o .refusal
+      number-is =
+          sym
+          (ap (λ (p : Outcome). p .refusal) (o-is ∙ by-load-rule)
+          ∙ rule-told (loadRule w t x s) w (loadW w t x s) (countedW w t x))
+
+      -- the load rule turns it away
+      pub locked-refused : o .refusal ≢ 0 → o ≡ lockedO w t x s
+      unfolding byRule
+      locked-refused some =
+          let rule-some = ne-eqb (loadRule w t x s) 0 (λ is. some (sym number-is ∙ is)) in
+          o-is ∙ (by-load-rule ∙ rw (its-rule, rule-some) refl)
+
+      loaded : o .refusal ≡ 0 → o ≡ record { refusal = 0; counted = countedW w t x; after = loadW w t x s }
+      unfolding byRule
+      loaded passes-it = o-is ∙ (by-load-rule ∙ rw (number-is ∙ passes-it) refl)
+
+-- a load changes the tables, and its own row says that it is no store
+pub load-is : (w : World) (t x s : ℕ) → loadW w t x s ≡ passWith w (loadW w t x s .tables)
+unfolding loadW crossW meetW
+load-is w t x s = by-test (crossingW w t x)
+  where
+    by-test :
+        (crosses : Bool)
+        → (crosses gives crossW w x s else meetW w t s)
+        ≡ passWith w ((crosses gives crossW w x s else meetW w t s) .tables)
+    by-test true = refl
+    by-test false = refl
+
+-- the load passes, and the store follows
+pub locked-passes :
+    (m : Machine) (row : ℕ) (tables l : List ℕ) (t x s : ℕ)
+    → placeFits (m .threads) (m .locations) row t x ≡ true
+    → threadOf tables t .oldest ≡ 0
+    → (r : Step) (tables₁ l₁ : List ℕ)
+    → outcome m row r tables₁ l₁ ≡ memoryO (world (stateOf m row) tables l) t x s → r .refusal ≡ 0
+    → (tables₂ l₂ : List ℕ) → tables₂ ≡ exchangedTables tables₁ row t x (m .stretch)
+    → l₂ ≡ exchangedWork tables₁ l₁ row t x (m .stretch)
+    → outcome m row r tables₂ l₂ ≡ lockedO (world (stateOf m row) tables l) t x s
+unfolding byRule lockedW ticked
+locked-passes m row tables l t x s placed none r tables₁ l₁ is passes-it tables₂ l₂ tables-are l-is =
+    let w = world (stateOf m row) tables l in
+    let after = loaded w t x s placed none (outcome m row r tables₁ l₁) is passes-it in
+    let counted-is : r .counted ≡ countedW w t x = ap (λ (o : Outcome). o .counted) after in
+    let world-is : world (stateAfter m row r) tables₁ l₁ ≡ loadW w t x s = ap (λ (o : Outcome). o .after) after in
+    let tables-loaded : tables₁ ≡ loadW w t x s .tables = ap (λ (v : World). v .tables) world-is in
+    let l-loaded : l₁ ≡ loadW w t x s .work = ap (λ (v : World). v .work) world-is in
+    let state-is : stateAfter m row r ≡ loadW w t x s .state = ap (λ (v : World). v .state) world-is in
+    let rule-is : onPlace (stateOf m row) t x (lockedRule w t x s) ≡ 0 =
+    its-rule w t x s placed none ∙ (number-is w t x s placed none (outcome m row r tables₁ l₁) is ∙ passes-it)
+    in
+    let stretch-is : r .stretch ≡ m .stretch =
+    ap (λ (st : State). st .stretch) (state-is ∙ ap (λ (v : World). v .state) (load-is w t x s))
+    in
+    rw (rule-is, passes-it, counted-is, tables-are, l-is, ← tables-loaded, ← l-loaded, stretch-is) refl
 
 -- a crossing load's source is noted if it may be
 module _ (j row : ℕ) (tables l : List ℕ) (x s : ℕ) where

@@ -15,6 +15,7 @@ use Rattle.record.specs.declared.events.Event.{Event}
 use Rattle.record.specs.Tests.{_gives_else_}
 use Rattle.model.specs.Trace.{thread, location, source, issue?, commit?, Issue, stretch, issues, commits, place}
 use Rattle.model.specs.Machine.{commitsBefore, waiting, current, past, sourceFits}
+use Rattle.model.specs.Rules.{Accepted}
 use Rattle.model.specs.Choice.{finished}
 use Rattle.model.specs.Stores.{headOf, storeAt, newestAt, landed}
 use Rattle.model.proofs.Searching.{test, same?, less?, both}
@@ -22,6 +23,7 @@ use Rattle.model.proofs.Counting.{stretch-mono, earlier-stretch, count-mono, co
 use Rattle.model.proofs.Roles.{issue-or-not}
 use Rattle.model.proofs.ClockSteps.{vc-own}
 use Rattle.model.proofs.Acceptance.{store-not-0, FromPast, past-is}
+use Rattle.model.proofs.Committed.{commits-below-issues}
 use Rattle.model.proofs.Ranges.{issue-has-thread, thread-bound}
 use Rattle.model.proofs.StorePlaces.{fails, stretch-some, Store, store-at-is, store-at-none}
 use Rattle.model.proofs.LoadRule.{Made, newest-made, Waits, waiting-newest, waiting-none}
@@ -32,15 +34,36 @@ use Rattle.area.proofs.Chains.{linked-head}
 use Rattle.machine.specs.Tables.{sourceCell, commitsCell}
 use Rattle.machine.specs.Twin.{World, waitingIn, pastIn, acrossIn, admits, waitingW, lastW, hereW, crossingW}
 use Rattle.machine.specs.Twin.{admitsW, fitsW}
-use Rattle.machine.specs.Sim.{issued, Sim}
+use Rattle.machine.specs.Sim.{issued, done, Sim}
 
 -- `suc a ≤ b` and `a < b` are the same test
-pub leb-suc : (a b : ℕ) → leb (suc a) b ≡ ltb a b
+leb-suc : (a b : ℕ) → leb (suc a) b ≡ ltb a b
 leb-suc a b = by-order (less? a b)
   where
     by-order : (a < b) ⊎ (b ≤ a) → leb (suc a) b ≡ ltb a b
     by-order (inl less) = le-leb (suc a) b less ∙ sym (lt-ltb a b less)
     by-order (inr not-less) = lt-leb (suc a) b (omega arith) ∙ sym (le-ltb a b not-less)
+
+-- a queue has no oldest store exactly if it is empty
+pub none-oldest :
+    (ev : ℕ → Event) (n : ℕ) (w : World) → Sim ev n w → (t : ℕ)
+    → eqb (storeAt ev n (stretch ev n) t (done ev n t)) 0 ≡ eqb (issued ev n t) (done ev n t)
+none-oldest ev n w sim t = by-order (less? (done ev n t) (issued ev n t))
+  where
+    accepted : Accepted ev n
+    accepted = sim .limits .accepted
+
+    by-order :
+        (done ev n t < issued ev n t) ⊎ (issued ev n t ≤ done ev n t)
+        → eqb (storeAt ev n (stretch ev n) t (done ev n t)) 0 ≡ eqb (issued ev n t) (done ev n t)
+    by-order (inl waits) =
+        let is-store = store-at-is ev n (stretch ev n) t (done ev n t) waits .store in
+        ne-eqb _ 0 (store-not-0 ev n accepted is-store)
+        ∙ sym (ne-eqb (issued ev n t) (done ev n t) (λ same. omega arith))
+    by-order (inr none) =
+        let below = commits-below-issues ev n accepted n (stretch ev n) t (omega arith) in
+        eq-eqb _ 0 (store-at-none ev n (stretch ev n) t (done ev n t) none)
+        ∙ sym (eq-eqb (issued ev n t) (done ev n t) (omega arith))
 
 -- what a source from the past has
 pub →past : (ev : ℕ → Event) (n s : ℕ) → FromPast ev n s → past ev n s ≡ true

@@ -7,7 +7,7 @@ use Prim.Native.Nat.{ℕ, suc}
 use native.Mathlib.Omega.{arith}
 use Rattle.record.specs.declared.events.Event.{Event}
 use Rattle.record.specs.declared.events.Event.the-variants.{Begin, Issue, Commit, Load, Clflush, Clwb}
-use Rattle.record.specs.declared.events.Event.the-variants.{Sfence, Mfence, Crash, SkipOn, SkipOff}
+use Rattle.record.specs.declared.events.Event.the-variants.{Sfence, Mfence, Crash, SkipOn, SkipOff, Locked}
 use Rattle.record.specs.Events.{kindOf}
 use Rattle.record.specs.Fields.{fieldsOf}
 use Rattle.record.specs.Table.{rowOf}
@@ -31,6 +31,7 @@ use Rattle.machine.proofs.Crashes.{crash-next}
 use Rattle.machine.proofs.Loads.{load-next}
 use Rattle.machine.proofs.Commits.{commit-next}
 use Rattle.machine.proofs.Issues.{issue-next}
+use Rattle.machine.proofs.Locked.{locked-next}
 
 module _ (ev : ℕ → Event) (n : ℕ) (w : World) (sim : Sim ev n w) (passes : refusal ev n ≡ 0) where
   next-of-issue : kind ev n ≡ 2 → Sim ev (suc n) (stepK w 2 (fieldsOf (ev n)))
@@ -64,6 +65,10 @@ module _ (ev : ℕ → Event) (n : ℕ) (w : World) (sim : Sim ev n w) (passes :
       (record { no-issue = rw kind-is refl; no-commit = rw kind-is refl; no-crash = rw kind-is refl })
       (rw kind-is refl) (few-own ev n (sim .limits) passes (rw kind-is refl)) (skipping-off ev n (rw kind-is refl))
 
+  next-of-locked : kind ev n ≡ 12 → Sim ev (suc n) (stepK w 12 (fieldsOf (ev n)))
+  unfolding stepK byKind
+  next-of-locked = locked-next ev n w sim passes
+
   next-by-kind : (e : Event) → ev n ≡ e → Sim ev (suc n) (stepK w (kindOf e) (fieldsOf (ev n)))
   unfolding stepK byKind
   next-by-kind (Begin v a b) is =
@@ -86,6 +91,7 @@ module _ (ev : ℕ → Event) (n : ℕ) (w : World) (sim : Sim ev n w) (passes :
   next-by-kind Crash is = next-of-crash (ap kindOf is)
   next-by-kind (SkipOn t) is = next-of-on (ap kindOf is)
   next-by-kind (SkipOff t) is = next-of-off (ap kindOf is)
+  next-by-kind (Locked t x s) is = next-of-locked (ap kindOf is)
 
   -- AN EVENT THAT PASSES LEADS TO THE NEXT STATE
   pub step-next : Sim ev (suc n) (stepW w (ev n))

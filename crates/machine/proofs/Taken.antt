@@ -1,32 +1,17 @@
 -- What the outcome of a step says of an event: the rule that turns it away, or 0, whether it counts, and its effect.
 -- All of them go by the kind, and so does the outcome: of each kind it is the outcome by that rule.
 use mathlib.Core.Path.{_≡_, refl, sym, ap, _∙_}
-use mathlib.Core.Bool.{Bool, true, false}
-use Prim.Native.Nat.{ℕ}
-use borrow.Author.Tests.{eqb-true}
-use lib.Dec.{eqb}
 use Rattle.record.specs.declared.events.Event.{Event}
 use Rattle.record.specs.declared.events.Event.the-variants.{Begin, Issue, Commit, Load, Clflush, Clwb}
-use Rattle.record.specs.declared.events.Event.the-variants.{Sfence, Mfence, Crash, SkipOn, SkipOff}
+use Rattle.record.specs.declared.events.Event.the-variants.{Sfence, Mfence, Crash, SkipOn, SkipOff, Locked}
 use Rattle.record.specs.Events.{kindOf}
 use Rattle.record.specs.Fields.{fieldsOf}
-use Rattle.record.specs.Tests.{_gives_else_}
 use Rattle.machine.specs.Arms.{byKind}
 use Rattle.machine.specs.Twin.{World}
 use Rattle.machine.specs.Turning.{refusalK, refusalW, countsK, countsW}
 use Rattle.machine.specs.Effects.{stepK, stepW}
-use Rattle.machine.specs.Outcomes.{Outcome, turned, byRule, stepO}
-
--- an outcome by a rule has the rule's number
-rule-told : (k : ℕ) (w after : World) (counted : Bool) → byRule k w counted after .refusal ≡ k
-unfolding byRule
-rule-told k w after counted = by-test (eqb k 0) refl
-  where
-    by-test :
-        (none : Bool) → eqb k 0 ≡ none
-        → (none gives record { refusal = 0; counted = counted; after = after } else turned k w) .refusal ≡ k
-    by-test true is = sym (eqb-true k 0 is)
-    by-test false is = refl
+use Rattle.machine.specs.Outcomes.{Outcome, byRule, stepO}
+use Rattle.machine.proofs.RuleLaws.{rule-told}
 
 outcome-is :
     (w : World) (e : Event)
@@ -43,6 +28,7 @@ outcome-is w (Mfence t) = refl
 outcome-is w Crash = refl
 outcome-is w (SkipOn t) = refl
 outcome-is w (SkipOff t) = refl
+outcome-is w (Locked t x s) = refl
 
 module _ (w : World) (e : Event) (o : Outcome) (is : o ≡ stepO w (kindOf e) (fieldsOf e)) where
   by-its-rule : o ≡ byRule (refusalW w e) w (countsW w e) (stepW w e)

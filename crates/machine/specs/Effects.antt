@@ -51,6 +51,10 @@ issueW w t x =
     world (ticked st) (issuedTables (w .tables) (st .row) t x)
     (issuedWork (w .tables) (w .work) (st .row) t x (st .stretch))
 
+-- store p heads the chain of location x, by a commit in stretch j
+abbrev pub headed : List ℕ → ℕ → ℕ → ℕ → List ℕ
+headed tables p x j = set (set tables (lastCell x) p) (stretchCell x) j
+
 -- the location of the oldest store of thread t
 abbrev pub oldestPlace : List ℕ → List ℕ → ℕ → ℕ
 oldestPlace tables l t = getRow l (threadOf tables t .oldest) 9 % 256
@@ -60,8 +64,7 @@ unfoldable pub committedTables : List ℕ → List ℕ → ℕ → ℕ → List 
 committedTables tables l t j =
     let old = threadOf tables t in
     let x = oldestPlace tables l t in
-    putCommitted (set (set tables (lastCell x) (old .oldest)) (stretchCell x) j) t
-    (committedT old (getRow l (old .oldest) 11))
+    putCommitted (headed tables (old .oldest) x j) t (committedT old (getRow l (old .oldest) 11))
 
 unfoldable pub committedWork : List ℕ → List ℕ → ℕ → ℕ → List ℕ
 committedWork tables l row t =
@@ -92,6 +95,24 @@ crossW w x s = passWith w (set (w .tables) (sourceCell x) s)
 -- a load by thread t at location x from s: a crossing load brings no clock
 unfoldable pub loadW : World → ℕ → ℕ → ℕ → World
 loadW w t x s = crossingW w t x gives crossW w x s else meetW w t s
+
+-- after an issue of thread t at location x in stretch j, and the commit of that store alone
+unfoldable pub exchangedTables : List ℕ → ℕ → ℕ → ℕ → ℕ → List ℕ
+exchangedTables tables row t x j =
+    let issued = issuedTables tables row t x in
+    putCommitted (headed issued (eventAt row) x j) t (committedT (threadOf issued t) 0)
+
+unfoldable pub exchangedWork : List ℕ → List ℕ → ℕ → ℕ → ℕ → ℕ → List ℕ
+exchangedWork tables l row t x j =
+    set (issuedWork tables l row t x j) (row + 14) (getD (issuedTables tables row t x) (lastCell x) 0)
+
+-- a locked operation by thread t at location x from s: its load, then its issue and its commit
+unfoldable pub lockedW : World → ℕ → ℕ → ℕ → World
+lockedW w t x s =
+    let st = w .state in
+    let loaded = loadW w t x s in
+    world (ticked st) (exchangedTables (loaded .tables) (st .row) t x (st .stretch))
+    (exchangedWork (loaded .tables) (loaded .work) (st .row) t x (st .stretch))
 
 -- stretch j is finished: the commits of thread t are noted, and the thread starts afresh
 unfoldable pub finishedThread : List ℕ → ℕ → ℕ → List ℕ
@@ -126,6 +147,7 @@ stepK w k f =
     (passW w)
     (crashW w)
     (skipW w t (eqb k 10))
+    (lockedW w t (f .location) (f .source))
     w
 
 -- the effect of an event that passes

@@ -9,10 +9,10 @@ use Rattle.record.specs.Tests.{_gives_else_}
 use Rattle.machine.specs.declared.state.Step.{Step}
 use Rattle.machine.specs.Arms.{byKind}
 use Rattle.machine.specs.declared.state.Machine.{Machine}
-use Rattle.machine.specs.Twin.{State, World, world, threadAt, admitsW}
-use Rattle.machine.specs.Turning.{commitRule, loadRule, fenceRule, crashRule, skipRule}
+use Rattle.machine.specs.Twin.{State, World, world, threadAt, lastW, hereW, admitsW}
+use Rattle.machine.specs.Turning.{commitRule, loadRule, lockedRule, fenceRule, crashRule, skipRule}
 use Rattle.machine.specs.Turning.{onThread, onPlace, countedW}
-use Rattle.machine.specs.Effects.{issueW, commitW, passW, meetW, crossW, loadW, crashW, skipW}
+use Rattle.machine.specs.Effects.{issueW, commitW, passW, meetW, crossW, loadW, lockedW, crashW, skipW}
 
 pub record Outcome : Type 0 where
   pub refusal : ℕ
@@ -59,8 +59,15 @@ abbrev pub acrossO : World → ℕ → ℕ → ℕ → Outcome
 acrossO w t x s =
     byRule (admitsW w x s gives 0 else 9) w (not (threadAt w t .skip)) (crossW w x s)
 
+-- a load where no store waits
+abbrev pub memoryO : World → ℕ → ℕ → ℕ → Outcome
+memoryO w t x s = hereW w x gives onlyO w t s (lastW w x) else acrossO w t x s
+
 abbrev pub loadO : World → ℕ → ℕ → ℕ → Outcome
 loadO w t x s = byRule (onPlace (w .state) t x (loadRule w t x s)) w (countedW w t x) (loadW w t x s)
+
+abbrev pub lockedO : World → ℕ → ℕ → ℕ → Outcome
+lockedO w t x s = byRule (onPlace (w .state) t x (lockedRule w t x s)) w (countedW w t x) (lockedW w t x s)
 
 abbrev pub flushO : World → ℕ → ℕ → Outcome
 flushO w t x = byRule (onPlace (w .state) t x 0) w false (passW w)
@@ -88,4 +95,5 @@ stepO w k f =
     (fenceO w k t)
     (crashO w)
     (skipO w k t)
+    (lockedO w t x (f .source))
     (turned 5 w)

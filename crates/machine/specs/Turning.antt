@@ -1,6 +1,6 @@
 -- What turns an event away, and which loads count, read off the machine's state and tables. 0: it passes.
 use Prim.Native.Nat.{ℕ, _+_, _≤_, _<_}
-use mathlib.Core.Bool.{Bool, false, _&&_, not}
+use mathlib.Core.Bool.{Bool, false, _&&_, _||_, not}
 use lib.Dec.{eqb, leb, ltb}
 use Rattle.record.specs.declared.events.Event.{Event}
 use Rattle.record.specs.declared.events.Fields.{Fields}
@@ -31,6 +31,11 @@ loadRule w t x s = fitsW w t x s gives 0 else 9
 
 abbrev pub commitRule : World → ℕ → ℕ
 commitRule w t = empty (threadAt w t) gives 10 else 0
+
+-- of a locked operation: no store may wait, which its thread's oldest store says, as it does in the load rule, which
+-- decides then
+abbrev pub lockedRule : World → ℕ → ℕ → ℕ → ℕ
+lockedRule w t x s = eqb (threadAt w t .oldest) 0 gives loadRule w t x s else 11
 
 -- of a fence, kind 7 or 8: an mfence, 8, needs an empty queue
 abbrev pub fenceBy : ℕ → Thread → ℕ
@@ -86,6 +91,7 @@ refusalK w k f =
     (onThread st t (fenceRule w k t))
     (crashRule st)
     (onThread st t (skipRule w k t))
+    (onPlace st t x (lockedRule w t x (f .source)))
     5
 
 -- what turns the next event away, after the first
@@ -114,9 +120,9 @@ beginRefusal e = beginK (kindOf e) (fieldsOf e)
 abbrev pub countedW : World → ℕ → ℕ → Bool
 countedW w t x = crossingW w t x && not (threadAt w t .skip)
 
--- the event is a counted load
+-- the event is a counted load, of kind 4 or 12
 unfoldable pub countsK : World → ℕ → Fields → Bool
-countsK w k f = eqb k 4 && countedW w (f .thread) (f .location)
+countsK w k f = (eqb k 4 || eqb k 12) && countedW w (f .thread) (f .location)
 
 abbrev pub countsW : World → Event → Bool
 countsW w e = countsK w (kindOf e) (fieldsOf e)

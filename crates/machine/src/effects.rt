@@ -6,6 +6,7 @@ ghost use lib.ListN.{length};
 ghost use Rattle.area.specs.Cells.{noStore, joined};
 ghost use Rattle.machine.specs.Tables.{threadCell};
 ghost use Rattle.machine.specs.Effects.{issuedTables, issuedWork, committedTables, committedWork};
+ghost use Rattle.machine.specs.Effects.{headed, exchangedTables, exchangedWork};
 ghost use Rattle.machine.specs.Effects.{finishedThread, finished};
 use crate::clocks;
 use crate::tables;
@@ -29,7 +30,16 @@ pub(crate) fn issue(tables: &mut Tables, work: &mut [u16], row: usize, t: u16, x
     tables[tables::newest(x, t)] = store;
 }
 
-// "the oldest waiting store of the thread takes effect": it heads its location's chain of committed stores.
+// Store p, committed in stretch j, heads the chain of committed stores of location x.
+fn head(tables: &mut Tables, p: u16, x: u16, j: u16)
+    requires { ⌜ x < 256 ⌝ }
+    ensures { λ _. ⌜ now (tables .exit) ≡ headed (now (tables .entry)) p x j ⌝ }
+{
+    tables[tables::last(x)] = p;
+    tables[tables::stretch(x)] = j;
+}
+
+// "the oldest waiting store of the thread takes effect": it heads its location's chain, and links to the head so far.
 pub(crate) fn commit(tables: &mut Tables, work: &mut [u16], row: usize, t: u16, j: u16)
     requires { ⌜ (t < 8) × (row + 16 ≤ length (now work)) ⌝ }
     ensures { λ _. ⌜ now (tables .exit) ≡ committedTables (now (tables .entry)) (now (work .entry)) t j ⌝ }
@@ -42,9 +52,22 @@ pub(crate) fn commit(tables: &mut Tables, work: &mut [u16], row: usize, t: u16, 
     let new = old.commit(next);
     area::no_store(work, row);
     area::row_put(work, p, 14, tables[tables::last(x)]);
-    tables[tables::last(x)] = p;
-    tables[tables::stretch(x)] = j;
+    head(tables, p, x, j);
     threads::put_committed(tables, t, new);
+}
+
+// A locked operation's store, behind its load: it joins the queue, which is empty, and takes effect. It is this event's
+// own, whose row stays that of a store, so it links itself.
+pub(crate) fn exchange(tables: &mut Tables, work: &mut [u16], row: usize, t: u16, x: u16, j: u16)
+    requires { ⌜ (t < 8) × (x < 256) × (row < 32768) × (row + 16 ≤ length (now work)) ⌝ }
+    ensures { λ _. ⌜ now (tables .exit) ≡ exchangedTables (now (tables .entry)) row t x j ⌝ }
+    ensures { λ _. ⌜ now (work .exit) ≡ exchangedWork (now (tables .entry)) (now (work .entry)) row t x j ⌝ }
+{
+    issue(tables, work, row, t, x, j);
+    let own = threads::thread_of(tables, t);
+    work[row + 14] = tables[tables::last(x)];
+    head(tables, area::event_at(row), x, j);
+    threads::put_committed(tables, t, own.commit(0));
 }
 
 // A load from store s of the stretch brings the store's clock to its thread.

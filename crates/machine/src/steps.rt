@@ -7,8 +7,8 @@ ghost use Prim.Native.Nat.{ℕ, _<_};
 ghost use lib.ListN.{length};
 ghost use Rattle.machine.specs.Twin.{stateOf, world, admits, admitted};
 ghost use Rattle.machine.specs.Turning.{Fits};
-ghost use Rattle.machine.specs.Outcomes.{outcome, issueO, commitO, onlyO, acrossO, loadO, flushO, fenceO};
-ghost use Rattle.machine.specs.Outcomes.{crashO, skipO, stepO};
+ghost use Rattle.machine.specs.Outcomes.{outcome, issueO, commitO, onlyO, acrossO, memoryO, loadO, lockedO};
+ghost use Rattle.machine.specs.Outcomes.{flushO, fenceO, crashO, skipO, stepO};
 use crate::effects;
 use crate::rules;
 use crate::state::Machine;
@@ -108,6 +108,29 @@ fn load_across(
     m.pass(!own.skip)
 }
 
+// A load where no store of its thread waits at the location. `load` makes these two cases in its own body: with two
+// callers the compiler would not take this into the judge's loop.
+fn load_memory(
+    m: Machine,
+    row: usize,
+    tables: &mut Tables,
+    work: &mut [u16],
+    t: u16,
+    x: u16,
+    s: u16,
+) -> Step
+    requires { ⌜ Fits m row (length (now work)) × (row < 32768) × (t < 8) × (x < 256) ⌝ }
+    ensures { λ r. ⌜ (outcome m row r (now (tables .exit)) (now (work .exit))
+        ≡ memoryO (world (stateOf m row) (now (tables .entry)) (now (work .entry))) t x s) ⌝ }
+{
+    let q = tables[tables::last(x)];
+    let committed = tables[tables::stretch(x)];
+    if committed != m.stretch {
+        return load_across(m, row, tables, work, t, x, s);
+    }
+    load_only(m, row, tables, work, t, s, q)
+}
+
 fn load(
     m: Machine,
     row: usize,
@@ -133,6 +156,35 @@ fn load(
         return load_only(m, row, tables, work, t, s, q);
     }
     load_across(m, row, tables, work, t, x, s)
+}
+
+// A locked operation: a load, then an issue and a commit. 11: its thread "has a waiting store".
+fn locked(
+    m: Machine,
+    row: usize,
+    tables: &mut Tables,
+    work: &mut [u16],
+    t: u16,
+    x: u16,
+    s: u16,
+) -> Step
+    requires { ⌜ Fits m row (length (now work)) ⌝ }
+    ensures { λ r. ⌜ (outcome m row r (now (tables .exit)) (now (work .exit))
+        ≡ lockedO (world (stateOf m row) (now (tables .entry)) (now (work .entry))) t x s) ⌝ }
+{
+    if !rules::place_fits(m, row, t, x) {
+        return m.refuse(rules::place_refusal(m, row, t));
+    }
+    let own = threads::thread_of(tables, t);
+    if own.oldest != 0 {
+        return m.refuse(11);
+    }
+    let r = load_memory(m, row, tables, work, t, x, s);
+    if r.refusal != 0 {
+        return r;
+    }
+    effects::exchange(tables, work, row, t, x, m.stretch);
+    r
 }
 
 fn flush(m: Machine, row: usize, work: &mut [u16], t: u16, x: u16) -> Step
@@ -225,6 +277,7 @@ pub fn step(
         7..=8 => fence(m, row, tables, work, kind, t),
         9 => crash(m, row, tables, work),
         10..=11 => skip(m, row, tables, work, kind, t),
+        12 => locked(m, row, tables, work, t, f.location, f.source),
         _ => m.refuse(5),
     }
 }

@@ -32,23 +32,8 @@ element-copy-out-row-put c = search needs
 row-put-requires : tie.Need-row-put-requires
 row-put-requires c κs = search needs
 
-last-requires-2 : tie.Need-last-requires-2
-last-requires-2 c κs = search needs
-
-mul-tables : tie.Need-mul-tables
-mul-tables c = search needs
-
-element-write-tables : tie.Need-element-write-tables
-element-write-tables c = search needs
-
-stretch-requires : tie.Need-stretch-requires
-stretch-requires c κs = search needs
-
-mul-tables-2 : tie.Need-mul-tables-2
-mul-tables-2 c = search needs
-
-element-write-tables-2 : tie.Need-element-write-tables-2
-element-write-tables-2 c = search needs
+head-requires : tie.Need-head-requires
+head-requires c κs = search needs
 
 put-committed-requires : tie.Need-put-committed-requires
 put-committed-requires c κs = search needs
@@ -59,19 +44,17 @@ same-length c = search needs
 returns : tie.Need-returns
 unfolding committedTables committedWork
 returns c =
-    let at-last2 = c .before .before .before in
-    let at-row-put = at-last2 .before .before .before in
+    let at-head = c .before .before in
+    let at-row-put = at-head .before .before .before .before in
     let at-last = at-row-put .before .before in
-    let at-work = at-last .before .before .before in
-    let at-no-store = at-work .before in
+    let at-no-store = at-last .before .before .before .before in
     let at-commit = at-no-store .before .before in
     let at-row-get2 = at-commit .before in
     let at-row-get = at-row-get2 .before .before in
     let at-thread-of = at-row-get .before .before in (
       rw (
         c .put-committed .ensures,
-        c .before .before .stretch .ensures,
-        at-last2 .last2 .ensures,
+        at-head .head .ensures,
         at-commit .commit .ensures,
         at-row-get2 .row-get2 .ensures,
         at-row-get .row-get .ensures,
@@ -99,12 +82,7 @@ commit-spec =
     mul-row-put
     element-copy-out-row-put
     row-put-requires
-    last-requires-2
-    mul-tables
-    element-write-tables
-    stretch-requires
-    mul-tables-2
-    element-write-tables-2
+    head-requires
     put-committed-requires
     same-length
     returns)

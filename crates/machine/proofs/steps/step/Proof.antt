@@ -22,6 +22,9 @@ load-requires c κs = search needs
 crash-requires : tie.Need-crash-requires
 crash-requires c κs = search needs
 
+locked-requires : tie.Need-locked-requires
+locked-requires c κs = search needs
+
 flush-requires : tie.Need-flush-requires
 flush-requires c κs = search needs
 
@@ -78,15 +81,11 @@ same-length-5 : tie.Need-same-length-5
 same-length-5 c = search needs
 
 returns-5 : tie.Need-returns-5
-unfolding stepO
+unfolding stepO byKind
 returns-5 c =
-    let at-flush = c .before .before in
-    let at-if2 = at-flush .before .before in
-    let at-if1 = at-if2 .before in
-    let at-match = at-if1 .before in
-    let others = at-match .match .rest in
-    let low = behind-load _ (at-if1 .if1 .left) (others .0 .0 .0 .1) (others .0 .0 .1) (others .0 .1) in
-    at-flush .flush .ensures _ ∙ flush-arm _ _ _ _ _ _ _ _ _ low (le-of-suc-le-suc (at-if2 .if2 .taken))
+    let at-locked = c .before .before in
+    let at-match = at-locked .before .before .before in
+    rw (at-match .match .keys5) (at-locked .locked .ensures)
 
 same-length-6 : tie.Need-same-length-6
 same-length-6 c = search needs
@@ -94,11 +93,13 @@ same-length-6 c = search needs
 returns-6 : tie.Need-returns-6
 unfolding stepO
 returns-6 c =
-    let at-fence = c .before .before in
-    let at-if3 = at-fence .before .before .before in
-    let at-if2 = at-if3 .before in
-    at-fence .fence .ensures
-    ∙ fence-arm _ _ _ _ _ _ _ _ _ (omega (arith, at-if2 .if2 .left)) (omega (arith, at-if3 .if3 .taken))
+    let at-flush = c .before .before in
+    let at-if2 = at-flush .before .before in
+    let at-if1 = at-if2 .before in
+    let at-match = at-if1 .before in
+    let others = at-match .match .rest .0 in
+    let low = behind-load _ (at-if1 .if1 .left) (others .0 .0 .0 .1) (others .0 .0 .1) (others .0 .1) in
+    at-flush .flush .ensures _ ∙ flush-arm _ _ _ _ _ _ _ _ _ _ low (le-of-suc-le-suc (at-if2 .if2 .taken))
 
 same-length-7 : tie.Need-same-length-7
 same-length-7 c = search needs
@@ -106,20 +107,34 @@ same-length-7 c = search needs
 returns-7 : tie.Need-returns-7
 unfolding stepO
 returns-7 c =
-    let at-skip = c .before .before in
-    let at-if4 = at-skip .before .before .before in
-    let at-if3 = at-if4 .before in
-    let at-match = at-if3 .before .before .before in
-    let low = behind-crash _ (at-if3 .if3 .left) (at-match .match .rest .1) in
-    at-skip .skip .ensures ∙ skip-arm _ _ _ _ _ _ _ _ _ low (le-of-suc-le-suc (at-if4 .if4 .taken))
+    let at-fence = c .before .before in
+    let at-if3 = at-fence .before .before .before in
+    let at-if2 = at-if3 .before in
+    at-fence .fence .ensures
+    ∙ fence-arm _ _ _ _ _ _ _ _ _ _ (omega (arith, at-if2 .if2 .left)) (omega (arith, at-if3 .if3 .taken))
+
+same-length-8 : tie.Need-same-length-8
+same-length-8 c = search needs
 
 returns-8 : tie.Need-returns-8
 unfolding stepO
 returns-8 c =
+    let at-skip = c .before .before in
+    let at-if4 = at-skip .before .before .before in
+    let at-if3 = at-if4 .before in
+    let at-match = at-if3 .before .before .before in
+    let low = behind-crash _ (at-if3 .if3 .left) (at-match .match .rest .0 .1) in
+    at-skip .skip .ensures ∙ skip-arm _ _ _ _ _ _ _ _ _ _ low (le-of-suc-le-suc (at-if4 .if4 .taken))
+
+returns-9 : tie.Need-returns-9
+unfolding stepO
+returns-9 c =
+    let not-12 = c .before .before .match .rest .1 in
     rw (c .refuse .ensures)
-    (other-arm _ _ _ _ _ _ _ _ _
+    (other-arm _ _ _ _ _ _ _ _ _ _
     (λ low high.
-    ⊎-elim (λ under. omega (arith, under .taken)) (λ over. omega (arith, over .3 .left)) (c .before .if1 .came)))
+    ⊎-elim (λ under. omega (arith, under .taken)) (λ over. omega (arith, over .3 .left, not-12))
+    (c .before .if1 .came)))
 
 pub step-spec : {M : Type 1} → statement M
 step-spec =
@@ -129,6 +144,7 @@ step-spec =
     commit-requires
     load-requires
     crash-requires
+    locked-requires
     flush-requires
     fence-requires
     skip-requires
@@ -147,4 +163,6 @@ step-spec =
     returns-6
     same-length-7
     returns-7
-    returns-8)
+    same-length-8
+    returns-8
+    returns-9)

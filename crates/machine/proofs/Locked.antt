@@ -1,0 +1,285 @@
+-- The step of kind 12, a locked operation: one event that loads, issues and commits. Each component of `Sim` goes by
+-- the law of the role that changes it: what threads have seen and the sources noted by the load (Loads), the rows, the
+-- links and the newest stores by the issue (Issues), the chains by the commit (Commits); the queue by all, for it is
+-- empty before and after.
+-- In order: the roles; the tables; the thread; the row; the chain; the step.
+use mathlib.Core.Path.{_≡_, refl, sym, ap, _∙_}
+use mathlib.Core.Bool.{false}
+use mathlib.Core.List.{List}
+use mathlib.Core.Logic.{_≢_}
+use Prim.Native.Nat.{ℕ, suc, _+_, _*_, _≤_, _<_}
+use native.Mathlib.Omega.{arith}
+use borrow.Author.Tests.{eqb-true, not-false}
+use lib.ListN.{length, getD}
+use Rattle.record.specs.declared.events.Event.{Event}
+use Rattle.model.specs.Trace.{kind, thread, location, source, issue?, commit?, crash?, skipOn?, skipOff?}
+use Rattle.model.specs.Trace.{Issue, Commit, Load, stretch}
+use Rattle.model.specs.Machine.{committed}
+use Rattle.model.specs.Rules.{refusal, Accepted}
+use Rattle.model.proofs.Roles.{issue-no-crash}
+use Rattle.model.proofs.Acceptance.{drained-empty}
+use Rattle.model.proofs.Ranges.{issue-has-thread, issue-has-location}
+use Rattle.model.proofs.StorePlaces.{committed-itself, store-at-none}
+use Rattle.model.proofs.Unchanged.{live-here}
+use Rattle.area.specs.Cells.{eventAt, noStore}
+use Rattle.area.proofs.ReadBack.{set-here, set-elsewhere}
+use Rattle.machine.specs.declared.threads.Thread.{Thread}
+use Rattle.machine.specs.Tables.{lastCell, sourceCell, newestCell, stretchCell}
+use Rattle.machine.specs.Threads.{issuedT, committedT, threadOf, ofThread}
+use Rattle.machine.specs.Twin.{World}
+use Rattle.machine.specs.Effects.{issuedTables, issuedWork, loadW, exchangedTables, exchangedWork, lockedW}
+use Rattle.machine.specs.Sim.{issued, done, Queue, Seen, Sources, Sim}
+use Rattle.machine.proofs.Storing.{Same}
+use Rattle.machine.proofs.TableLaws.{thread-same, Replaced, issued-replaced, issued-beyond, issued-newest}
+use Rattle.machine.proofs.TableLaws.{committed-replaced, committed-beyond, committed-last, committed-stretch}
+use Rattle.machine.proofs.RowLaws.{NoStore, Stored, no-store-is, no-store-links, stored-behind, link-stored}
+use Rattle.machine.proofs.RowLaws.{written-links, event-is}
+use Rattle.machine.proofs.RuleLaws.{load-is}
+use Rattle.machine.proofs.Keep.{limits-next, in-time, few-own, small-own, numbers-next, spares, counted-up}
+use Rattle.machine.proofs.Keep.{skip-stays, queues-with, commits-keep}
+use Rattle.machine.proofs.Loads.{Loaded, loaded}
+use Rattle.machine.proofs.Commits.{Headed, chains-next}
+use Rattle.machine.proofs.Issues.{newest, newest-now, rows-next, links-next, newest-next, issue-counted, stored}
+
+module _ (ev : ℕ → Event) (n : ℕ) (w : World) (sim : Sim ev n w) (passes : refusal ev n ≡ 0) (kind-is : kind ev n ≡ 12)
+  where
+    -- ---- the roles
+
+    loads : Load ev n
+    loads = record { test = rw kind-is refl }
+
+    store : Issue ev n
+    store = record { test = rw kind-is refl }
+
+    commits-it : Commit ev n
+    commits-it = record { test = rw kind-is refl }
+
+    abbrev t : ℕ
+    t = thread ev n
+
+    abbrev x : ℕ
+    x = location ev n
+
+    abbrev j : ℕ
+    j = stretch ev n
+
+    abbrev row : ℕ
+    row = w .state .row
+
+    abbrev tables : List ℕ
+    tables = w .tables
+
+    abbrev l : List ℕ
+    l = w .work
+
+    few : t < 8
+    few = few-own ev n (sim .limits) passes (issue-has-thread ev store)
+
+    small : x < 256
+    small = small-own ev n (sim .limits) passes (issue-has-location ev store)
+
+    no-crash : crash? ev n ≡ false
+    no-crash = issue-no-crash ev store
+
+    accepted : Accepted ev (suc n)
+    accepted = limits-next ev n (sim .limits) passes .accepted
+
+    begins : row + 16 ≡ 16 * n
+    begins = sim .numbers .row-is
+
+    n-small : n ≤ 2048
+    n-small = in-time ev n (sim .limits) passes
+
+    at-n : eventAt row ≡ n
+    at-n = event-is row n begins n-small
+
+    -- the queue is empty, so the event commits its own store
+    all-committed : issued ev n t ≡ done ev n t
+    all-committed = eqb-true _ _ (not-false _ (drained-empty ev (suc n) accepted n (omega arith) (rw kind-is refl)))
+
+    takes-itself : committed ev n ≡ n
+    takes-itself = committed-itself ev (suc n) n accepted (omega arith) (rw kind-is refl) store
+
+    -- ---- the tables: after its load, its issue and its commit
+
+    abbrev loadedTables : List ℕ
+    loadedTables = loadW w t x (source ev n) .tables
+
+    abbrev withStore : List ℕ
+    withStore = issuedTables loadedTables row t x
+
+    abbrev tables′ : List ℕ
+    tables′ = exchangedTables loadedTables row t x (w .state .stretch)
+
+    its-load : Loaded ev n w sim passes loads loadedTables
+    its-load = loaded ev n w sim passes loads
+
+    abbrev old : Thread
+    old = threadOf tables t
+
+    same-thread : threadOf loadedTables t ≡ old
+    same-thread = thread-same tables loadedTables t (its-load .threads-same t few)
+
+    its-issue : Replaced loadedTables withStore t (issuedT (threadOf loadedTables t) (eventAt row))
+    its-issue = issued-replaced loadedTables t few (its-load .size) row x small
+
+    store-size : length withStore ≡ 3008
+    store-size = its-issue .size ∙ its-load .size
+
+    its-commit : Replaced withStore tables′ t (committedT (threadOf withStore t) 0)
+    unfolding exchangedTables
+    its-commit = committed-replaced withStore t few store-size (eventAt row) x (w .state .stretch) 0 small
+
+    -- where neither the store nor its commit is noted, the tables are as its load left them
+    beyond :
+        (i : ℕ) → 128 ≤ i → newestCell x t ≢ i → lastCell x ≢ i → stretchCell x ≢ i
+        → getD tables′ i 0 ≡ getD loadedTables i 0
+    unfolding exchangedTables
+    beyond i high not-newest not-last not-stretch =
+        committed-beyond withStore t few store-size (eventAt row) x (w .state .stretch) 0 small i high not-last
+        not-stretch
+        ∙ issued-beyond loadedTables t few (its-load .size) row x small i high not-newest
+
+    others : (u : ℕ) → u < 8 → t ≢ u → Same (16 * u + 8) (16 * u + 13) tables tables′
+    others u few-u other i low high =
+        its-commit .others u few-u other i low high ∙ its-issue .others u few-u other i low high
+        ∙ its-load .threads-same u few-u i low high
+
+    seen-next : Seen ev (suc n) tables′
+    seen-next v u few-v few-u =
+        its-commit .seen-same v few-v (16 * v + u) (omega arith) (omega arith)
+        ∙ its-issue .seen-same v few-v (16 * v + u) (omega arith) (omega arith)
+        ∙ its-load .seen-are v u few-v few-u
+
+    sources-next : Sources ev (suc n) tables′
+    sources-next y few-y =
+        let stays =
+        beyond (sourceCell y) (omega arith) (λ same. omega arith) (λ same. omega (arith, small)) (λ same. omega arith)
+        in
+        rw stays (its-load .sources y few-y)
+
+    -- ---- the thread: one issue and one commit more, and no store waits
+
+    own : threadOf tables′ t ≡ committedT (issuedT old n) 0
+    own = its-commit .own ∙ rw (its-issue .own, same-thread, at-n)
+
+    queue-next : Queue ev (suc n) t (committedT (issuedT old n) 0)
+    unfolding committedT issuedT
+    queue-next =
+        let queue = sim .queues t few in
+        record {
+          issued-is = issue-counted ev n w sim passes store;
+          committed-is =
+              counted-up ev n no-crash (commit? ev) (old .committed) (sim .limits) (commits-it .test)
+              (queue .committed-is);
+          skip-is =
+              skip-stays ev n no-crash t old queue (spares ev n (skipOn? ev) (rw kind-is refl) t)
+              (spares ev n (skipOff? ev) (rw kind-is refl) t);
+          oldest-is = sym (store-at-none ev (suc n) (stretch ev (suc n)) t (done ev (suc n) t) none-left);
+          newest-is = newest-now ev n w sim passes store;
+        }
+      where
+        none-left : issued ev (suc n) t ≤ done ev (suc n) t
+        none-left =
+            omega (
+              arith,
+              all-committed,
+              live-here ev (issue? ev) n no-crash (store .test),
+              live-here ev (commit? ev) n no-crash (commits-it .test),
+            )
+
+    -- ---- the row: what the issue writes, behind what the load wrote
+
+    abbrev loadedWork : List ℕ
+    loadedWork = loadW w t x (source ev n) .work
+
+    abbrev l′ : List ℕ
+    l′ = exchangedWork loadedTables loadedWork row t x (w .state .stretch)
+
+    work-is : loadedWork ≡ noStore l row
+    work-is = ap (λ (v : World). v .work) (load-is w t x (source ev n))
+
+    no-store : NoStore n l loadedWork
+    no-store = rw work-is (no-store-is row n begins n-small l (sim .rows .room))
+
+    abbrev seen-by : ℕ → ℕ
+    seen-by u = ofThread loadedTables t u
+
+    -- as the issue alone leaves the work area
+    abbrev written : List ℕ
+    written = issuedWork loadedTables loadedWork row t x (w .state .stretch)
+
+    written-is :
+        Stored n (newest ev n w sim passes store) t (suc (issued ev n t)) x j seen-by loadedWork written
+    written-is = stored ev n w sim passes store loadedTables loadedWork same-thread (no-store .size)
+
+    its-row : Stored n (newest ev n w sim passes store) t (suc (issued ev n t)) x j seen-by l l′
+    unfolding exchangedWork
+    its-row =
+        link-stored row n begins n-small _ l written (stored-behind l loadedWork written no-store written-is)
+
+    -- ---- the chain: the store heads that of its location
+
+    written-room : 32768 ≤ length written
+    written-room = rw (written-is .size, no-store .size) (sim .rows .room)
+
+    headed : Headed n n x j tables tables′ l l′
+    unfolding exchangedTables exchangedWork issuedWork
+    headed = record {
+      head-is = committed-last withStore t few store-size (eventAt row) x (w .state .stretch) 0 small ∙ at-n;
+      stretch-is =
+          committed-stretch withStore t few store-size (eventAt row) x (w .state .stretch) 0 small
+          ∙ sim .numbers .stretch-is;
+      link-is =
+          set-here written row n begins n-small 14 (getD withStore (lastCell x) 0) written-room (omega arith)
+          ∙ (issued-beyond loadedTables t few (its-load .size) row x small (lastCell x) (omega arith)
+          (λ same. omega (arith, small))
+          ∙ its-load .heads-same (lastCell x) (omega arith) (omega (arith, small)));
+      other-heads = λ y few-y other.
+          beyond (lastCell y) (omega arith) (λ same. omega arith) (λ same. other (omega arith)) (λ same. omega arith)
+          ∙ its-load .heads-same (lastCell y) (omega arith) (omega arith);
+      other-stretches = λ y few-y other.
+          beyond (stretchCell y) (omega arith) (λ same. omega (arith, small, few)) (λ same. omega (arith, small))
+          (λ same. other (omega arith))
+          ∙ its-load .rest-same (stretchCell y) (omega arith) (omega arith);
+      other-links = λ q from-one early other.
+          set-elsewhere written row n begins n-small 14 (getD withStore (lastCell x) 0) q 14 (omega arith) (omega arith)
+          from-one (omega arith) (λ same. omega arith)
+          ∙ (written-links row n begins n-small loadedTables t _ x _ _ loadedWork few q
+          ∙ rw work-is (no-store-links row n begins n-small l q));
+    }
+
+    -- ---- the step
+
+    pub locked-next : Sim ev (suc n) (lockedW w t x (source ev n))
+    unfolding lockedW exchangedTables
+    locked-next = record {
+      numbers = numbers-next ev n (w .state) (sim .numbers) no-crash;
+      limits = limits-next ev n (sim .limits) passes;
+      size = its-commit .size ∙ store-size;
+      queues = queues-with ev n tables tables′ no-crash others (rw own queue-next) (sim .queues);
+      seen-are = seen-next;
+      newest-are =
+          newest-next ev n w sim passes store tables′ noted
+          (λ i low high differ.
+          beyond i (omega arith) differ (λ same. omega (arith, small)) (λ same. omega arith)
+          ∙ its-load .rest-same i (omega arith) (omega arith));
+      commits-are =
+          commits-keep ev n tables tables′ no-crash
+          (λ i low high.
+          beyond i (omega arith) (λ same. omega arith) (λ same. omega (arith, small)) (λ same. omega arith)
+          ∙ its-load .rest-same i low (omega arith))
+          (sim .commits-are);
+      sources = sources-next;
+      chains = chains-next ev n w sim passes commits-it tables′ l′ (rw takes-itself headed);
+      rows =
+          rows-next ev n w sim passes store seen-by (λ u. its-load .seen-are t u few) l′ its-row;
+      links =
+          links-next ev n w sim passes store seen-by (λ u. its-load .seen-are t u few) l′ its-row;
+    }
+      where
+        noted : getD tables′ (newestCell x t) 0 ≡ n
+        noted =
+            committed-beyond withStore t few store-size (eventAt row) x (w .state .stretch) 0 small (newestCell x t)
+            (omega arith) (λ same. omega (arith, small)) (λ same. omega (arith, few, small))
+            ∙ issued-newest loadedTables t few (its-load .size) row x small ∙ at-n
