@@ -1,7 +1,7 @@
 -- One record of a run. A record that cannot be read, or that a rule forbids, is turned away as the definitions say; any
 -- other takes the run on by one record. Where no record is left reading answers 1, which no rule of a later event does.
 -- In order: reading taken apart; what turns record n away; the first record; a later one; what is left of the run.
-use mathlib.Core.Path.{_≡_, refl, sym, ap, _∙_, subst}
+use mathlib.Core.Path.{_≡_, refl, sym, ap, ap₂, _∙_, subst}
 use mathlib.Core.Bool.{Bool, true, false, and-false}
 use mathlib.Core.Logic.{_⊎_, inl, inr, _≢_}
 use mathlib.Core.List.{List}
@@ -13,7 +13,7 @@ use lib.Dec.{eqb, leb, ltb}
 use lib.ListN.{length}
 use Rattle.record.specs.declared.events.Event.{Event}
 use Rattle.record.specs.declared.events.Event.the-variants.{Begin, Issue, Commit, Load, Clflush, Clwb}
-use Rattle.record.specs.declared.events.Event.the-variants.{Sfence, Mfence, Crash, SkipOn, SkipOff}
+use Rattle.record.specs.declared.events.Event.the-variants.{Sfence, Mfence, Crash, SkipOn, SkipOff, Locked}
 use Rattle.record.specs.declared.events.Fields.{Fields}
 use Rattle.record.specs.declared.reading.Read.{Read}
 use Rattle.record.specs.declared.reading.Read.the-variants.{Record, Refused}
@@ -34,7 +34,7 @@ use Rattle.model.proofs.TurnedAway.{passed→, ends-there, unread-there, forbid
 use Rattle.area.specs.Cells.{eventAt}
 use Rattle.machine.specs.Arms.{byKind}
 use Rattle.machine.specs.Twin.{State, World, world, threadAt, started, fitsW}
-use Rattle.machine.specs.Turning.{empty, loadRule, commitRule, fenceRule, skipRule, threadFits, placeFits}
+use Rattle.machine.specs.Turning.{empty, loadRule, lockedRule, commitRule, fenceRule, skipRule, threadFits, placeFits}
 use Rattle.machine.specs.Turning.{onThread, onPlace, refusalK, refusalW, countsW, beginRefusal}
 use Rattle.machine.specs.Effects.{stepW}
 use Rattle.machine.specs.declared.state.Step.{Step}
@@ -106,6 +106,10 @@ rule-not-1 w (SkipOn t) =
 rule-not-1 w (SkipOff t) =
     on-thread-not-1 (w .state) t (skipRule w 11 t)
     (pick-not-1 (threadAt w t .skip) 0 12 0-not-1 (λ is-1. omega arith))
+rule-not-1 w (Locked t x s) =
+    on-place-not-1 (w .state) t x (lockedRule w t x s)
+    (pick-not-1 (eqb (threadAt w t .oldest) 0) (loadRule w t x s) 11
+    (pick-not-1 (fitsW w t x s) 0 9 0-not-1 (λ is-1. omega arith)) (λ is-1. omega arith))
 
 module _ (bytes : List ℕ) where
   -- ---- what reading answered, taken apart
@@ -281,7 +285,7 @@ module _ (bytes : List ℕ) where
         → (j' row' : ℕ) (counted' : Bool) (tables' : List ℕ) (m' : Marks) (work' : List ℕ)
         → counted' ≡ countsW w x
         → worldOf bytes threads locations j' row' tables' work' ≡ stepW w x
-        → m' ≡ judgedBy counted' tables' work' m (t .row) (fieldsOf x)
+        → m' ≡ judgedBy counted' tables' work' m (kindOf x) (t .row) (fieldsOf x)
         → Reached bytes threads locations (suc n) (cursor j' row' past) tables' m' work'
     later-passes x past is-read is j' row' counted' tables' m' work' counted-is step-is marks-are = record {
       position = read-next bytes n x past (read-there (event x past) is-read);
@@ -291,7 +295,8 @@ module _ (bytes : List ℕ) where
           rw (marks-are, counted-is, sym event-n)
           (subst
           (λ (v : World).
-          MarksMatch ev (suc n) (judgedBy (countsW w (ev n)) (v .tables) (v .work) m (t .row) (fieldsOf (ev n))))
+          MarksMatch ev (suc n)
+          (judgedBy (countsW w (ev n)) (v .tables) (v .work) m (kindOf (ev n)) (t .row) (fieldsOf (ev n))))
           (sym after-is) (match-next ev n w (reached .state) passes m (reached .loads)));
     }
       where
@@ -332,7 +337,7 @@ module _ (bytes : List ℕ) where
             (refusal-told w x given (rw (← kind-is, ← fields-are) step-is)) some
 
         pub scanned-passes :
-            s .refusal ≡ 0 → (m' : Marks) → m' ≡ judgedBy (s .counted) tables' work' m (t .row) (r .fields)
+            s .refusal ≡ 0 → (m' : Marks) → m' ≡ judgedBy (s .counted) tables' work' m (r .kind) (t .row) (r .fields)
             → Reached bytes threads locations (suc n) (cursor (s .stretch) (t .row + 16) (r .next)) tables' m' work'
         scanned-passes passes m' marks-are =
             let (x, (read-is, kind-is, fields-are)) = scan-read bytes at r is in
@@ -343,7 +348,8 @@ module _ (bytes : List ℕ) where
             (subst
             (λ (e : ℕ). worldOf bytes threads locations (s .stretch) e tables' work' ≡ stepW w x)
             next-row (after-told w x given told passes))
-            (rw fields-are at marks-are)
+            (marks-are
+            ∙ ap₂ (λ (k : ℕ) (f : Fields). judgedBy (s .counted) tables' work' m k (t .row) f) kind-is fields-are)
 
     -- ---- what is left of the run
 

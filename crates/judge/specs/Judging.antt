@@ -4,7 +4,8 @@ use mathlib.Core.Bool.{Bool}
 use mathlib.Core.List.{List}
 use Rattle.record.specs.declared.events.Fields.{Fields}
 use Rattle.record.specs.Tests.{_gives_else_}
-use Rattle.area.specs.Cells.{eventAt, up}
+use lib.Dec.{eqb}
+use Rattle.area.specs.Cells.{getRow, eventAt, up}
 use Rattle.machine.specs.Tables.{lastIn}
 use Rattle.marks.specs.Marks.{Marks}
 use Rattle.marks.specs.Testing.{missingBy, observedBy}
@@ -17,7 +18,13 @@ evidenceAt work m load =
     let missing = missingBy work m (up load) in
     record { load = load; missing = missing; observed = observedBy work (m .flags) (up load) missing }
 
--- the marks after the event whose row begins at `row`, with the fields f: a counted load is judged
-unfoldable pub judgedBy : Bool → List ℕ → List ℕ → Marks → ℕ → Fields → Marks
-judgedBy counted tables work m row f =
-    counted gives judged work m (lastIn tables (f .location)) (f .location) (f .source) (eventAt row) else m
+-- the head of the chain that a counted load of location x found, where the event's step has made its effects: a locked
+-- operation, kind 12, heads the chain by then, and its link is what it found; any other load commits nothing
+unfoldable pub headFound : List ℕ → List ℕ → ℕ → ℕ → ℕ → ℕ
+headFound tables work k row x = eqb k 12 gives getRow work (eventAt row) 14 else lastIn tables x
+
+-- the marks after the event of kind k whose row begins at `row`, with the fields f: a counted load is judged
+unfoldable pub judgedBy : Bool → List ℕ → List ℕ → Marks → ℕ → ℕ → Fields → Marks
+judgedBy counted tables work m k row f =
+    let x = f .location in
+    counted gives judged work m (headFound tables work k row x) x (f .source) (eventAt row) else m

@@ -3,7 +3,7 @@ ghost use mathlib.Core.Path.{_≡_};
 ghost use Prim.Native.Nat.{_≤_};
 ghost use lib.ListN.{length};
 ghost use Rattle.marks.specs.Marks.{marksOf};
-ghost use Rattle.judge.specs.Judging.{evidenceAt, judgedBy};
+ghost use Rattle.judge.specs.Judging.{evidenceAt, headFound, judgedBy};
 use machine::Tables;
 use marks::Flags;
 use marks::Marks;
@@ -33,24 +33,36 @@ pub(crate) fn evidence_at(marks: &Marks, flags: &Flags, work: &[u16], load: u16)
     }
 }
 
-// The event whose row begins at `row`, which passes, with the fields f: a counted load is judged.
+// The head of the chain that a counted load of location x found. Its event's step is made: a locked operation heads the
+// chain by then, and its link is what it found; any other load commits nothing.
+fn head_found(tables: &Tables, work: &[u16], kind: u16, row: usize, x: u16) -> u16
+    requires { ⌜ row ≤ 32768 ⌝ }
+    ensures { λ r. ⌜ r ≡ headFound (now (tables .entry)) (now (work .entry)) kind row x ⌝ }
+{
+    if kind == 12 {
+        return area::row_get(work, area::event_at(row), 14);
+    }
+    machine::last_committed(tables, x)
+}
+
+// The event of that kind whose row begins at `row`, which passes, with the fields f: a counted load is judged.
 pub(crate) fn judge_event(
     tables: &Tables,
     marks: &mut Marks,
     flags: &mut Flags,
     counted: bool,
     work: &[u16],
+    kind: u16,
     row: usize,
     f: Fields,
 )
     requires { ⌜ (row ≤ 32768) × (32768 ≤ length (now work)) ⌝ }
     ensures { λ _. ⌜ (marksOf (now (marks .exit)) (now (flags .exit)) ≡ judgedBy counted
-        (now (tables .entry)) (now (work .entry)) (marksOf (now (marks .entry)) (now (flags .entry))) row f) ⌝ }
+        (now (tables .entry)) (now (work .entry)) (marksOf (now (marks .entry)) (now (flags .entry))) kind row f) ⌝ }
 {
     if !counted {
         return;
     }
-    let h = machine::last_committed(tables, f.location);
-    let e = area::event_at(row);
-    judged::judge_load(marks, flags, work, h, f.location, f.source, e);
+    let h = head_found(tables, work, kind, row, f.location);
+    judged::judge_load(marks, flags, work, h, f.location, f.source, row);
 }

@@ -140,7 +140,7 @@ fn judge_record(
     if s.refusal != 0 {
         return Next::Ended(s.refusal);
     }
-    loads::judge_event(tables, marks, flags, s.counted, work, row, f);
+    loads::judge_event(tables, marks, flags, s.counted, work, e.kind, row, f);
     Next::On(Cursor {
         stretch: s.stretch,
         row: row + 16,

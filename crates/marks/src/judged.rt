@@ -4,6 +4,7 @@
 ghost use mathlib.Core.Path.{_≡_};
 ghost use Prim.Native.Nat.{_≤_};
 ghost use lib.ListN.{length};
+ghost use Rattle.area.specs.Cells.{eventAt};
 ghost use Rattle.marks.specs.Marks.{marksOf};
 ghost use Rattle.marks.specs.Judged.{repeated, noted, judged};
 use crate::cells;
@@ -25,18 +26,21 @@ fn repeats(marks: &Marks, h: u16, x: u16, s: u16) -> bool
     }
 }
 
-// That load is the last counted one there; and if it breaks the trace, as load e, it is recorded.
-fn note(marks: &mut Marks, h: u16, x: u16, s: u16, e: u16, breaks: bool)
-    ensures { λ _. ⌜ now (marks .exit) ≡ noted (now (marks .entry)) h x s e breaks ⌝ }
+// That load is the last counted one there; and if it breaks the trace, it is recorded as the event whose row begins at
+// `row`. Only then is its number made.
+fn note(marks: &mut Marks, h: u16, x: u16, s: u16, row: usize, breaks: bool)
+    requires { ⌜ row ≤ 32768 ⌝ }
+    ensures { λ _. ⌜ now (marks .exit) ≡ noted (now (marks .entry)) h x s (eventAt row) breaks ⌝ }
 {
     marks[cells::last(x)] = h;
     marks[cells::source(x)] = s;
     if breaks {
+        let e = area::event_at(row);
         marks[BROKEN] = e;
     }
 }
 
-// A counted load, event e, of location x from s, whose chain begins with store h.
+// A counted load, the event whose row begins at `row`, of location x from s, whose chain begins with store h.
 pub fn judge_load(
     marks: &mut Marks,
     flags: &mut Flags,
@@ -44,11 +48,11 @@ pub fn judge_load(
     h: u16,
     x: u16,
     s: u16,
-    e: u16,
+    row: usize,
 )
-    requires { ⌜ 32768 ≤ length (now rows) ⌝ }
+    requires { ⌜ (row ≤ 32768) × (32768 ≤ length (now rows)) ⌝ }
     ensures { λ _. ⌜ (marksOf (now (marks .exit)) (now (flags .exit))
-        ≡ judged (now (rows .entry)) (marksOf (now (marks .entry)) (now (flags .entry))) h x s e) ⌝ }
+        ≡ judged (now (rows .entry)) (marksOf (now (marks .entry)) (now (flags .entry))) h x s (eventAt row)) ⌝ }
 {
     if repeats(marks, h, x, s) {
         return;
@@ -57,5 +61,5 @@ pub fn judge_load(
         return;
     }
     let breaks = load::load(marks, flags, rows, h, s);
-    note(marks, h, x, s, e, breaks);
+    note(marks, h, x, s, row, breaks);
 }

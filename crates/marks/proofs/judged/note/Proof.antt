@@ -22,14 +22,18 @@ mul-marks-2 c = search needs
 element-write-marks-2 : tie.Need-element-write-marks-2
 element-write-marks-2 c = search needs
 
+event-at-requires : tie.Need-event-at-requires
+event-at-requires c κs = search needs
+
 element-write-marks-3 : tie.Need-element-write-marks-3
 element-write-marks-3 c = search needs
 
 returns : tie.Need-returns
 unfolding noted
 returns c =
-    let at-source = c .before in
-    simp (c .if1 .taken, at-source .source .ensures .0, at-source .before .last .ensures .0)
+    let at-if1 = c .before in
+    let at-source = at-if1 .before in
+    simp (c .event-at .ensures, at-if1 .if1 .taken, at-source .source .ensures .0, at-source .before .last .ensures .0)
 
 returns-2 : tie.Need-returns-2
 unfolding noted
@@ -47,6 +51,7 @@ note-spec =
     source-requires
     mul-marks-2
     element-write-marks-2
+    event-at-requires
     element-write-marks-3
     returns
     returns-2)
