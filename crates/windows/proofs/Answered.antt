@@ -63,8 +63,8 @@ module _
       rw (it .is-read, ← past) (load-at-read bytes (start bytes e) (it .x) (it .next) (it .is-read))
 
   looked-shown :
-      (k e : ℕ) (found : List ℕ) → p < e → e + k ≡ suc q → Shown ev p q e found
-      → Shown ev p q (suc q) (lookedFrom bytes work p q k e (start bytes e) found)
+      (k e : ℕ) (found : List ℕ) → p < e → e + k ≡ suc q → Shown ev p q e e found
+      → Shown ev p q (suc q) (suc q) (lookedFrom bytes work p q k e (start bytes e) found)
   unfolding lookedFrom
   looked-shown zero e found later all shown = let at-end : e ≡ suc q = omega arith in rw at-end at shown
   looked-shown (suc k) e found later all shown =
@@ -75,9 +75,9 @@ module _
       )
       (looked-shown k (suc e) _ (omega arith) (omega arith)
       (shown-next ev p q N accepted work rows p-store q-store (before-stretch ev before) q-early e later (omega arith)
-      found shown (start bytes (suc e))))
+      shown (start bytes (suc e))))
 
-  all-shown : Shown ev p q (suc q) (looked bytes work p q (notedMissing (replicate 16 0) (thread ev p) p))
+  all-shown : Shown ev p q (suc q) (suc q) (looked bytes work p q (notedMissing (replicate 16 0) (thread ev p) p))
   unfolding looked
   all-shown =
       let p-before-q = before-lt ev before in
@@ -172,7 +172,8 @@ module _
             rw (is, second-fails (eqb from 0) (eqb to 0) is) (there some)
 
     window-answered :
-        (found : List ℕ) → Shown ev p q (suc q) found → t < 8 → windowAnswer (windowIn found t) ≡ windowOf ev p q t
+        (found : List ℕ) → Shown ev p q (suc q) (suc q) found → t < 8
+        → windowAnswer (windowIn found t) ≡ windowOf ev p q t
     unfolding windowIn
     window-answered found shown below =
         window-unique ev p q t (windowAnswer (windowIn found t)) (windowOf ev p q t)

@@ -1,15 +1,16 @@
 -- What is noted of a record is what it shows of its thread: behind the missing store p only its own thread has it
--- (`shown-missing`), and each event up to the observed store q is shown by what is noted of it (`shown-next`). A store
--- is asked of its row, a load of its source's.
--- In order: the numbers found; up to p; one event more, a store, a load or another.
-use Prim.Native.Nat.{ℕ, suc, _+_, _≤_, _<_}
+-- (`shown-missing`), and each event up to the observed store q is shown by what is noted of it (`shown-next`): first as
+-- a store (`shown-store`), which asks what the loads in front of it show, and then as a load (`shown-load`). A store is
+-- asked of its row, a load of its source's.
+-- In order: a number noted; up to p; one event more, as a store, as a load, as both.
+use Prim.Native.Nat.{ℕ, suc, _+_, _≤_, _<_, _%_}
 use native.Mathlib.Omega.{arith}
-use native.Mathlib.Nat.{mod-eq-of-lt}
-use mathlib.Core.Path.{_≡_, refl, sym, _∙_, subst}
-use mathlib.Core.Bool.{Bool, true, false, cond, not, _&&_}
-use mathlib.Core.Logic.{_⊎_, inl, inr, _≢_}
+use native.Mathlib.Nat.{zero-add, mod-eq-of-lt}
+use mathlib.Core.Path.{_≡_, refl, sym, _∙_}
+use mathlib.Core.Bool.{Bool, true, false, cond, _&&_, and-true, and-false}
+use mathlib.Core.Logic.{_⊎_, inl, inr, _≢_, _↔_}
 use mathlib.Core.List.{List}
-use lib.ListN.{length, getD, set, replicate, length-set, getD-replicate}
+use lib.ListN.{length, getD, set, replicate, length-set}
 use lib.Seq.{getD-set-same, getD-set-other}
 use lib.Dec.{eqb, leb}
 use borrow.Author.Tests.{eqb-true, eq-eqb, ne-eqb, le-leb, leb-true, not-true}
@@ -21,324 +22,264 @@ use Rattle.model.specs.Trace.{thread, source, issue?, load?, Issue, Load, stret
 use Rattle.model.specs.HappensBefore.{AtOrBefore}
 use Rattle.model.specs.Rules.{Accepted}
 use Rattle.model.specs.Clocks.{covers?}
-use Rattle.model.specs.Windows.{Brings, Has, behind}
+use Rattle.model.specs.Windows.{Brings, Has}
 use Rattle.model.specs.Windows as windows
 use Rattle.model.proofs.Searching.{test, both, parts, false-true, same?, eqb-same, second-fails, last-none}
 use Rattle.model.proofs.Counting.{stretch-mono}
-use Rattle.model.proofs.Roles.{one-kind, issue-or-not, load-or-not}
+use Rattle.model.proofs.Roles.{issue-or-not, load-or-not}
 use Rattle.model.proofs.Ordering.{at-or-before-le}
 use Rattle.model.proofs.Clocks.{covers-exactly}
 use Rattle.model.proofs.Acceptance.{event-bound, source-early, store-not-0}
 use Rattle.model.proofs.Ranges.{issue-has-thread, load-has-thread, thread-bound}
-use Rattle.model.proofs.WindowPlaces.{store-behind, load-no-issue, source-before}
-use Rattle.area.specs.Cells.{getRow, coversW, up}
+use Rattle.model.proofs.WindowPlaces.{store-behind}
+use Rattle.area.specs.Cells.{getRow, coversW}
 use Rattle.area.specs.Rows.{Rows}
 use Rattle.area.proofs.Covering.{covers-is, other-stretch}
-use Rattle.area.proofs.ReadBack.{up-is}
-use Rattle.windows.specs.Finding.{notedMissing, notedStore, notedLoad, noted}
-use Rattle.windows.proofs.Shown.{has?, firstShown, lasts?, lastShown, Shown, →has, has-or-not, not-has, shown-first}
-use Rattle.windows.proofs.Shown.{shown-none, shown-some, first-stays, first-keeps, first-comes}
+use Rattle.area.proofs.ReadBack.{up-is, cleared-at}
+use Rattle.windows.specs.Finding.{notedMissing, endsW, notedStore, bringsW, notedLoad, noted}
+use Rattle.windows.proofs.Shown.{has?, firstShown, lasts?, lastShown, Shown, →has, has-or-not, not-has}
+use Rattle.windows.proofs.Shown.{shown-first, shown-none, shown-some, first-keeps, first-comes}
 
--- ---- sixteen numbers, eight for each end
+-- ---- a number noted
 
-module _ (found : List ℕ) (size : length found ≡ 16) (T v t : ℕ) (T-below : T < 8) (t-below : t < 8) where
-  last-stored : getD (set found (8 + T) v) (8 + t) 0 ≡ cond (eqb T t) v (getD found (8 + t) 0)
-  last-stored = by-thread (same? T t)
-    where
-      by-thread :
-          (T ≡ t) ⊎ (T ≢ t) → getD (set found (8 + T) v) (8 + t) 0 ≡ cond (eqb T t) v (getD found (8 + t) 0)
-      by-thread (inl same) =
-          rw (eq-eqb T t same, same) (getD-set-same found (8 + t) v 0 (omega arith))
-      by-thread (inr other) =
-          rw (ne-eqb T t other) (getD-set-other found (8 + T) (8 + t) v 0 (λ same. other (omega arith)))
+-- in the half of the sixteen that begins at k, for thread T
+stored :
+    (found : List ℕ) → length found ≡ 16 → (k T v t : ℕ) → k + t < 16
+    → getD (set found (k + T) v) (k + t) 0 ≡ cond (eqb T t) v (getD found (k + t) 0)
+stored found size k T v t inside = by-thread (same? T t)
+  where
+    by-thread : (T ≡ t) ⊎ (T ≢ t) → getD (set found (k + T) v) (k + t) 0 ≡ cond (eqb T t) v (getD found (k + t) 0)
+    by-thread (inl same) = rw (eq-eqb T t same, same) (getD-set-same found (k + t) v 0 (omega arith))
+    by-thread (inr other) =
+        rw (ne-eqb T t other) (getD-set-other found (k + T) (k + t) v 0 (λ same. other (omega arith)))
 
-  first-stored : getD (set found T v) t 0 ≡ cond (eqb T t) v (getD found t 0)
-  first-stored = by-thread (same? T t)
-    where
-      by-thread : (T ≡ t) ⊎ (T ≢ t) → getD (set found T v) t 0 ≡ cond (eqb T t) v (getD found t 0)
-      by-thread (inl same) = rw (eq-eqb T t same, same) (getD-set-same found t v 0 (omega arith))
-      by-thread (inr other) = rw (ne-eqb T t other) (getD-set-other found T t v 0 (λ same. other (sym same)))
+module _
+    (ev : ℕ → Event) (p q : ℕ) {n m : ℕ} {found : List ℕ} (shown : Shown ev p q n m found)
+    (T v : ℕ) (T-below : T < 8) where
+  -- the first places after one event more, where v is noted for thread T or nothing is
+  first-noted :
+      (opens : Bool)
+      → ((t : ℕ) → firstShown ev p q (suc n) t ≡ cond (opens && eqb T t) v (firstShown ev p q n t))
+      → Shown ev p q (suc n) m (opens gives set found T v else found)
+  first-noted true comes = record {
+    size = length-set found T v ∙ shown .size;
+    firsts = λ t below.
+        (simp zero-add at (stored found (shown .size) 0 T v t (omega arith)))
+        ∙ (rw (shown .firsts t below) refl ∙ sym (comes t));
+    lasts = λ t below. getD-set-other found T (8 + t) v 0 (λ same. omega arith) ∙ shown .lasts t below;
+  }
+  first-noted false comes = record {
+    size = shown .size;
+    firsts = λ t below. shown .firsts t below ∙ sym (comes t);
+    lasts = shown .lasts;
+  }
 
-  first-beside-last : getD (set found (8 + T) v) t 0 ≡ getD found t 0
-  first-beside-last = getD-set-other found (8 + T) t v 0 (λ same. omega arith)
-
-  last-beside-first : getD (set found T v) (8 + t) 0 ≡ getD found (8 + t) 0
-  last-beside-first = getD-set-other found T (8 + t) v 0 (λ same. omega arith)
+  -- the last places
+  last-noted :
+      (ends : Bool)
+      → ((t : ℕ) → lastShown ev p q (suc m) t ≡ cond (ends && eqb T t) v (lastShown ev p q m t))
+      → Shown ev p q n (suc m) (ends gives set found (8 + T) v else found)
+  last-noted true comes = record {
+    size = length-set found (8 + T) v ∙ shown .size;
+    firsts = λ t below. getD-set-other found (8 + T) t v 0 (λ same. omega arith) ∙ shown .firsts t below;
+    lasts = λ t below.
+        stored found (shown .size) 8 T v t (omega arith) ∙ (rw (shown .lasts t below) refl ∙ sym (comes t));
+  }
+  last-noted false comes = record {
+    size = shown .size;
+    firsts = shown .firsts;
+    lasts = λ t below. shown .lasts t below ∙ sym (comes t);
+  }
 
 -- the tests of a last place, of thread T where t is asked for, in the code's order
 test-in-turn :
-    (T t : ℕ) (covered : Bool) (has : ℕ → Bool) → (eqb T t && covered && has t) ≡ ((has T && covered) && eqb T t)
+    (T t : ℕ) (covered : Bool) (has : ℕ → Bool) → (eqb T t && covered && has t) ≡ (covered && has T && eqb T t)
 test-in-turn T t covered has = by-thread (same? T t)
   where
-    in-turn : (a b : Bool) → (a && b) ≡ ((b && a) && true)
-    in-turn true true = refl
-    in-turn true false = refl
-    in-turn false true = refl
-    in-turn false false = refl
-
-    by-thread : (T ≡ t) ⊎ (T ≢ t) → (eqb T t && covered && has t) ≡ ((has T && covered) && eqb T t)
-    by-thread (inl same) = rw (same, eqb-same t) (in-turn covered (has t))
-    by-thread (inr other) = rw (ne-eqb T t other, second-fails (has T && covered) false refl) refl
+    by-thread : (T ≡ t) ⊎ (T ≢ t) → (eqb T t && covered && has t) ≡ (covered && has T && eqb T t)
+    by-thread (inl same) = rw (same, eqb-same t) (sym (and-true (covered && has t)))
+    by-thread (inr other) = rw (ne-eqb T t other) (sym (and-false (covered && has T)))
 
 module _
     (ev : ℕ → Event) (p q N : ℕ) (accepted : Accepted ev N) (work : List ℕ) (rows : Rows ev N work)
     (p-store : Issue ev p) (q-store : Issue ev q) (in-stretch : stretch ev p ≡ stretch ev q) (q-early : q < N) where
   -- ---- up to p
 
-  -- what brings p comes behind it: its source is p or a later store, and comes before it
-  brings-late : (l : ℕ) → l < N → Brings ev p l → p < l
-  brings-late l inside brings =
-      omega (
-        arith,
-        at-or-before-le ev p (source ev l) (brings .from),
-        source-before ev N accepted inside p-store brings,
-      )
-
-  -- no thread has p before p
+  -- no thread has p before p: what brings p comes behind its source, which is p or a later store
   not-before : (n t : ℕ) → n ≤ p → p < N → ¬ Has ev p t n
   not-before n t early inside (inl (is-own, late)) = omega arith
   not-before n t early inside (inr (other, (l, late, by-t, brings))) =
-      omega (arith, brings-late l (omega arith) brings)
+      omega (
+        arith,
+        at-or-before-le ev p (source ev l) (brings .from),
+        source-early ev N accepted l (omega arith) (brings .loads),
+      )
 
-  -- behind p only its own thread has it
-  first-own : p < N → (t : ℕ) → firstShown ev p q (suc p) t ≡ cond (eqb (thread ev p) t) (suc p) 0
-  first-own inside t = by-thread (same? (thread ev p) t)
-    where
-      by-thread :
-          (thread ev p ≡ t) ⊎ (thread ev p ≢ t) → firstShown ev p q (suc p) t ≡ cond (eqb (thread ev p) t) (suc p) 0
-      by-thread (inl own) =
-          rw (eq-eqb (thread ev p) t own)
-          (shown-first ev p q p-store (suc p) t (suc p) (inl (sym own, omega arith)) (windows.own (sym own)))
-      by-thread (inr other) =
-          rw (ne-eqb (thread ev p) t other) (shown-none ev p q p-store (suc p) t not-yet)
-        where
-          not-yet : ¬ Has ev p t (suc p)
-          not-yet (inl (is-own, late)) = other (sym is-own)
-          not-yet (inr (differs, (l, late, by-t, brings))) = omega (arith, brings-late l (omega arith) brings)
-
-  last-own : p < N → (t : ℕ) → lastShown ev p q (suc p) t ≡ 0
+  -- right behind it only its own thread has it
+  pub shown-missing : p < N → Shown ev p q (suc p) (suc p) (notedMissing (replicate 16 0) (thread ev p) p)
   unfolding lastShown
-  last-own inside t =
-      last-none (suc p) (lasts? ev p q t)
-      (λ e early.
-      second-fails (issue? ev e && eqb (thread ev e) t && covers? ev e q) (has? ev p q e t)
-      (not-has ev p q p-store e t (not-before e t (omega arith) inside)))
-
-  pub shown-missing : p < N → Shown ev p q (suc p) (notedMissing (replicate 16 0) (thread ev p) p)
   shown-missing inside =
       rw (mod-eq-of-lt own-below, up-is p (omega (arith, event-bound ev N accepted p inside)))
-      (record {
-        size = length-set (replicate 16 0) (thread ev p) (suc p);
-        firsts = λ t below.
-            first-stored (replicate 16 0) refl (thread ev p) (suc p) t own-below below
-            ∙ (rw (zero-at t (omega arith)) refl ∙ sym (first-own inside t));
-        lasts = λ t below.
-            last-beside-first (replicate 16 0) refl (thread ev p) (suc p) t own-below below
-            ∙ (zero-at (8 + t) (omega arith) ∙ sym (last-own inside t));
-      })
+      (first-noted ev p q none-yet (thread ev p) (suc p) own-below true comes)
     where
-      zero-at : (i : ℕ) → i < 16 → _≡_ {A = ℕ} (getD (replicate 16 0) i 0) 0
-      zero-at i below = getD-replicate {A = ℕ} 16 i 0 0 below
-
       own-below : thread ev p < 8
       own-below = thread-bound ev N accepted p inside (issue-has-thread ev p-store)
 
+      none-yet : Shown ev p q p (suc p) (replicate 16 0)
+      none-yet = record {
+        size = refl;
+        firsts = λ t below. cleared-at 16 t ∙ sym (shown-none ev p q p-store p t (not-before p t (omega arith) inside));
+        lasts = λ t below.
+            cleared-at 16 (8 + t)
+            ∙ sym
+            (last-none (suc p) (lasts? ev p q t)
+            (λ e early.
+            second-fails (issue? ev e && eqb (thread ev e) t && covers? ev e q) (has? ev p q e t)
+            (not-has ev p q p-store e t (not-before e t (omega arith) inside))));
+      }
+
+      comes : (t : ℕ) → firstShown ev p q (suc p) t ≡ cond (eqb (thread ev p) t) (suc p) (firstShown ev p q p t)
+      comes t = by-thread (same? (thread ev p) t)
+        where
+          by-thread :
+              (thread ev p ≡ t) ⊎ (thread ev p ≢ t)
+              → firstShown ev p q (suc p) t ≡ cond (eqb (thread ev p) t) (suc p) (firstShown ev p q p t)
+          by-thread (inl own) =
+              rw (eq-eqb (thread ev p) t own)
+              (shown-first ev p q p-store (suc p) t (suc p) (inl (sym own, omega arith)) (windows.own (sym own)))
+          by-thread (inr other) =
+              rw (ne-eqb (thread ev p) t other)
+              (first-keeps ev p q p-store p t (λ own. absurd (other (sym own))) (λ by-t. absurd (other by-t)))
+
   -- ---- one event more, behind p and no later than q
 
-  module _ (n : ℕ) (later : p < n) (within : n ≤ q) (found : List ℕ) (shown : Shown ev p q n found) where
-    -- where nothing is noted, and there is nothing to show
-    unchanged :
-        ((t : ℕ) → firstShown ev p q (suc n) t ≡ firstShown ev p q n t)
-        → ((t : ℕ) → lastShown ev p q (suc n) t ≡ lastShown ev p q n t)
-        → Shown ev p q (suc n) found
-    unchanged first-same last-same = record {
-      size = shown .size;
-      firsts = λ t below. shown .firsts t below ∙ sym (first-same t);
-      lasts = λ t below. shown .lasts t below ∙ sym (last-same t);
-    }
+  module _ (n : ℕ) (later : p < n) (within : n ≤ q) where
+    -- its thread and its source
+    abbrev T : ℕ
+    T = thread ev n
 
-    -- an event that brings nothing leaves the first places
-    firsts-keep : ¬ Brings ev p n → (t : ℕ) → firstShown ev p q (suc n) t ≡ firstShown ev p q n t
-    firsts-keep brings-not t = first-keeps ev p q p-store n t later (λ by-t. brings-not)
+    abbrev s : ℕ
+    s = source ev n
 
-    -- only a store shows a last place
-    last-keeps : issue? ev n ≡ false → (t : ℕ) → lastShown ev p q (suc n) t ≡ lastShown ev p q n t
-    unfolding lastShown last
-    last-keeps no-store t = rw no-store refl
+    -- where the code looks for its thread's places
+    abbrev i : ℕ
+    i = getRow work n 8 % 8
 
-    -- a store
-    module _ (store : Issue ev n) where
-      abbrev T : ℕ
-      T = thread ev n
+    -- as a store. One that is none is covered by none: its row has no stretch
+    pub shown-store : {found : List ℕ} → Shown ev p q n n found → Shown ev p q n (suc n) (notedStore work q found n)
+    unfolding notedStore lastShown last
+    shown-store {found} shown =
+        last-noted ev p q shown i n (omega arith) (endsW work q found n i) (λ t. comes t (issue-or-not ev n))
+      where
+        comes :
+            (t : ℕ) → Issue ev n ⊎ (issue? ev n ≡ false)
+            → lastShown ev p q (suc n) t ≡ cond (endsW work q found n i && eqb i t) n (lastShown ev p q n t)
+        comes t (inl store) =
+            let T-below = thread-bound ev N accepted n (omega arith) (issue-has-thread ev store) in
+            rw (
+              covers-is ev N accepted work rows n q (omega arith) store q-early q-store,
+              rows .stores n (omega arith) store .thread-is,
+              mod-eq-of-lt T-below,
+              shown .firsts T T-below,
+              shown-some ev p q p-store n T,
+              store .test,
+              test-in-turn T t (covers? ev n q) (has? ev p q n),
+            )
+            refl
+        comes t (inr no-store) =
+            let differs =
+            other-stretch ev N accepted work rows n q (omega arith) (omega arith) no-store q-early q-store
+            in
+            rw (no-store, ne-eqb (getRow work n 10) (getRow work q 10) differs) refl
 
-      T-below : T < 8
-      T-below = thread-bound ev N accepted n (omega arith) (issue-has-thread ev store)
+    -- what brings nothing that its thread does not have leaves the first places
+    firsts-keep :
+        (Brings ev p n → Has ev p T n) → (t : ℕ) → firstShown ev p q (suc n) t ≡ firstShown ev p q n t
+    firsts-keep had t = first-keeps ev p q p-store n t (λ own. later) (λ by-t brings. rw by-t at (had brings))
 
-      no-load : ¬ Brings ev p n
-      no-load brings = load-no-issue ev (brings .loads) store
-
-      -- what the code asks of the rows
-      covered : coversW work n q ≡ covers? ev n q
-      covered = covers-is ev N accepted work rows n q (omega arith) store q-early q-store
-
-      last-comes :
-          (t : ℕ)
-          → lastShown ev p q (suc n) t
-          ≡ cond ((has? ev p q n T && covers? ev n q) && eqb T t) n (lastShown ev p q n t)
-      unfolding lastShown last
-      last-comes t =
-          rw (store .test, test-in-turn T t (covers? ev n q) (has? ev p q n)) refl
-
-      -- what is noted, or not, is shown: by whether the thread has p, and whether q covers the store
-      shown-store :
-          Shown ev p q (suc n) (covers? ev n q gives notedStore found n T else found)
-      shown-store =
-          rw (mod-eq-of-lt T-below, shown .firsts T T-below, shown-some ev p q p-store n T)
-          (by-test (covers? ev n q) (has? ev p q n T) last-comes)
-        where
-          by-test :
-              (covers has : Bool)
-              → ((t : ℕ) → lastShown ev p q (suc n) t ≡ cond ((has && covers) && eqb T t) n (lastShown ev p q n t))
-              → Shown ev p q (suc n) (covers gives (has gives set found (8 + T) n else found) else found)
-          by-test true true comes = record {
-            size = length-set found (8 + T) n ∙ shown .size;
-            firsts = λ t below.
-                first-beside-last found (shown .size) T n t T-below below
-                ∙ (shown .firsts t below ∙ sym (firsts-keep no-load t));
-            lasts = λ t below.
-                last-stored found (shown .size) T n t T-below below
-                ∙ (rw (shown .lasts t below) refl ∙ sym (comes t));
-          }
-          by-test true false comes = unchanged (firsts-keep no-load) comes
-          by-test false true comes = unchanged (firsts-keep no-load) comes
-          by-test false false comes = unchanged (firsts-keep no-load) comes
-
-    -- a load
+    -- as a load
     module _ (loads : Load ev n) where
-      -- its thread and its source
-      abbrev U : ℕ
-      U = thread ev n
+      s-early : s < N
+      s-early = omega (arith, source-early ev N accepted n (omega arith) loads)
 
-      abbrev s : ℕ
-      s = source ev n
+      covers-source : Issue ev s → coversW work p s ≡ covers? ev p s
+      covers-source store = covers-is ev N accepted work rows p s (omega arith) p-store s-early store
 
-      U-below : U < 8
-      U-below = thread-bound ev N accepted n (omega arith) (load-has-thread ev loads)
-
-      n-here : stretch ev n ≡ stretch ev p
-      n-here = omega (arith, stretch-mono ev p n (omega arith), stretch-mono ev n q within)
-
-      -- what the code asks of the source says whether the load brings p
-      brings-test : (leb p s && coversW work p s) ≡ true → Brings ev p n
-      brings-test passes =
-          let (late, covered) = parts (leb p s) _ passes in
-          let from = by-store (leb-true _ _ late) covered (issue-or-not ev s) in
-          record { loads = loads; in-stretch = n-here; from = from }
+      -- what is asked of the source says whether the load brings p
+      brings-exactly : (bringsW work p s ≡ true) ↔ Brings ev p n
+      brings-exactly = (brings→, →brings)
         where
-          s-early : s < N
-          s-early = omega (arith, source-early ev N accepted n (omega arith) loads)
-
           by-store : p ≤ s → coversW work p s ≡ true → Issue ev s ⊎ (issue? ev s ≡ false) → AtOrBefore ev p s
           by-store late covered (inl store) =
-              covers-exactly ev p s p-store store .0
-              (sym (covers-is ev N accepted work rows p s (omega arith) p-store s-early store) ∙ covered)
+              covers-exactly ev p s p-store store .0 (sym (covers-source store) ∙ covered)
           by-store late covered (inr no-store) =
               let some-p = store-not-0 ev N accepted p-store in
               let one-stretch = parts (eqb (getRow work p 10) (getRow work s 10)) _ covered .0 in
               absurd
-              (other-stretch ev N accepted work rows s p (omega arith) s-early no-store (omega arith) p-store
-              (sym (eqb-true (getRow work p 10) (getRow work s 10) one-stretch)))
+              (other-stretch ev N accepted work rows s p (omega arith) s-early no-store (omega arith)
+              p-store (sym (eqb-true (getRow work p 10) (getRow work s 10) one-stretch)))
 
-      →brings-test : Brings ev p n → (leb p s && coversW work p s) ≡ true
-      →brings-test brings =
-          let store = store-behind ev p-store (brings .from) in
-          both _ _ (le-leb _ _ (at-or-before-le ev p s (brings .from)))
-          (covers-is ev N accepted work rows p s (omega arith) p-store
-          (omega (arith, source-early ev N accepted n (omega arith) loads)) store
-          ∙ covers-exactly ev p s p-store store .1 (brings .from))
+          brings→ : bringsW work p s ≡ true → Brings ev p n
+          brings→ passes =
+              let (late, covered) = parts (leb p s) _ passes in
+              record {
+                loads = loads;
+                in-stretch = omega (arith, stretch-mono ev p n (omega arith), stretch-mono ev n q within);
+                from = by-store (leb-true _ _ late) covered (issue-or-not ev s);
+              }
 
-      no-issue : issue? ev n ≡ false
-      no-issue = one-kind ev n 4 2 (λ is. omega arith) (loads .test)
+          →brings : Brings ev p n → bringsW work p s ≡ true
+          →brings brings =
+              let store = store-behind ev p-store (brings .from) in
+              both _ _ (le-leb _ _ (at-or-before-le ev p s (brings .from)))
+              (covers-source store ∙ covers-exactly ev p s p-store store .1 (brings .from))
 
-      -- nothing is noted where t has p already, or the load does not bring it
-      unnoted : Has ev p U n ⊎ (¬ Brings ev p n) → Shown ev p q (suc n) found
-      unnoted why = unchanged (λ t. keeps t (same? U t) why) (last-keeps no-issue)
-        where
-          keeps :
-              (t : ℕ) → (U ≡ t) ⊎ (U ≢ t) → Has ev p U n ⊎ (¬ Brings ev p n)
-              → firstShown ev p q (suc n) t ≡ firstShown ev p q n t
-          keeps t (inl same) (inl has) = rw same at (first-stays ev p q p-store n U has)
-          keeps t (inr other) (inl has) = first-keeps ev p q p-store n t later (λ by-t. absurd (other by-t))
-          keeps t thread-is (inr brings-not) = firsts-keep brings-not t
-
-      noted-first : ¬ Has ev p U n → Brings ev p n → Shown ev p q (suc n) (set found U (suc n))
-      noted-first not-yet brings = record {
-        size = length-set found U (suc n) ∙ shown .size;
-        firsts = λ t below.
-            first-stored found (shown .size) U (suc n) t U-below below ∙ sym (comes t below (same? U t));
-        lasts = λ t below.
-            last-beside-first found (shown .size) U (suc n) t U-below below
-            ∙ (shown .lasts t below ∙ sym (last-keeps no-issue t));
-      }
-        where
-          comes :
-              (t : ℕ) → t < 8 → (U ≡ t) ⊎ (U ≢ t)
-              → firstShown ev p q (suc n) t ≡ cond (eqb U t) (suc n) (getD found t 0)
-          comes t below (inl same) =
-              rw (eq-eqb U t same) (rw same at (first-comes ev p q p-store n U later not-yet refl brings))
-          comes t below (inr other) =
-              rw (ne-eqb U t other, shown .firsts t below)
-              (first-keeps ev p q p-store n t later (λ by-t. absurd (other by-t)))
-
-      shown-load : Shown ev p q (suc n) (notedLoad work p found n U s)
-      shown-load =
+      pub shown-load :
+          {m : ℕ} {found : List ℕ} → Shown ev p q n m found → Shown ev p q (suc n) m (notedLoad work p found n T s)
+      unfolding notedLoad
+      shown-load {m} {found} shown =
           rw (
-            mod-eq-of-lt U-below,
+            mod-eq-of-lt T-below,
             up-is n (omega (arith, event-bound ev N accepted n (omega arith))),
-            shown .firsts U U-below,
+            shown .firsts T T-below,
           )
-          (by-has (has-or-not ev p q p-store n U) (test (leb p s && coversW work p s)))
+          (first-noted ev p q shown T (suc n) T-below (eqb (firstShown ev p q n T) 0 && bringsW work p s)
+          (λ t. comes t (same? T t) (has-or-not ev p q p-store n T) (test (bringsW work p s))))
         where
-          by-has :
-              Has ev p U n ⊎ (¬ Has ev p U n)
-              → ((leb p s && coversW work p s) ≡ true) ⊎ ((leb p s && coversW work p s) ≡ false)
-              → Shown ev p q (suc n)
-              ((eqb (firstShown ev p q n U) 0 && (leb p s && coversW work p s)) gives set found U (suc n) else found)
-          by-has (inl has) passes =
-              rw (not-true (eqb (firstShown ev p q n U) 0) (shown-some ev p q p-store n U ∙ →has ev p q p-store n U has))
-              (unnoted (inl has))
-          by-has (inr not-yet) (inl passes) =
-              rw (shown-none ev p q p-store n U not-yet, passes) (noted-first not-yet (brings-test passes))
-          by-has (inr not-yet) (inr fails) =
-              rw (shown-none ev p q p-store n U not-yet, fails)
-              (unnoted (inr (λ brings. false-true (sym fails ∙ →brings-test brings))))
+          T-below : T < 8
+          T-below = thread-bound ev N accepted n (omega arith) (load-has-thread ev loads)
 
-    -- an event that is no store is covered by none: its row has no stretch
-    not-covered : issue? ev n ≡ false → coversW work n q ≡ false
-    not-covered no-store =
-        let differs =
-        other-stretch ev N accepted work rows n q (omega arith) (omega arith) no-store q-early q-store
-        in
-        rw (ne-eqb (getRow work n 10) (getRow work q 10) differs) refl
+          comes :
+              (t : ℕ) → (T ≡ t) ⊎ (T ≢ t) → Has ev p T n ⊎ (¬ Has ev p T n)
+              → (bringsW work p s ≡ true) ⊎ (bringsW work p s ≡ false)
+              → firstShown ev p q (suc n) t
+              ≡ cond (eqb (firstShown ev p q n T) 0 && bringsW work p s && eqb T t) (suc n) (firstShown ev p q n t)
+          comes t thread-is (inl has) passes =
+              let there = shown-some ev p q p-store n T ∙ →has ev p q p-store n T has in
+              rw (not-true (eqb (firstShown ev p q n T) 0) there)
+              (firsts-keep (λ brings. has) t)
+          comes t (inl same) (inr not-yet) (inl passes) =
+              rw (shown-none ev p q p-store n T not-yet, passes, eq-eqb T t same)
+              (rw same at (first-comes ev p q p-store n T later not-yet refl (brings-exactly .0 passes)))
+          comes t (inr other) (inr not-yet) (inl passes) =
+              rw (shown-none ev p q p-store n T not-yet, passes, ne-eqb T t other)
+              (first-keeps ev p q p-store n t (λ own. later) (λ by-t. absurd (other by-t)))
+          comes t thread-is (inr not-yet) (inr fails) =
+              rw (shown-none ev p q p-store n T not-yet, fails)
+              (firsts-keep (λ brings. false-true (sym fails ∙ brings-exactly .1 brings)) t)
 
     -- ONE EVENT MORE IS SHOWN BY WHAT IS NOTED OF IT
-    pub shown-next : (past : ℕ) → Shown ev p q (suc n) (noted work p q found n (asLoad (ev n) past))
+    pub shown-next :
+        {found : List ℕ} → Shown ev p q n n found → (past : ℕ)
+        → Shown ev p q (suc n) (suc n) (noted work p q found n (asLoad (ev n) past))
     unfolding noted
-    shown-next past = by-role (issue-or-not ev n) (load-or-not ev n)
+    shown-next {found} shown past = by-load (load-or-not ev n)
       where
-        brings-none : load? ev n ≡ false → ¬ Brings ev p n
-        brings-none no-loading brings = false-true (sym no-loading ∙ brings .loads .test)
-
-        by-role :
-            Issue ev n ⊎ (issue? ev n ≡ false) → Load ev n ⊎ (load? ev n ≡ false)
-            → Shown ev p q (suc n) (noted work p q found n (asLoad (ev n) past))
-        by-role (inl store) role =
-            rw (one-kind ev n 2 4 (λ is. omega arith) (store .test))
-            (subst
-            (λ (b : Bool). Shown ev p q (suc n) (b gives notedStore found n (getRow work n 8) else found))
-            (sym (covered store))
-            (rw (rows .stores n (omega arith) store .thread-is) (shown-store store)))
-        by-role (inr no-store) (inl loads) = rw (not-covered no-store, loads .test) (shown-load loads)
-        by-role (inr no-store) (inr no-loading) =
-            rw (not-covered no-store, no-loading)
-            (unchanged (firsts-keep (brings-none no-loading)) (last-keeps no-store))
+        by-load :
+            Load ev n ⊎ (load? ev n ≡ false)
+            → Shown ev p q (suc n) (suc n) (noted work p q found n (asLoad (ev n) past))
+        by-load (inl loads) = rw (loads .test) (shown-load loads (shown-store shown))
+        by-load (inr no-loading) =
+            rw no-loading
+            (first-noted ev p q (shown-store shown) 0 0 (omega arith) false
+            (firsts-keep (λ brings. false-true (sym no-loading ∙ brings .loads .test))))

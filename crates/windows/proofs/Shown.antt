@@ -1,5 +1,6 @@
--- What the records before event n have shown of each thread (`Shown`): the first place comes with the first event that
--- brings the missing store p, the last with each later store that is the observed one, q, or happens before it.
+-- What the records have shown of each thread (`Shown`): the first place comes with the first load that brings the
+-- missing store p, the last with each later store that is the observed one, q, or happens before it. The loads and the
+-- stores are counted apart, for an event may be both.
 -- In order: what is shown; how the first places go on over event n.
 use Prim.Native.Nat.{ℕ, suc, _+_, _<_}
 use native.Mathlib.Omega.{arith}
@@ -38,10 +39,11 @@ module _ (ev : ℕ → Event) (p q : ℕ) where
   unfoldable pub lastShown : ℕ → ℕ → ℕ
   lastShown n t = last n (lasts? t)
 
-  pub record Shown (n : ℕ) (found : List ℕ) : Type 0 where
+  -- the numbers found are what the loads before event n and the stores before event m show
+  pub record Shown (n m : ℕ) (found : List ℕ) : Type 0 where
     pub size : length found ≡ 16
     pub firsts : (t : ℕ) → t < 8 → getD found t 0 ≡ firstShown n t
-    pub lasts : (t : ℕ) → t < 8 → getD found (8 + t) 0 ≡ lastShown n t
+    pub lasts : (t : ℕ) → t < 8 → getD found (8 + t) 0 ≡ lastShown m t
 
   module _ (p-store : Issue ev p) where
     pub has→ : (n t : ℕ) → has? n t ≡ true → Has ev p t n
@@ -86,36 +88,28 @@ module _ (ev : ℕ → Event) (p q : ℕ) where
 
     -- ---- how the first places go on, over event n
 
-    -- a thread that has p keeps its first place
-    pub first-stays : (n t : ℕ) → Has ev p t n → firstShown (suc n) t ≡ firstShown n t
-    first-stays n t has =
-        let starts = first-place ev p t p-store n (has-exactly ev p t p-store n .1 has) in
-        shown-first (suc n) t _ (has-still ev has (omega arith)) starts ∙ sym (shown-first n t _ has starts)
-
-    -- one that has not, and to which event n does not bring it, has it no more behind event n
-    first-lacks :
-        (n t : ℕ) → p < n → ¬ Has ev p t n → (thread ev n ≡ t → ¬ Brings ev p n)
-        → firstShown (suc n) t ≡ firstShown n t
-    first-lacks n t later not-yet brings-not =
-        shown-none (suc n) t still-not ∙ sym (shown-none n t not-yet)
-      where
-        still-not : ¬ Has ev p t (suc n)
-        still-not (inl (is-own, early)) = not-yet (inl (is-own, later))
-        still-not (inr (other, (l, early, by-t, brings))) = by-order (same? l n)
-          where
-            by-order : (l ≡ n) ⊎ (l ≢ n) → ⊥
-            by-order (inl same) = brings-not (rw same at by-t) (rw same at brings)
-            by-order (inr differs) = not-yet (inr (other, (l, omega arith, by-t, brings)))
-
+    -- a thread to which event n brings nothing that it does not have keeps its first place, or has none still
     pub first-keeps :
-        (n t : ℕ) → p < n → (thread ev n ≡ t → ¬ Brings ev p n) → firstShown (suc n) t ≡ firstShown n t
-    first-keeps n t later brings-not = by-has (has-or-not n t)
+        (n t : ℕ) → (t ≡ thread ev p → p < n) → (thread ev n ≡ t → Brings ev p n → Has ev p t n)
+        → firstShown (suc n) t ≡ firstShown n t
+    first-keeps n t later had = by-has (has-or-not n t)
       where
-        by-has : Has ev p t n ⊎ (¬ Has ev p t n) → firstShown (suc n) t ≡ firstShown n t
-        by-has (inl has) = first-stays n t has
-        by-has (inr not-yet) = first-lacks n t later not-yet brings-not
+        has-before : Has ev p t (suc n) → Has ev p t n
+        has-before (inl (is-own, early)) = inl (is-own, later is-own)
+        has-before (inr (other, (l, early, by-t, brings))) = by-order (same? l n)
+          where
+            by-order : (l ≡ n) ⊎ (l ≢ n) → Has ev p t n
+            by-order (inl same) = had (rw same at by-t) (rw same at brings)
+            by-order (inr differs) = inr (other, (l, omega arith, by-t, brings))
 
-    -- one to which it does has its first place right behind it
+        by-has : Has ev p t n ⊎ (¬ Has ev p t n) → firstShown (suc n) t ≡ firstShown n t
+        by-has (inl has) =
+            let starts = first-place ev p t p-store n (has-exactly ev p t p-store n .1 has) in
+            shown-first (suc n) t _ (has-still ev has (omega arith)) starts ∙ sym (shown-first n t _ has starts)
+        by-has (inr not-yet) =
+            shown-none (suc n) t (λ has. not-yet (has-before has)) ∙ sym (shown-none n t not-yet)
+
+    -- one to which it brings p first has its first place right behind it
     pub first-comes :
         (n t : ℕ) → p < n → ¬ Has ev p t n → thread ev n ≡ t → Brings ev p n → firstShown (suc n) t ≡ suc n
     first-comes n t later not-yet by-t brings = shown-first (suc n) t (suc n) has starts

@@ -2,7 +2,7 @@
 -- and the windows that this gives. The numbers found are thread t's first place at t and its last at 8 + t, 0 for none
 -- yet.
 use Prim.Native.Nat.{ℕ, zero, suc, _+_, _-_, _%_}
-use mathlib.Core.Bool.{not, _&&_}
+use mathlib.Core.Bool.{Bool, not, _&&_}
 use mathlib.Core.List.{List}
 use lib.ListN.{getD, set, replicate}
 use lib.Dec.{eqb, leb}
@@ -19,21 +19,32 @@ use Rattle.area.specs.Cells.{getRow, coversW, up}
 abbrev pub notedMissing : List ℕ → ℕ → ℕ → List ℕ
 notedMissing found t p = set found (t % 8) (up p)
 
--- store e of thread t, which is the observed store or happens before it
-abbrev pub notedStore : List ℕ → ℕ → ℕ → List ℕ
-notedStore found e t = not (eqb (getD found (t % 8) 0) 0) gives set found (8 + t % 8) e else found
+-- event e is the observed store q or a store that happens before it, and the first place at i is there. A store is
+-- known by its row: the stretch of any other event is 0
+abbrev pub endsW : List ℕ → ℕ → List ℕ → ℕ → ℕ → Bool
+endsW work q found e i = coversW work e q && not (eqb (getD found i 0) 0)
+
+-- event e as a store: its thread's last place so far, if the thread has its first
+unfoldable pub notedStore : List ℕ → ℕ → List ℕ → ℕ → List ℕ
+notedStore work q found e =
+    let i = getRow work e 8 % 8 in
+    endsW work q found e i gives set found (8 + i) e else found
+
+-- s is the missing store p or happens after it; no number below p is such a store
+abbrev pub bringsW : List ℕ → ℕ → ℕ → Bool
+bringsW work p s = leb p s && coversW work p s
 
 -- load e of thread t from s
-abbrev pub notedLoad : List ℕ → ℕ → List ℕ → ℕ → ℕ → ℕ → List ℕ
+unfoldable pub notedLoad : List ℕ → ℕ → List ℕ → ℕ → ℕ → ℕ → List ℕ
 notedLoad work p found e t s =
-    (eqb (getD found (t % 8) 0) 0 && (leb p s && coversW work p s)) gives set found (t % 8) (up e) else found
+    (eqb (getD found (t % 8) 0) 0 && bringsW work p s) gives set found (t % 8) (up e) else found
 
--- event e, with what its record says if it is a load. A store is known by its row: the stretch of any other event is 0
+-- event e, with what its record says if it loads: its store first, since the first place that its own load gives the
+-- thread is behind it
 unfoldable pub noted : List ℕ → ℕ → ℕ → List ℕ → ℕ → LoadAt → List ℕ
 noted work p q found e l =
-    coversW work e q gives notedStore found e (getRow work e 8) else
-    (l .loads) gives notedLoad work p found e (l .thread) (l .source) else
-    found
+    let stored = notedStore work q found e in
+    (l .loads) gives notedLoad work p stored e (l .thread) (l .source) else stored
 
 -- ---- the records
 

@@ -22,11 +22,15 @@ pub(crate) fn note_missing(found: &mut Found, t: u16, p: u16)
     found[slot(t)] = area::numbers::next_number(p);
 }
 
-// Store e of thread t is the observed store or happens before it: the last place so far, if the thread has its first.
-pub(crate) fn note_store(found: &mut Found, e: u16, t: u16)
-    ensures { λ _. ⌜ now (found .exit) ≡ notedStore (now (found .entry)) e t ⌝ }
+// If event e is the observed store q or a store that happens before it, it is its thread's last place so far, provided
+// that the thread has its first. A store is known by its row, whose stretch is not 0.
+pub(crate) fn note_store(found: &mut Found, work: &[u16], q: u16, e: u16)
+    ensures { λ _. ⌜ now (found .exit) ≡ notedStore (now (work .entry)) q (now (found .entry)) e ⌝ }
 {
-    let i = slot(t);
+    if !area::covers(work, e, q) {
+        return;
+    }
+    let i = slot(area::row_get(work, e, 8));
     if found[i] == 0 {
         return;
     }

@@ -13,14 +13,12 @@ fn difference(a: u16, b: u16) -> u16
     if a < b { 0 } else { a - b }
 }
 
-// Event e, with what its record says if it is a load. A store is known by its row, whose stretch is not 0.
+// Event e, with what its record says if it loads. Of an event that stores and loads the store is noted first: the first
+// place that its own load gives the thread is behind it, so the store cannot end that window.
 fn note(found: &mut Found, work: &[u16], p: u16, q: u16, e: u16, l: LoadAt)
     ensures { λ _. ⌜ now (found .exit) ≡ noted (now (work .entry)) p q (now (found .entry)) e l ⌝ }
 {
-    if area::covers(work, e, q) {
-        found::note_store(found, e, area::row_get(work, e, 8));
-        return;
-    }
+    found::note_store(found, work, q, e);
     if !l.loads {
         return;
     }

@@ -1,5 +1,6 @@
 -- The definition's tests, over what the calls answer.
 use borrow.Author.Tests.{eq-eqb, ne-eqb, le-leb, lt-leb, not-true, not-false}
+use Rattle.windows.specs.Finding.{notedLoad}
 use borrow.Author.Needs.{needs}
 use Rattle.windows.proofs.found.note_load.Statement.{statement}
 use Rattle.windows.proofs.found.note_load.Tie as tie
@@ -14,11 +15,13 @@ element-copy-out-if1 : tie.Need-element-copy-out-if1
 element-copy-out-if1 c = search needs
 
 returns : tie.Need-returns
+unfolding notedLoad
 returns c =
     let at-slot = c .before .before in
     simp (← (at-slot .slot .ensures .0), ne-eqb _ _ (c .if1 .taken))
 
 returns-2 : tie.Need-returns-2
+unfolding notedLoad
 returns-2 c =
     let at-if1 = c .before in
     simp (
@@ -31,6 +34,7 @@ covers-requires : tie.Need-covers-requires
 covers-requires c κs = search needs
 
 returns-3 : tie.Need-returns-3
+unfolding notedLoad
 returns-3 c =
     let at-if2 = c .before .before in
     let at-if1 = at-if2 .before in
@@ -52,6 +56,7 @@ element-write-found : tie.Need-element-write-found
 element-write-found c = search needs
 
 returns-4 : tie.Need-returns-4
+unfolding notedLoad
 returns-4 c =
     let at-if3 = c .before in
     let at-if2 = at-if3 .before .before in
