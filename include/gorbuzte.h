@@ -26,7 +26,7 @@ enum gorbuzte_answer {
     GORBUZTE_VERDICT,  /* one of gorbuzte_verdict */
     GORBUZTE_EVENTS,   /* events after the begin */
     GORBUZTE_SHARE,    /* robust: the share, in percent */
-    GORBUZTE_LOAD,     /* broken: the first event with which no choice explains the loads */
+    GORBUZTE_LOAD,     /* broken: the first event, of kind 4 or 12, with which no choice explains the loads */
     GORBUZTE_MISSING,  /* broken: the store that a load forbids */
     GORBUZTE_OBSERVED, /* broken: the store that a load observes */
     GORBUZTE_KIND,     /* broken: one of gorbuzte_kind */
@@ -38,7 +38,9 @@ enum gorbuzte_answer {
 /*
  * A flush fault says where the line of the missing store may be flushed: thread t may do so in front of the events from
  * answer[GORBUZTE_WINDOWS + 2 * t] to answer[GORBUZTE_WINDOWS + 2 * t + 1]; both are 0 if it has no window. The thread
- * of the observed store always has one. The thread of the missing store, which is primary, may have none.
+ * of the missing store, which is primary, may have none. The thread of the observed store has one, with one exception:
+ * it is not the primary thread, and the record of the observed store is a locked operation (kind 12) whose load is the
+ * thread's first, in the stretch of the two stores, of the missing store or of a store that happens after it.
  */
 
 enum gorbuzte_verdict { GORBUZTE_REFUSED = 0, GORBUZTE_ROBUST = 1, GORBUZTE_BROKEN = 2 };
@@ -61,14 +63,14 @@ enum gorbuzte_standing {
     GORBUZTE_NEITHER = 4
 };
 
-/* How the store that event `first` issues stands to that of event `second`, by happens-before. */
+/* How the store that event `first` issues (kind 2 or 12) stands to that of event `second`, by happens-before. */
 void gorbuzte_order(const uint8_t *trace, size_t trace_len, uint16_t *work, size_t work_len, uint16_t first,
                     uint16_t second, uint16_t answer[3]);
 
 /* The numbers of a record. What its kind does not have is 0. */
 enum gorbuzte_record {
     GORBUZTE_RECORD_REFUSAL, /* the refusal's number or 0 */
-    GORBUZTE_RECORD_KIND,    /* 1 to 11 */
+    GORBUZTE_RECORD_KIND,    /* 1 to 12 */
     GORBUZTE_VERSION,
     GORBUZTE_THREADS,
     GORBUZTE_LOCATIONS,

@@ -42,6 +42,16 @@ pub struct Counts {
     pub primary_without_window: u64,
     /// Those with windows of several threads.
     pub several_windows: u64,
+    /// Those whose observed store's thread has no window.
+    pub observing_without_window: u64,
+    /// Accepted traces with a locked operation.
+    pub locked: u64,
+    /// Broken traces whose load is a locked operation.
+    pub load_locked: u64,
+    /// Broken traces whose missing store is a locked operation's.
+    pub missing_locked: u64,
+    /// Broken traces whose observed store is a locked operation's.
+    pub observed_locked: u64,
     /// Refused traces, by the number of the refusal.
     pub refused: [u64; 14],
     /// Accepted traces that were also judged by trying all choices.
@@ -97,6 +107,9 @@ impl Comparison {
         let accepted = reference::accept(trace);
         let expected = accepted.as_ref().map(Accepted::verdict).map_err(|refusal| *refusal);
         self.count(&expected);
+        if let Ok(verdict) = &expected {
+            self.count_locked(&locked_operations(trace), verdict);
+        }
         self.check_judge(trace, &expected, random)?;
         same("fast judge", self.fast.judge(trace), expected)?;
         if random.once_in(2) {
@@ -136,6 +149,19 @@ impl Comparison {
             }
             Err(refusal) => &mut self.counts.refused[usize::from(refusal.number)],
         } += 1;
+    }
+
+    /// Counts what a verdict says of the locked operations of its trace.
+    fn count_locked(&mut self, operations: &[(u16, u16)], verdict: &Verdict) {
+        self.counts.locked += u64::from(!operations.is_empty());
+        let &Verdict::Broken { load, missing, observed, kind, .. } = verdict else { return };
+        let thread_of = |number| operations.iter().find(|(event, _)| *event == number).map(|(_, thread)| *thread);
+        self.counts.load_locked += u64::from(thread_of(load).is_some());
+        self.counts.missing_locked += u64::from(thread_of(missing).is_some());
+        self.counts.observed_locked += u64::from(thread_of(observed).is_some());
+        if let (Some(thread), Kind::Flush(windows)) = (thread_of(observed), kind) {
+            self.counts.observing_without_window += u64::from(windows.threads[usize::from(thread)].is_none());
+        }
     }
 
     /// Fills the work area with a number that is not 0. Gives that number.
@@ -317,6 +343,20 @@ fn check_frame(trace: &[u8], e: usize) -> Result<(), String> {
     let (library, expected) = (wrapper::frame(trace, e), reference::frame(trace, e));
     same("library, frame", library, expected)?;
     same("library, position of a frame", library.map(<[u8]>::as_ptr), expected.map(<[u8]>::as_ptr))
+}
+
+/// The event number and the thread of each locked operation of an accepted trace.
+fn locked_operations(trace: &[u8]) -> Vec<(u16, u16)> {
+    let mut at = 0;
+    let mut operations = Vec::new();
+    for number in 0.. {
+        let Ok((event, next)) = reference::read_at(trace, at) else { break };
+        if let Event::Locked { thread, .. } = event {
+            operations.push((number, thread));
+        }
+        at = next;
+    }
+    operations
 }
 
 /// All numbers of the library's answer; the windows thread by thread, so that a difference names the thread.

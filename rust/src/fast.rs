@@ -23,7 +23,7 @@ const NO_KIND: u32 = 1 << 16;
 
 /// The header of each kind's record as one number: the kind above its length.
 const HEADERS: [u32; 16] = {
-    let lengths = [0, 8, 6, 4, 8, 6, 6, 4, 4, 2, 4, 4];
+    let lengths = [0, 8, 6, 4, 8, 6, 6, 4, 4, 2, 4, 4, 8];
     let mut headers = [NO_KIND; 16];
     let mut kind = 1;
     while kind < lengths.len() {
@@ -239,11 +239,12 @@ impl Fast {
             2 => self.issue(event, self.thread(record)?, field(record, 6)).map(|()| &rest[8..]),
             3 => self.commit(self.thread(record)?).map(|()| &rest[6..]),
             4 => self.load(event, self.thread(record)?, field(record, 6), field(record, 8)).map(|()| &rest[10..]),
-            5 | 6 => self.thread(record).and_then(|_| self.flush(field(record, 6))).map(|()| &rest[8..]),
+            5 | 6 => self.thread(record).and_then(|_| self.check_location(field(record, 6))).map(|()| &rest[8..]),
             7 => self.thread(record).map(|_| &rest[6..]),
-            8 => self.mfence(self.thread(record)?).map(|()| &rest[6..]),
+            8 => self.check_empty_queue(self.thread(record)?).map(|()| &rest[6..]),
             9 => self.crash().map(|()| &rest[4..]),
             10 | 11 => self.skip(self.thread(record)?, kind == 10).map(|()| &rest[6..]),
+            12 => self.locked(event, self.thread(record)?, field(record, 6), field(record, 8)).map(|()| &rest[10..]),
             _ => Err(5),
         }
     }
@@ -276,40 +277,58 @@ impl Fast {
 
     #[inline(always)]
     fn commit(&mut self, thread: usize) -> Result<(), u16> {
-        let owner = &mut self.threads[thread];
+        let owner = &self.threads[thread];
         if owner.committed == owner.issued {
             return Err(10);
         }
-        owner.committed = self.stores[at(owner.committed)].next;
-        let store = &mut self.stores[at(owner.committed)];
-        let location = &mut self.locations[usize::from(store.location)];
+        let oldest = self.stores[at(owner.committed)].next;
+        self.take_effect(thread, oldest, self.stores[at(oldest)].location);
+        Ok(())
+    }
+
+    /// The oldest waiting store of a thread takes effect.
+    #[inline(always)]
+    fn take_effect(&mut self, thread: usize, oldest: Name, location: u16) {
+        self.threads[thread].committed = oldest;
+        let store = &mut self.stores[at(oldest)];
+        let location = &mut self.locations[usize::from(location)];
         store.call = self.call;
         store.older = location.last.store();
         store.forbidden = false;
         store.observed = false;
-        location.last = Last::new(self.stretch, owner.committed as u16);
-        Ok(())
+        location.last = Last::new(self.stretch, oldest as u16);
     }
 
     #[inline(always)]
     fn load(&mut self, event: Name, thread: usize, location: u16, source: u16) -> Result<(), u16> {
         let place = self.locations.get(usize::from(location)).ok_or(8_u16)?;
-        let reader = &mut self.threads[thread];
         let waiting = place.issued[thread];
-        if waiting > reader.committed {
+        if waiting > self.threads[thread].committed {
             return if source == waiting as u16 { Ok(()) } else { Err(9) };
         }
-        if place.last == Last::new(self.stretch, source) {
-            reader.clock = larger(&reader.clock, &self.stores[at(source as Name)].clock);
+        if self.load_last(thread, location, source) {
             return Ok(());
         }
+        let place = &self.locations[usize::from(location)];
         if place.counted == (place.last, source) {
             return Ok(());
         }
         self.crossing(event, thread, location, source)
     }
 
-    /// A load that is crossing and does not repeat the last counted load of its location, or that is refused.
+    /// Loads from the stretch's last store to the location, if that is the source, and gives whether it is. The store
+    /// happens before what the thread issues next.
+    #[inline(always)]
+    fn load_last(&mut self, thread: usize, location: u16, source: u16) -> bool {
+        let is_last = self.locations[usize::from(location)].last == Last::new(self.stretch, source);
+        if is_last {
+            let reader = &mut self.threads[thread];
+            reader.clock = larger(&reader.clock, &self.stores[at(source as Name)].clock);
+        }
+        is_last
+    }
+
+    /// A load that is crossing or refused. One that repeats the last counted load of its location need not come here.
     #[inline(never)]
     fn crossing(&mut self, event: Name, thread: usize, location: u16, source: u16) -> Result<(), u16> {
         if self.locations[usize::from(location)].last.stretch() == self.stretch.into() {
@@ -330,6 +349,33 @@ impl Fast {
                 self.evidence = Some(self.find_evidence(event));
             }
         }
+        Ok(())
+    }
+
+    /// A load, then the issue of a store and its commit. The load is judged before the store is the location's last.
+    #[inline(never)]
+    fn locked(&mut self, event: Name, thread: usize, location: u16, source: u16) -> Result<(), u16> {
+        self.check_location(location)?;
+        self.check_empty_queue(thread)?;
+        if !self.load_last(thread, location, source) {
+            return self.locked_crossing(event, thread, location, source);
+        }
+        self.issue_and_commit(event, thread, location)
+    }
+
+    /// A locked operation whose load is crossing, or that is refused. On its own, so that the other ones save no
+    /// registers.
+    #[inline(never)]
+    fn locked_crossing(&mut self, event: Name, thread: usize, location: u16, source: u16) -> Result<(), u16> {
+        self.crossing(event, thread, location, source)?;
+        self.issue_and_commit(event, thread, location)
+    }
+
+    /// The issue and the commit of a store by a thread that has no waiting store.
+    #[inline(always)]
+    fn issue_and_commit(&mut self, event: Name, thread: usize, location: u16) -> Result<(), u16> {
+        self.issue(event, thread, location)?;
+        self.take_effect(thread, event, location);
         Ok(())
     }
 
@@ -383,8 +429,9 @@ impl Fast {
         Evidence { load, missing, observed }
     }
 
+    /// Refusal 8 if there is no such location.
     #[inline(always)]
-    fn flush(&self, location: u16) -> Result<(), u16> {
+    fn check_location(&self, location: u16) -> Result<(), u16> {
         if usize::from(location) < self.locations.len() {
             Ok(())
         } else {
@@ -392,8 +439,9 @@ impl Fast {
         }
     }
 
+    /// Refusal 11 if the thread has a waiting store.
     #[inline(always)]
-    fn mfence(&self, thread: usize) -> Result<(), u16> {
+    fn check_empty_queue(&self, thread: usize) -> Result<(), u16> {
         if self.threads[thread].issued == self.threads[thread].committed {
             Ok(())
         } else {
@@ -431,7 +479,7 @@ impl Fast {
     /// The windows of a flush fault, by a pass over the records behind the missing store up to the observed one, which are
     /// of one stretch. A store whose clock, for the missing store's thread, is not below that store's own happens after
     /// it. A window opens behind the thread's first load of such a store, and ends at its last issue that the observed
-    /// store's clock reaches.
+    /// store's clock reaches. A locked operation that opens a window is in front of it, so it does not end it.
     #[cold]
     fn windows(&self, trace: &[u8], missing: Name, observed: Name) -> Windows {
         let [p, q] = [missing, observed].map(|name| &self.stores[at(name)]);
@@ -440,20 +488,22 @@ impl Fast {
         open[primary] = missing + 1;
         let mut threads = [None; THREADS];
         let mut rest = (0..missing + 1).fold(trace, |rest, _| behind(rest));
-        for event in missing + 1..observed + 1 {
+        let mut event = missing + 1;
+        while event <= observed {
             let record = rest.first_chunk().expect("a crash and a load come behind the observed store");
             let thread = usize::from(record[4]) & (THREADS - 1);
             let first = open[thread];
+            let reached = || self.stores[at(event)].clock[thread] <= q.clock[thread];
+            let brings = || self.stores[at(field(record, 8) as Name)].clock[primary] >= p.clock[primary];
             match record[2] {
-                2 if first != 0 && self.stores[at(event)].clock[thread] <= q.clock[thread] => {
+                2 | 12 if first != 0 && reached() => {
                     threads[thread] = Some(Window { first: first as u16, last: event as u16 });
                 }
-                4 if first == 0 && self.stores[at(field(record, 8) as Name)].clock[primary] >= p.clock[primary] => {
-                    open[thread] = event + 1;
-                }
+                4 | 12 if first == 0 && brings() => open[thread] = event + 1,
                 _ => {}
             }
             rest = behind(rest);
+            event += 1;
         }
         Windows { primary: primary as u16, threads }
     }
@@ -600,7 +650,7 @@ mod tests {
             let record = [2, 0, low, high];
             let expected = match kind {
                 9 => None,
-                1..=11 => Some(4),
+                1..=12 => Some(4),
                 _ => Some(3),
             };
             assert_eq!(unreadable(&record), expected);

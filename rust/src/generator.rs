@@ -8,6 +8,9 @@ mod mistakes;
 use draft::{Draft, Settings};
 use std::cell::Cell;
 
+/// The largest number of a kind.
+const KINDS: u16 = 12;
+
 /// A small pseudorandom generator (splitmix64).
 #[derive(Clone, Debug)]
 pub struct Random {

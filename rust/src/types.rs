@@ -157,4 +157,14 @@ pub enum Event {
         /// The thread that skips no more.
         thread: u16,
     },
+    /// Kind 12: a locked operation, such as a compare-and-swap. It is a load, the issue of a store to the same location
+    /// and its commit, with nothing between; the store has this record's event number.
+    Locked {
+        /// The thread that loads and stores, which has no waiting store.
+        thread: u16,
+        /// The location that is loaded and stored to.
+        location: u16,
+        /// The source of the load: the event number of the issue of the store that was read, or 0.
+        source: u16,
+    },
 }

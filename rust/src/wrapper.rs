@@ -17,7 +17,7 @@ pub fn judge(trace: &[u8]) -> Result<Verdict, Refusal> {
 ///
 /// # Errors
 ///
-/// The refusal (1 to 13) if the trace is not accepted, or 16 if one of the numbers is not that of an issue.
+/// The refusal (1 to 13) if the trace is not accepted, or 16 if one of the numbers is no issue's (kind 2 or 12).
 pub fn order(trace: &[u8], first: u16, second: u16) -> Result<Order, Refusal> {
     Judge::new().order(trace, first, second)
 }
@@ -55,7 +55,7 @@ impl Judge {
     ///
     /// # Errors
     ///
-    /// The refusal (1 to 13) if the trace is not accepted, or 16 if one of the numbers is not that of an issue.
+    /// The refusal (1 to 13) if the trace is not accepted, or 16 if one of the numbers is no issue's (kind 2 or 12).
     pub fn order(&mut self, trace: &[u8], first: u16, second: u16) -> Result<Order, Refusal> {
         order_with(trace, &mut self.work, first, second)
     }
@@ -90,7 +90,7 @@ pub fn judge_with(trace: &[u8], work: &mut [u16], cut: &mut [u16]) -> Result<Ver
 /// # Errors
 ///
 /// 14 if the work area is smaller than [`WORK`] numbers (it stays as it was then), the refusal (1 to 13) if the trace
-/// is not accepted, or 16 if one of the numbers is not that of an issue.
+/// is not accepted, or 16 if one of the numbers is no issue's (kind 2 or 12).
 pub fn order_with(trace: &[u8], work: &mut [u16], first: u16, second: u16) -> Result<Order, Refusal> {
     match ffi::order(trace, work, first, second) {
         [0, _, 1] => Ok(Order::Before),
@@ -155,7 +155,7 @@ fn window_of(first: u16, last: u16) -> Option<Window> {
     (first != 0 || last != 0).then_some(Window { first, last })
 }
 
-/// The event of a record's numbers; `None` if the kind is no number from 1 to 11.
+/// The event of a record's numbers; `None` if the kind is no number from 1 to 12.
 fn event_of(record: &[u16; ffi::RECORD]) -> Option<Event> {
     let [_, kind, version, threads, locations, thread, location, source] = *record;
     Some(match kind {
@@ -170,6 +170,7 @@ fn event_of(record: &[u16; ffi::RECORD]) -> Option<Event> {
         9 => Event::Crash,
         10 => Event::SkipOn { thread },
         11 => Event::SkipOff { thread },
+        12 => Event::Locked { thread, location, source },
         _ => return None,
     })
 }
@@ -188,5 +189,6 @@ pub(crate) fn record_of(event: &Event) -> [u16; ffi::RECORD] {
         Event::Crash => [0, 9, 0, 0, 0, 0, 0, 0],
         Event::SkipOn { thread } => [0, 10, 0, 0, 0, thread, 0, 0],
         Event::SkipOff { thread } => [0, 11, 0, 0, 0, thread, 0, 0],
+        Event::Locked { thread, location, source } => [0, 12, 0, 0, 0, thread, location, source],
     }
 }

@@ -3,9 +3,9 @@
 
 mod common;
 
-use common::session;
+use common::{session, windows};
 use gorbuzte::fast::Fast;
-use gorbuzte::{reference, Judge, Kind, Refusal, Verdict};
+use gorbuzte::{reference, Judge, Refusal, Verdict};
 
 /// Why, a trace, and the missing and the observed store, the primary thread and each thread's window.
 type Row = (&'static str, &'static str, &'static str);
@@ -86,24 +86,10 @@ const WINDOWS: &[Row] = &[
     ("a refused trace has none", "B1.1.2 I0.0 C0 I0.1 C0 X L0.0<0 L0.1<3 C0", "none"),
 ];
 
-/// What an answer says of windows.
-fn told(answer: &Result<Verdict, Refusal>) -> String {
-    let &Ok(Verdict::Broken { missing, observed, kind: Kind::Flush(windows), .. }) = answer else {
-        return "none".to_string();
-    };
-    let mut text = format!("{missing} before {observed}, primary {}", windows.primary);
-    for (thread, window) in windows.threads.iter().enumerate() {
-        if let Some(window) = window {
-            text += &format!(", thread {thread}: {} to {}", window.first, window.last);
-        }
-    }
-    text
-}
-
 /// Judges each trace with one judge.
 fn check(name: &str, mut judging: impl FnMut(&[u8]) -> Result<Verdict, Refusal>) {
     for (why, text, expected) in WINDOWS {
-        assert_eq!(told(&judging(&session(text))), *expected, "{name}, {why}");
+        assert_eq!(windows(&judging(&session(text))), *expected, "{name}, {why}");
     }
 }
 

@@ -46,6 +46,12 @@ fn print_counts(counts: &Counts, made: &[u64]) {
     println!("broken, flush: {}", counts.flush);
     println!("of them without a window of the primary thread: {}", counts.primary_without_window);
     println!("of them with windows of several threads: {}", counts.several_windows);
+    println!("of them without a window of the observed store's thread: {}", counts.observing_without_window);
+    println!("accepted, with a locked operation: {}", counts.locked);
+    println!(
+        "broken, with a locked operation as load: {}, as missing: {}, as observed: {}",
+        counts.load_locked, counts.missing_locked, counts.observed_locked
+    );
     for (refusal, number) in counts.refused.iter().enumerate().skip(1) {
         println!("refused {refusal}: {number}");
     }

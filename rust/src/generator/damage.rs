@@ -1,6 +1,9 @@
 //! Damage to the bytes of a trace, and random bytes.
 
-use super::Random;
+use super::{Random, KINDS};
+
+/// A bound of small numbers, the kinds among them.
+const SMALL: usize = KINDS as usize + 1;
 
 /// Damages a trace once or twice.
 pub fn damage(bytes: &mut Vec<u8>, random: &Random) {
@@ -14,9 +17,9 @@ fn damage_once(bytes: &mut Vec<u8>, random: &Random) {
         0 => bytes.truncate(place),
         1 => (0..=random.below(12)).for_each(|_| bytes.push(random.below(256) as u8)),
         2 if !bytes.is_empty() => bytes[place] ^= 1 << random.below(8),
-        3 if !bytes.is_empty() => bytes[place] = random.below(12) as u8,
+        3 if !bytes.is_empty() => bytes[place] = random.below(SMALL) as u8,
         4 if !bytes.is_empty() => drop(bytes.remove(place)),
-        5 => bytes.insert(place, random.below(12) as u8),
+        5 => bytes.insert(place, random.below(SMALL) as u8),
         6 if size > 0 => drop(bytes.drain(start..start + size)),
         7 if size > 0 => {
             let copy = bytes[start..start + size].to_vec();
@@ -24,7 +27,7 @@ fn damage_once(bytes: &mut Vec<u8>, random: &Random) {
             bytes.splice(at..at, copy);
         }
         8 if size > 0 => bytes[start] = random.pick(&[0, 1, 2, 3, 4, 6, 8, 9, 10, 255]),
-        9 if size > 4 => bytes[start + 4] = random.below(12) as u8,
+        9 if size > 4 => bytes[start + 4] = random.below(SMALL) as u8,
         10 if size > 0 => bytes[start..start + 4].fill(random.pick(&[0, 255])),
         _ => bytes.push(0),
     }
@@ -55,7 +58,7 @@ pub fn random_bytes(bytes: &mut Vec<u8>, random: &Random) {
         bytes.resize(random.below(70_000), random.pick(&[0, 1, 2, 9, 255]));
         return;
     }
-    let bound = random.pick(&[256, 12, 3]);
+    let bound = random.pick(&[256, SMALL, 3]);
     let count = random.below(48);
     (0..count).for_each(|_| bytes.push(random.below(bound) as u8));
 }

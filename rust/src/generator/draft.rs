@@ -11,14 +11,19 @@ pub struct Settings {
     pub flush: usize,
     pub fence: usize,
     pub skip: usize,
+    pub locked: usize,
     /// Of 100 steps, how many are hand-overs.
     hand_over: usize,
+    /// Of 100 steps, how many are compare-and-swap chains.
+    swap_chain: usize,
     /// Of 10,000 events, how many are crashes.
     pub crash: usize,
     /// The least commits of a stretch that ends in a crash.
     commits: usize,
     /// The most loads that follow a crash at once.
     loads_after_crash: usize,
+    /// Of 100 of them, how many are locked operations.
+    locked_after_crash: usize,
     /// What stays of a stretch's stores after a crash, as the loads see it.
     memory: Memory,
     /// Of 1,000 crossing loads, how many read anything that the load rule allows.
@@ -27,6 +32,9 @@ pub struct Settings {
 
 /// The events of a hand-over.
 const HAND_OVER: u16 = 3;
+
+/// The most events of a compare-and-swap chain.
+const SWAP_CHAIN: u16 = 6;
 
 /// What stays of a stretch's stores after a crash.
 #[derive(Clone, Copy)]
@@ -49,10 +57,13 @@ impl Settings {
             flush: random.below(2),
             fence: random.below(2),
             skip: random.pick(&[0, 0, 0, 1, 2]),
+            locked: random.pick(&[0, 0, 1, 4]),
             hand_over: random.pick(&[0, 0, 15, 40]),
+            swap_chain: random.pick(&[0, 0, 5, 25]),
             crash: random.pick(&[1_000, 5_000, 9_000, 9_000]),
             commits: random.pick(&[0, 2, 4, 4, 5, 5, 5, 6, 6, 6]),
             loads_after_crash: random.pick(&[8, 24, 32]),
+            locked_after_crash: random.pick(&[0, 0, 10, 40]),
             memory: random.pick(&[Memory::InOrder, Memory::ByThread, Memory::ByLocation, Memory::ByLocation]),
             any_source: random.pick(&[0, 300, 600, 1_000]),
         }
@@ -182,16 +193,26 @@ impl Draft {
         while self.events < events {
             let early = self.commits.len() < settings.commits;
             if random.below(10_000) >= settings.crash || self.crashes == 7 || early {
-                if events - self.events < HAND_OVER || !self.hand_over(settings, random) {
-                    self.step(settings, random);
-                }
+                self.pattern_or_step(events - self.events, settings, random);
                 continue;
             }
             self.crash(settings, random);
             for _ in 0..random.below(settings.loads_after_crash + 1).min((events - self.events).into()) {
                 let (thread, location) = (self.some_thread(random), self.some_location(random));
-                self.load(thread, location, settings, random);
+                if random.below(100) < settings.locked_after_crash {
+                    self.locked(thread, location, settings, random);
+                } else {
+                    self.load(thread, location, settings, random);
+                }
             }
+        }
+    }
+
+    /// Appends a hand-over or a compare-and-swap chain, if one is drawn and there is room for it, else one event.
+    fn pattern_or_step(&mut self, room: u16, settings: &Settings, random: &Random) {
+        let handed_over = room >= HAND_OVER && self.hand_over(settings, random);
+        if !handed_over && (room < SWAP_CHAIN || !self.swap_chain(settings, random)) {
+            self.step(settings, random);
         }
     }
 
@@ -202,7 +223,8 @@ impl Draft {
 
     /// Appends an allowed event that is no crash.
     fn step(&mut self, settings: &Settings, random: &Random) {
-        let weights = [settings.issue, settings.commit, settings.load, settings.flush, settings.fence, settings.skip];
+        let Settings { issue, commit, load, flush, fence, skip, locked, .. } = *settings;
+        let weights = [issue, commit, load, flush, fence, skip, locked];
         let mut drawn = random.below(weights.iter().sum());
         let mut action = 0;
         while drawn >= weights[action] {
@@ -221,7 +243,11 @@ impl Draft {
             3 => self.put(random.between(5, 6), &[thread, location]),
             4 if self.queues[usize::from(thread)].is_empty() => self.put(random.between(7, 8), &[thread]),
             4 => self.sfence(thread),
-            _ => self.skip(thread),
+            5 => self.skip(thread),
+            _ => match self.thread_with_queue(true, random) {
+                Some(thread) => self.locked(thread, location, settings, random),
+                None => self.commit(thread),
+            },
         }
     }
 
@@ -239,6 +265,26 @@ impl Draft {
         true
     }
 
+    /// Now and then, threads with an empty queue take turns in compare-and-swaps at one location, each of which loads
+    /// what the one before stored. Some store elsewhere first, which the compare-and-swap publishes. Gives whether that
+    /// was so.
+    fn swap_chain(&mut self, settings: &Settings, random: &Random) -> bool {
+        let first = self.thread_with_queue(true, random);
+        let (Some(mut thread), true) = (first, random.below(100) < settings.swap_chain) else { return false };
+        let location = self.some_location(random);
+        let publishes = random.pick(&[1, 2, 4]);
+        let end = self.events + random.between(1, SWAP_CHAIN);
+        while self.events < end {
+            if random.once_in(publishes) && self.events + 2 < end {
+                self.issue(thread, self.some_location(random));
+                self.commit(thread);
+            }
+            self.locked(thread, location, settings, random);
+            thread = self.thread_with_queue(true, random).unwrap_or(thread);
+        }
+        true
+    }
+
     /// Issues a store.
     pub fn issue(&mut self, thread: u16, location: u16) {
         self.put(2, &[thread, location]);
@@ -249,9 +295,14 @@ impl Draft {
     pub fn commit(&mut self, thread: u16) {
         if let Some((store, location)) = self.queues[usize::from(thread)].pop_front() {
             self.put(3, &[thread]);
-            self.current[usize::from(location)] = store;
-            self.commits.push((store, location, thread));
+            self.take_effect(store, location, thread);
         }
+    }
+
+    /// Notes that a store takes effect.
+    fn take_effect(&mut self, store: u16, location: u16, thread: u16) {
+        self.current[usize::from(location)] = store;
+        self.commits.push((store, location, thread));
     }
 
     /// Fences, which every thread may at any time.
@@ -272,12 +323,22 @@ impl Draft {
 
     /// Loads from an allowed source.
     fn load(&mut self, thread: u16, location: u16, settings: &Settings, random: &Random) {
-        let source = match self.named_source(thread, location) {
+        self.put(4, &[thread, location, self.source(thread, location, settings, random)]);
+    }
+
+    /// A locked operation of a thread that has no waiting store.
+    fn locked(&mut self, thread: u16, location: u16, settings: &Settings, random: &Random) {
+        self.put(12, &[thread, location, self.source(thread, location, settings, random)]);
+        self.take_effect(self.events, location, thread);
+    }
+
+    /// An allowed source of a load.
+    pub fn source(&self, thread: u16, location: u16, settings: &Settings, random: &Random) -> u16 {
+        match self.named_source(thread, location) {
             Some(store) => store,
             None if random.below(1_000) < settings.any_source => self.some_source(location, random),
             None => self.memory[usize::from(location)],
-        };
-        self.put(4, &[thread, location, source]);
+        }
     }
 
     /// The only source that a load may have if it is not crossing.

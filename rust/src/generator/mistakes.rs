@@ -1,7 +1,7 @@
 //! Traces with a record that some rule turns away, and random records.
 
 use super::draft::{Draft, Settings};
-use super::Random;
+use super::{Random, KINDS};
 
 /// A trace that is allowed up to a record which breaks a drawn rule, and perhaps others besides. Records may follow.
 pub fn near_miss(draft: &mut Draft, random: &Random) {
@@ -65,7 +65,7 @@ pub fn make_mistake(draft: &mut Draft, rule: u16, settings: &Settings, random: &
         8 => wrong_location(draft, random),
         9 => wrong_source(draft, random),
         10 => draft.put(3, &[draft.thread_with_queue(true, random).unwrap_or(0)]),
-        11 => draft.put(8, &[draft.thread_with_queue(false, random).unwrap_or(0)]),
+        11 => waiting_store(draft, settings, random),
         12 => {
             let thread = draft.some_thread(random);
             draft.put(if draft.skips(thread) { 10 } else { 11 }, &[thread]);
@@ -110,7 +110,7 @@ fn cut_short(draft: &mut Draft, random: &Random) {
 
 /// Appends a record of an unknown kind, with any length.
 fn unknown_kind(draft: &mut Draft, random: &Random) {
-    let kind = random.pick(&[0, 12, 99, 256 + 9, u16::MAX, random.between(12, u16::MAX)]);
+    let kind = random.pick(&[0, KINDS + 1, 99, 256 + 9, u16::MAX, random.between(KINDS + 1, u16::MAX)]);
     let length = random.pick(&[2, 4, 6, 8, random.between(2, 20)]);
     framed(draft, length, kind, random);
 }
@@ -119,10 +119,10 @@ fn unknown_kind(draft: &mut Draft, random: &Random) {
 fn wrong_length(draft: &mut Draft, random: &Random) {
     if random.once_in(3) {
         draft.bytes.extend_from_slice(&[random.below(2) as u8, 0]);
-        (0..random.below(4)).for_each(|_| draft.bytes.push(random.below(12) as u8));
+        (0..random.below(4)).for_each(|_| draft.bytes.push(random.between(0, KINDS) as u8));
     } else {
         let length = random.pick(&[2, 3, 4, 5, 6, 7, 8, 9, 10, random.between(2, 40)]);
-        framed(draft, length, random.between(1, 11), random);
+        framed(draft, length, random.between(1, KINDS), random);
     }
 }
 
@@ -136,25 +136,47 @@ fn framed(draft: &mut Draft, length: u16, kind: u16, random: &Random) {
     draft.events += 1;
 }
 
-/// Appends a load whose source the load rule does not allow, if one is found in a few draws.
+/// Appends a load or a locked operation whose source the load rule does not allow, if one is found in a few draws. The
+/// locked operation's thread has no waiting store, if there is such a thread.
 fn wrong_source(draft: &mut Draft, random: &Random) {
+    let kind = random.pick(&[4, 12]);
     let (mut thread, mut location, mut source) = (0, 0, 0);
     for _ in 0..8 {
         thread = draft.some_thread(random);
+        if kind == 12 {
+            thread = draft.thread_with_queue(true, random).unwrap_or(thread);
+        }
         location = draft.some_location(random);
-        source = random.pick(&[0, random.between(0, draft.events), draft.events + 1, u16::MAX, 4_096]);
+        source = any_number(draft, random);
         if !draft.allows(thread, location, source) {
             break;
         }
     }
-    draft.put(4, &[thread, location, source]);
+    draft.put(kind, &[thread, location, source]);
+}
+
+/// Appends an mfence or a locked operation of a thread that has a waiting store. The source is one that the load rule
+/// allows, or any.
+fn waiting_store(draft: &mut Draft, settings: &Settings, random: &Random) {
+    let thread = draft.thread_with_queue(false, random).unwrap_or(0);
+    let location = draft.some_location(random);
+    match random.below(3) {
+        0 => draft.put(8, &[thread]),
+        1 => draft.put(12, &[thread, location, draft.source(thread, location, settings, random)]),
+        _ => draft.put(12, &[thread, location, any_number(draft, random)]),
+    }
+}
+
+/// A number of an event, or one that no event has.
+fn any_number(draft: &Draft, random: &Random) -> u16 {
+    random.pick(&[0, random.between(0, draft.events), draft.events + 1, u16::MAX, 4_096])
 }
 
 /// Appends a record of some kind that has a thread, with a thread that there is not; the location may be wrong too.
 fn wrong_thread(draft: &mut Draft, random: &Random) {
     let thread = random.pick(&[draft.threads, draft.threads + 1, 8, 9, 256, u16::MAX]).max(draft.threads);
     let location = if random.once_in(2) { draft.locations } else { draft.some_location(random) };
-    let kind = random.pick(&[2, 3, 4, 5, 6, 7, 8, 10, 11]);
+    let kind = random.pick(&[2, 3, 4, 5, 6, 7, 8, 10, 11, 12]);
     put_located(draft, kind, thread, location, random.between(0, draft.events + 1));
 }
 
@@ -162,19 +184,19 @@ fn wrong_thread(draft: &mut Draft, random: &Random) {
 fn wrong_location(draft: &mut Draft, random: &Random) {
     let location = random.pick(&[draft.locations, draft.locations + 1, 256, 257, u16::MAX]).max(draft.locations);
     let (thread, source) = (draft.some_thread(random), random.between(0, draft.events + 1));
-    put_located(draft, random.pick(&[2, 4, 5, 6]), thread, location, source);
+    put_located(draft, random.pick(&[2, 4, 5, 6, 12]), thread, location, source);
 }
 
 /// Appends a record of any kind, with the fields that it has.
 fn put_located(draft: &mut Draft, kind: u16, thread: u16, location: u16, source: u16) {
     let fields = [thread, location, source];
-    let count = [0, 3, 2, 1, 3, 2, 2, 1, 1, 0, 1, 1][usize::from(kind)];
+    let count = [0, 3, 2, 1, 3, 2, 2, 1, 1, 0, 1, 1, 3][usize::from(kind)];
     draft.put(kind, &fields[..count]);
 }
 
 /// Appends a record of any kind but a begin with any small fields. The machine may turn it away.
 fn any_record(draft: &mut Draft, random: &Random) {
-    let kind = random.between(2, 11);
+    let kind = random.between(2, KINDS);
     let (thread, location) = (random.between(0, draft.threads), random.between(0, draft.locations));
     let source = random.between(0, draft.events.min(40) + 1);
     put_located(draft, kind, thread, location, source);
@@ -189,7 +211,7 @@ fn spoil(bytes: &mut Vec<u8>, start: usize, random: &Random) {
     match random.below(3) {
         0 => bytes.truncate(start + 1 + random.below(size - 1)),
         1 => bytes[start] = random.between(0, 10) as u8,
-        _ => bytes[start + 2] = random.between(0, 13) as u8,
+        _ => bytes[start + 2] = random.between(0, KINDS + 2) as u8,
     }
 }
 

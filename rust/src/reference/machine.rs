@@ -67,10 +67,11 @@ impl Machine {
             Event::Commit { thread } => self.commit(thread)?,
             Event::Load { thread, location, source } => self.load(number, thread, location, source)?,
             Event::Clflush { .. } | Event::Clwb { .. } | Event::Sfence { .. } => {}
-            Event::Mfence { thread } => self.mfence(thread)?,
+            Event::Mfence { thread } => self.empty_queue(thread)?,
             Event::Crash => self.crash(),
             Event::SkipOn { thread } => self.skip(thread, true)?,
             Event::SkipOff { thread } => self.skip(thread, false)?,
+            Event::Locked { thread, location, source } => self.locked(number, thread, location, source)?,
         }
         Ok(())
     }
@@ -154,8 +155,18 @@ impl Machine {
         })
     }
 
-    /// "mfence needs an empty queue." Refusal 11: "mfence, queue not empty".
-    fn mfence(&self, thread: u16) -> Result<(), u16> {
+    /// Document 02, job 2: "Kind 12 (thread, location, source, length 8) is a load, issue and commit with nothing
+    /// between, and its event number names its store." "11 also if kind 12's thread has a waiting store, before 9."
+    fn locked(&mut self, event: u16, thread: u16, location: u16, source: u16) -> Result<(), u16> {
+        self.empty_queue(thread)?;
+        self.load(event, thread, location, source)?;
+        self.issue(event, thread, location);
+        self.commit(thread)
+    }
+
+    /// "mfence needs an empty queue." Refusal 11: "mfence, queue not empty"; "11 also if kind 12's thread has a waiting
+    /// store".
+    fn empty_queue(&self, thread: u16) -> Result<(), u16> {
         if self.queues[usize::from(thread)].is_empty() {
             Ok(())
         } else {
@@ -196,6 +207,7 @@ fn places_of(event: &Event) -> (Option<u16>, Option<u16>) {
     match *event {
         Event::Issue { thread, location }
         | Event::Load { thread, location, .. }
+        | Event::Locked { thread, location, .. }
         | Event::Clflush { thread, location }
         | Event::Clwb { thread, location } => (Some(thread), Some(location)),
         Event::Commit { thread }

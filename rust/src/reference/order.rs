@@ -50,12 +50,13 @@ impl Precedence {
 }
 
 /// "Store p happens before q in the same stretch if p is issued earlier by the same thread, or q's thread, before
-/// issuing q, loaded from p in that stretch".
+/// issuing q, loaded from p in that stretch". Document 02, job 2: one record may be "a load, issue and commit"; in it,
+/// the load comes before the issue.
 fn directly_before(machine: &Machine, q: &Store) -> Vec<usize> {
     let earlier = machine.stores.iter().enumerate().take_while(|(_, p)| p.event < q.event);
     let mut found: Vec<usize> =
         earlier.filter(|(_, p)| p.stretch == q.stretch && p.thread == q.thread).map(|(number, _)| number).collect();
-    for load in machine.loads.iter().take_while(|load| load.event < q.event) {
+    for load in machine.loads.iter().take_while(|load| load.event <= q.event) {
         if load.stretch == q.stretch && load.thread == q.thread {
             found.extend(machine.store_of(load.source).filter(|&p| machine.stores[p].stretch == q.stretch));
         }

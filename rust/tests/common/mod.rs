@@ -1,8 +1,8 @@
-//! A notation for sessions, and the lines that the program `verdict` prints for an answer.
+//! A notation for sessions, the lines that the program `verdict` prints for an answer, and what it says of windows.
 //!
 //! Words are separated by blanks: B1.2.2 begin (version, threads, locations), I0.1 issue (thread, location), C0
 //! commit, L0.1<3 load from 3, F0.1 clflush, O0.1 clflushopt or clwb, SF0 sfence, MF0 mfence, X crash, SKIP0 skip on,
-//! UNSKIP0 skip off, x0800 bytes in hexadecimal, 8*X a word eight times.
+//! UNSKIP0 skip off, R0.1<3 locked operation that loads from 3, x0800 bytes in hexadecimal, 8*X a word eight times.
 
 #![allow(dead_code)]
 
@@ -49,6 +49,7 @@ fn event(word: &str) -> Event {
         ("X", &[]) => Event::Crash,
         ("SKIP", &[thread]) => Event::SkipOn { thread },
         ("UNSKIP", &[thread]) => Event::SkipOff { thread },
+        ("R", &[thread, location, source]) => Event::Locked { thread, location, source },
         _ => panic!("no such word: {word}"),
     }
 }
@@ -70,6 +71,20 @@ pub fn lines(trace: &[u8], answer: &Result<Verdict, Refusal>) -> String {
             format!("events {events} / verdict broken / {evidence}")
         }
     }
+}
+
+/// What an answer says of windows.
+pub fn windows(answer: &Result<Verdict, Refusal>) -> String {
+    let &Ok(Verdict::Broken { missing, observed, kind: Kind::Flush(windows), .. }) = answer else {
+        return "none".to_string();
+    };
+    let mut text = format!("{missing} before {observed}, primary {}", windows.primary);
+    for (thread, window) in windows.threads.iter().enumerate() {
+        if let Some(window) = window {
+            text += &format!(", thread {thread}: {} to {}", window.first, window.last);
+        }
+    }
+    text
 }
 
 /// The numbers of threads and of crashes of an accepted trace.
