@@ -2,7 +2,7 @@
 
 `python3 families.py FAMILY EVENTS` writes a trace with that many events after its begin to standard output. Every
 trace is accepted, and but for the last two families robust: a broken trace ends the judging of loads early. The first
-five are families of everyday programs, the last four are made to be dear.
+six are families of everyday programs, the last four are made to be dear.
 """
 
 from __future__ import annotations
@@ -41,8 +41,15 @@ class Trace:
     def load(self, thread: int, location: int) -> None:
         """The source that the load rule names; a crossing load reads the last store that landed before the stretch."""
         waiting = [store for store, place in self.queues[thread] if place == location]
-        source = waiting[-1] if waiting else self.current.get(location, self.landed.get(location, 0))
-        self.add(4, thread, location, source)
+        self.add(4, thread, location, waiting[-1] if waiting else self.last(location))
+
+    def locked(self, thread: int, location: int) -> None:
+        """A load and a store that takes effect in one record, of a thread with no waiting store."""
+        self.current[location] = self.add(12, thread, location, self.last(location))
+
+    def last(self, location: int) -> int:
+        """The last store that took effect at a location, or 0."""
+        return self.current.get(location, self.landed.get(location, 0))
 
     def crash(self) -> None:
         self.add(9)
@@ -136,6 +143,17 @@ def eight_threads(events: int) -> Trace:
     return trace
 
 
+def locked(events: int) -> Trace:
+    """Compare-and-swap chains: eight threads in turn at four locations, before and after each of seven crashes."""
+    trace = Trace(8, 4)
+    while trace.events < events:
+        if (trace.events + 1) % (events // 8) or trace.events + 1 == events:
+            trace.locked(trace.events % 8, trace.events // 8 % 4)
+        else:
+            trace.crash()
+    return trace
+
+
 def deep_walks(events: int) -> Trace:
     """Stores at one location, then a load of the value before the trace in each later stretch: a walk, and six repeats."""
     trace = Trace(1, 1)
@@ -194,8 +212,8 @@ def wide_windows(events: int) -> Trace:
 
 FAMILIES: Dict[str, Callable[[int], Trace]] = {
     "mixed": mixed, "one_location": one_location, "long_queue": long_queue, "seven_crashes": seven_crashes,
-    "eight_threads": eight_threads, "deep_walks": deep_walks, "many_crossings": many_crossings, "late_break": late_break,
-    "wide_windows": wide_windows}
+    "eight_threads": eight_threads, "locked": locked, "deep_walks": deep_walks, "many_crossings": many_crossings,
+    "late_break": late_break, "wide_windows": wide_windows}
 
 if __name__ == "__main__":
     made = FAMILIES[sys.argv[1]](int(sys.argv[2]))
