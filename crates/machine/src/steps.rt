@@ -123,14 +123,16 @@ fn load_memory(
     ensures { λ r. ⌜ (outcome m row r (now (tables .exit)) (now (work .exit))
         ≡ memoryO (world (stateOf m row) (now (tables .entry)) (now (work .entry))) t x s) ⌝ }
 {
-    let q = tables[tables::last(x)];
     let committed = tables[tables::stretch(x)];
     if committed != m.stretch {
         return load_across(m, row, tables, work, t, x, s);
     }
+    let q = tables[tables::last(x)];
     load_only(m, row, tables, work, t, s, q)
 }
 
+// The load rule: the newest waiting store, the last one committed in the stretch, or a crossing load. Which store was
+// committed last is asked only where the load must read it; the judge asks it for a crossing load that counts.
 fn load(
     m: Machine,
     row: usize,
@@ -151,8 +153,8 @@ fn load(
     if p != 0 {
         return load_only(m, row, tables, work, t, s, p);
     }
-    let q = tables[tables::last(x)];
     if tables[tables::stretch(x)] == m.stretch {
+        let q = tables[tables::last(x)];
         return load_only(m, row, tables, work, t, s, q);
     }
     load_across(m, row, tables, work, t, x, s)

@@ -50,20 +50,6 @@ returns-2 c =
     ∙ load-waits _ _ _ _ _ (at-place-fits .place-fits .ensures .0) (at-if1 .if1 .left) _
     (at-waiting .waiting .ensures) (at-if2 .if2 .taken)
 
-last-requires : tie.Need-last-requires
-last-requires c κs = search needs
-
-mul-q : tie.Need-mul-q
-mul-q c = search needs
-
-element-copy-out-q : tie.Need-element-copy-out-q
-element-copy-out-q c =
-    let at-waiting-arg = c .before .before .before in
-    let at-if1 = at-waiting-arg .before in
-    let at-place-fits = at-if1 .before in
-    let bounds = at-place-fits .place-fits .ensures .1 (not-false _ (at-if1 .if1 .left)) in
-    omega arith
-
 stretch-requires : tie.Need-stretch-requires
 stretch-requires c κs = search needs
 
@@ -72,17 +58,32 @@ mul-if3 c = search needs
 
 element-copy-out-if3 : tie.Need-element-copy-out-if3
 element-copy-out-if3 c =
-    let at-if2 = c .before .before .before in
-    let at-if1 = at-if2 .before .before .before in
+    let at-waiting = c .before .before in
+    let at-if1 = at-waiting .before .before in
+    let at-place-fits = at-if1 .before in
+    let bounds = at-place-fits .place-fits .ensures .1 (not-false _ (at-if1 .if1 .left)) in
+    omega arith
+
+last-requires : tie.Need-last-requires
+last-requires c κs = search needs
+
+mul-q : tie.Need-mul-q
+mul-q c = search needs
+
+element-copy-out-q : tie.Need-element-copy-out-q
+element-copy-out-q c =
+    let at-stretch = c .before .before .before .before in
+    let at-waiting = at-stretch .before .before in
+    let at-if1 = at-waiting .before .before in
     let at-place-fits = at-if1 .before in
     let bounds = at-place-fits .place-fits .ensures .1 (not-false _ (at-if1 .if1 .left)) in
     omega arith
 
 load-only-requires-2 : tie.Need-load-only-requires-2
 load-only-requires-2 c κs =
-    let at-struct-known = c .before .before .before in
-    let at-q = at-struct-known .before .before .before in
-    let at-waiting = at-q .before .before .before in
+    let at-last = c .before .before .before in
+    let at-stretch = at-last .before .before .before .before in
+    let at-waiting = at-stretch .before .before in
     let at-if1 = at-waiting .before .before in
     let at-place-fits = at-if1 .before in
     let entry = at-place-fits .before .before in
@@ -95,10 +96,10 @@ same-length-2 c = search needs
 returns-3 : tie.Need-returns-3
 returns-3 c =
     let at-load-only2 = c .before .before in
-    let at-if3 = at-load-only2 .before .before .before in
+    let at-last = at-load-only2 .before .before .before .before in
+    let at-if3 = at-last .before in
     let at-stretch = at-if3 .before .before .before in
-    let at-last = at-stretch .before .before in
-    let at-if2 = at-last .before in
+    let at-if2 = at-stretch .before in
     let at-waiting = at-if2 .before in
     let at-if1 = at-waiting .before .before in
     let at-place-fits = at-if1 .before in
@@ -109,9 +110,8 @@ returns-3 c =
 
 load-across-requires : tie.Need-load-across-requires
 load-across-requires c κs =
-    let at-struct-known = c .before .before .before in
-    let at-q = at-struct-known .before .before .before in
-    let at-waiting = at-q .before .before .before in
+    let at-if3 = c .before .before in
+    let at-waiting = at-if3 .before .before .before .before .before in
     let at-if1 = at-waiting .before .before in
     let at-place-fits = at-if1 .before in
     let entry = at-place-fits .before .before in
@@ -126,7 +126,7 @@ returns-4 c =
     let at-load-across = c .before .before in
     let at-if3 = at-load-across .before .before .before in
     let at-stretch = at-if3 .before .before .before in
-    let at-if2 = at-stretch .before .before .before in
+    let at-if2 = at-stretch .before in
     let at-waiting = at-if2 .before in
     let at-if1 = at-waiting .before .before in
     let at-place-fits = at-if1 .before in
@@ -147,12 +147,12 @@ load-spec =
     load-only-requires
     same-length
     returns-2
-    last-requires
-    mul-q
-    element-copy-out-q
     stretch-requires
     mul-if3
     element-copy-out-if3
+    last-requires
+    mul-q
+    element-copy-out-q
     load-only-requires-2
     same-length-2
     returns-3

@@ -7,15 +7,6 @@ use borrow.Author.Needs.{needs}
 use Rattle.machine.proofs.steps.load_memory.Statement.{statement}
 use Rattle.machine.proofs.steps.load_memory.Tie as tie
 
-last-requires : tie.Need-last-requires
-last-requires c κs = search needs
-
-mul-q : tie.Need-mul-q
-mul-q c = search needs
-
-element-copy-out-q : tie.Need-element-copy-out-q
-element-copy-out-q c = search needs
-
 stretch-requires : tie.Need-stretch-requires
 stretch-requires c κs = search needs
 
@@ -36,10 +27,19 @@ returns c =
     let at-across = c .before .before in
     let at-if1 = at-across .before .before .before in
     let at-stretch = at-if1 .before .before .before in
-    let args = at-stretch .before .before .before .before .args in
+    let args = at-stretch .before .before .args in
     let w = world (stateOf (args .m) (args .row)) (args .tables .now) (args .work .now) in
     let not-here = rw (at-stretch .stretch .ensures) at (ne-eqb _ _ (at-if1 .if1 .taken)) in
     at-across .load-across .ensures ∙ memory-crosses w (args .t) (args .x) (args .s) not-here
+
+last-requires : tie.Need-last-requires
+last-requires c κs = search needs
+
+mul-q : tie.Need-mul-q
+mul-q c = search needs
+
+element-copy-out-q : tie.Need-element-copy-out-q
+element-copy-out-q c = search needs
 
 load-only-requires : tie.Need-load-only-requires
 load-only-requires c κs = search needs
@@ -50,10 +50,10 @@ same-length-2 c = search needs
 returns-2 : tie.Need-returns-2
 returns-2 c =
     let at-only = c .before .before in
-    let at-if1 = at-only .before .before .before in
+    let at-last = at-only .before .before .before .before in
+    let at-if1 = at-last .before in
     let at-stretch = at-if1 .before .before .before in
-    let at-last = at-stretch .before .before in
-    let args = at-last .before .before .args in
+    let args = at-stretch .before .before .args in
     let w = world (stateOf (args .m) (args .row)) (args .tables .now) (args .work .now) in
     let here = rw (at-stretch .stretch .ensures) at (eq-eqb _ _ (at-if1 .if1 .left)) in
     (rw (at-last .last .ensures) at (at-only .load-only .ensures)) ∙ memory-here w (args .t) (args .x) (args .s) here
@@ -62,15 +62,15 @@ pub load-memory-spec : {M : Type 1} → statement M
 load-memory-spec =
     tie.close
     (tie.spec
-    last-requires
-    mul-q
-    element-copy-out-q
     stretch-requires
     mul-committed
     element-copy-out-committed
     load-across-requires
     same-length
     returns
+    last-requires
+    mul-q
+    element-copy-out-q
     load-only-requires
     same-length-2
     returns-2)
