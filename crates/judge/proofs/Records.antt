@@ -1,7 +1,7 @@
 -- One record of a run. A record that cannot be read, or that a rule forbids, is turned away as the definitions say; any
 -- other takes the run on by one record. Where no record is left reading answers 1, which no rule of a later event does.
 -- In order: reading taken apart; what turns record n away; the first record; a later one; what is left of the run.
-use mathlib.Core.Path.{_≡_, refl, sym, ap, ap₂, _∙_, subst}
+use mathlib.Core.Path.{_≡_, refl, sym, ap, _∙_, subst}
 use mathlib.Core.Bool.{Bool, true, false, and-false}
 use mathlib.Core.Logic.{_⊎_, inl, inr, _≢_}
 use mathlib.Core.List.{List}
@@ -41,7 +41,7 @@ use Rattle.machine.specs.declared.state.Step.{Step}
 use Rattle.machine.specs.Outcomes.{Outcome, outcome, stepO}
 use Rattle.machine.specs.Sim.{Sim}
 use Rattle.machine.proofs.Refusals.{refusals, begin-refusals}
-use Rattle.machine.proofs.Simulation.{step-next}
+use Rattle.machine.proofs.Simulation.{step-next, counts-is}
 use Rattle.machine.proofs.Taken.{refusal-told, counted-told, after-told}
 use Rattle.machine.proofs.Start.{sim-start}
 use Rattle.marks.specs.Marks.{Marks}
@@ -49,9 +49,9 @@ use Rattle.marks.specs.Matching.{MarksMatch}
 use Rattle.marks.proofs.Matched.{match-start}
 use Rattle.judge.specs.declared.run.Begun.{Begun}
 use Rattle.judge.specs.declared.run.Cursor.{Cursor}
-use Rattle.judge.specs.Judging.{judgedBy}
+use Rattle.judge.specs.Judging.{Stepped}
 use Rattle.judge.specs.Runs.{beginEnded, noTables, machineIn, worldOf, Reached, AllRead, Stopped, Began}
-use Rattle.judge.proofs.Judging.{event-here, match-next}
+use Rattle.judge.proofs.Judging.{event-here}
 
 -- the cursor before the next record
 abbrev pub cursor : ℕ → ℕ → ℕ → Cursor
@@ -279,25 +279,35 @@ module _ (bytes : List ℕ) where
           (rule-is x past is-read ∙ is) some-number;
     }
 
+    -- judging event n, of kind k and with the fields f, behind the machine's step takes the marks on, to m'
+    abbrev JudgedTo : ℕ → Fields → Bool → List ℕ → List ℕ → Marks → Type 0
+    JudgedTo k f counted' tables' work' m' =
+        Stepped (events bytes) n k counted' tables' work' → fieldsOf (events bytes n) ≡ f
+        → MarksMatch (events bytes) n m → MarksMatch (events bytes) (suc n) m'
+
     -- after the machine's step the tables and the work area, and the marks after judging the event
     later-passes :
         (x : Event) (past : ℕ) → readAt bytes at ≡ event x past → refusalW w x ≡ 0
         → (j' row' : ℕ) (counted' : Bool) (tables' : List ℕ) (m' : Marks) (work' : List ℕ)
         → counted' ≡ countsW w x
         → worldOf bytes threads locations j' row' tables' work' ≡ stepW w x
-        → m' ≡ judgedBy counted' tables' work' m (kindOf x) (t .row) (fieldsOf x)
+        → JudgedTo (kindOf x) (fieldsOf x) counted' tables' work' m'
         → Reached bytes threads locations (suc n) (cursor j' row' past) tables' m' work'
-    later-passes x past is-read is j' row' counted' tables' m' work' counted-is step-is marks-are = record {
+    later-passes x past is-read is j' row' counted' tables' m' work' counted-is step-is judged-to = record {
       position = read-next bytes n x past (read-there (event x past) is-read);
       all-pass = passing-on n x past (reached .all-pass) (read-there (event x past) is-read) passes;
-      state = subst (Sim ev (suc n)) (sym after-is) (step-next ev n w (reached .state) passes);
+      state = after;
       loads =
-          rw (marks-are, counted-is, sym event-n)
-          (subst
-          (λ (v : World).
-          MarksMatch ev (suc n)
-          (judgedBy (countsW w (ev n)) (v .tables) (v .work) m (kindOf (ev n)) (t .row) (fieldsOf (ev n))))
-          (sym after-is) (match-next ev n w (reached .state) passes m (reached .loads)));
+          judged-to
+          (record {
+            accepted = after .limits .accepted;
+            kind-is = ap kindOf event-n;
+            counts-is =
+                sym (counts-is ev n w (reached .state) passes) ∙ (ap (countsW w) event-n ∙ sym counted-is);
+            chains = after .chains;
+            rows = after .rows;
+          })
+          (ap fieldsOf event-n) (reached .loads);
     }
       where
         ev : ℕ → Event
@@ -309,8 +319,10 @@ module _ (bytes : List ℕ) where
         passes : refusal ev n ≡ 0
         passes = rule-is x past is-read ∙ is
 
-        after-is : worldOf bytes threads locations j' row' tables' work' ≡ stepW w (ev n)
-        after-is = step-is ∙ ap (stepW w) (sym event-n)
+        after : Sim ev (suc n) (worldOf bytes threads locations j' row' tables' work')
+        after =
+            subst (Sim ev (suc n)) (sym (step-is ∙ ap (stepW w) (sym event-n)))
+            (step-next ev n w (reached .state) passes)
 
     -- ---- by the record's scan
 
@@ -337,9 +349,9 @@ module _ (bytes : List ℕ) where
             (refusal-told w x given (rw (← kind-is, ← fields-are) step-is)) some
 
         pub scanned-passes :
-            s .refusal ≡ 0 → (m' : Marks) → m' ≡ judgedBy (s .counted) tables' work' m (r .kind) (t .row) (r .fields)
+            s .refusal ≡ 0 → (m' : Marks) → JudgedTo (r .kind) (r .fields) (s .counted) tables' work' m'
             → Reached bytes threads locations (suc n) (cursor (s .stretch) (t .row + 16) (r .next)) tables' m' work'
-        scanned-passes passes m' marks-are =
+        scanned-passes passes m' judged-to =
             let (x, (read-is, kind-is, fields-are)) = scan-read bytes at r is in
             let told : given ≡ stepO w (kindOf x) (fieldsOf x) = rw (← kind-is, ← fields-are) step-is in
             let next-row : (eqb (s .refusal) 0 gives t .row + 16 else t .row) ≡ t .row + 16 = rw passes refl in
@@ -348,8 +360,8 @@ module _ (bytes : List ℕ) where
             (subst
             (λ (e : ℕ). worldOf bytes threads locations (s .stretch) e tables' work' ≡ stepW w x)
             next-row (after-told w x given told passes))
-            (marks-are
-            ∙ ap₂ (λ (k : ℕ) (f : Fields). judgedBy (s .counted) tables' work' m k (t .row) f) kind-is fields-are)
+            (subst (λ (f : Fields). JudgedTo (kindOf x) f (s .counted) tables' work' m') fields-are
+            (subst (λ (k : ℕ). JudgedTo k (r .fields) (s .counted) tables' work' m') kind-is judged-to))
 
     -- ---- what is left of the run
 

@@ -1,30 +1,32 @@
--- Judging the loads of a run, and the evidence of the load that breaks the trace, as total functions.
-use Prim.Native.Nat.{ℕ}
+-- Judging the loads of a run as they come: what is known where an event is judged. And the evidence of the load that
+-- breaks the trace, as a total function.
+use Prim.Native.Nat.{ℕ, suc}
+use mathlib.Core.Path.{_≡_}
 use mathlib.Core.Bool.{Bool}
 use mathlib.Core.List.{List}
-use Rattle.record.specs.declared.events.Fields.{Fields}
-use Rattle.record.specs.Tests.{_gives_else_}
-use lib.Dec.{eqb}
-use Rattle.area.specs.Cells.{getRow, eventAt, up}
-use Rattle.machine.specs.Tables.{lastIn}
+use Rattle.record.specs.declared.events.Event.{Event}
+use Rattle.model.specs.Trace.{kind}
+use Rattle.model.specs.Machine.{counted}
+use Rattle.model.specs.Rules.{Accepted}
+use Rattle.area.specs.Cells.{up}
+use Rattle.area.specs.Rows.{Rows}
+use Rattle.machine.specs.Sim.{Chains}
 use Rattle.marks.specs.Marks.{Marks}
 use Rattle.marks.specs.Testing.{missingBy, observedBy}
-use Rattle.marks.specs.Judged.{judged}
 use Rattle.judge.specs.declared.loads.Evidence.{Evidence}
+
+-- The machine has taken the step of event n, which passes and has kind k; `counts` says whether it is a counted load.
+-- `tables` and `work` are the machine's tables and the work area then: the chains of the locations, and the rows of the
+-- stores.
+pub record Stepped (ev : ℕ → Event) (n k : ℕ) (counts : Bool) (tables work : List ℕ) : Type 0 where
+  pub accepted : Accepted ev (suc n)
+  pub kind-is : kind ev n ≡ k
+  pub counts-is : counted ev n ≡ counts
+  pub chains : Chains ev (suc n) tables work
+  pub rows : Rows ev (suc n) work
 
 -- the evidence of event `load`, by the rows and the marks as that load or a later event leaves them
 unfoldable pub evidenceAt : List ℕ → Marks → ℕ → Evidence
 evidenceAt work m load =
     let missing = missingBy work m (up load) in
     record { load = load; missing = missing; observed = observedBy work (m .flags) (up load) missing }
-
--- the head of the chain that a counted load of location x found, where the event's step has made its effects: a locked
--- operation, kind 12, heads the chain by then, and its link is what it found; any other load commits nothing
-unfoldable pub headFound : List ℕ → List ℕ → ℕ → ℕ → ℕ → ℕ
-headFound tables work k row x = eqb k 12 gives getRow work (eventAt row) 14 else lastIn tables x
-
--- the marks after the event of kind k whose row begins at `row`, with the fields f: a counted load is judged
-unfoldable pub judgedBy : Bool → List ℕ → List ℕ → Marks → ℕ → ℕ → Fields → Marks
-judgedBy counted tables work m k row f =
-    let x = f .location in
-    counted gives judged work m (headFound tables work k row x) x (f .source) (eventAt row) else m

@@ -1,9 +1,16 @@
 // Counted loads, judged as they come, and the evidence of the one that breaks the trace.
 ghost use mathlib.Core.Path.{_≡_};
-ghost use Prim.Native.Nat.{_≤_};
+ghost use mathlib.Core.Bool.{true};
+ghost use Prim.Native.Nat.{ℕ, suc, _≤_};
 ghost use lib.ListN.{length};
+ghost use Rattle.record.specs.declared.events.Event.{Event};
+ghost use Rattle.record.specs.Fields.{fieldsOf};
+ghost use Rattle.model.specs.Trace.{location};
+ghost use Rattle.model.specs.Stores.{headOf, landed};
+ghost use Rattle.area.specs.Cells.{eventAt};
 ghost use Rattle.marks.specs.Marks.{marksOf};
-ghost use Rattle.judge.specs.Judging.{evidenceAt, headFound, judgedBy};
+ghost use Rattle.marks.specs.Matching.{MarksMatch};
+ghost use Rattle.judge.specs.Judging.{evidenceAt, Stepped};
 use machine::Tables;
 use marks::Flags;
 use marks::Marks;
@@ -33,11 +40,15 @@ pub(crate) fn evidence_at(marks: &Marks, flags: &Flags, work: &[u16], load: u16)
     }
 }
 
-// The head of the chain that a counted load of location x found. Its event's step is made: a locked operation heads the
-// chain by then, and its link is what it found; any other load commits nothing.
+// The last store committed at location x before the event whose row begins at `row`, a counted load of x; 0 if there is
+// none. The links of the rows lead from it to the others. This is the one lookup of the location's stores; all of the
+// load's judging takes its answer. The event's step is made: a locked operation heads the chain by then, and its link
+// is what it found; any other load commits nothing.
 fn head_found(tables: &Tables, work: &[u16], kind: u16, row: usize, x: u16) -> u16
     requires { ⌜ row ≤ 32768 ⌝ }
-    ensures { λ r. ⌜ r ≡ headFound (now (tables .entry)) (now (work .entry)) kind row x ⌝ }
+    ensures { λ r. ⌜ ((ev : ℕ → Event)
+        → Stepped ev (eventAt row) kind true (now (tables .entry)) (now (work .entry))
+        → location ev (eventAt row) ≡ x → r ≡ headOf (landed ev (eventAt row) x)) ⌝ }
 {
     if kind == 12 {
         return area::row_get(work, area::event_at(row), 14);
@@ -45,7 +56,8 @@ fn head_found(tables: &Tables, work: &[u16], kind: u16, row: usize, x: u16) -> u
     machine::last_committed(tables, x)
 }
 
-// The event of that kind whose row begins at `row`, which passes, with the fields f: a counted load is judged.
+// The event of that kind whose row begins at `row`, which passes, with the fields f: a counted load is judged. If the
+// marks matched the events before this one, they match those up to it.
 pub(crate) fn judge_event(
     tables: &Tables,
     marks: &mut Marks,
@@ -57,8 +69,11 @@ pub(crate) fn judge_event(
     f: Fields,
 )
     requires { ⌜ (row ≤ 32768) × (32768 ≤ length (now work)) ⌝ }
-    ensures { λ _. ⌜ (marksOf (now (marks .exit)) (now (flags .exit)) ≡ judgedBy counted
-        (now (tables .entry)) (now (work .entry)) (marksOf (now (marks .entry)) (now (flags .entry))) kind row f) ⌝ }
+    ensures { λ _. ⌜ ((ev : ℕ → Event)
+        → Stepped ev (eventAt row) kind counted (now (tables .entry)) (now (work .entry))
+        → fieldsOf (ev (eventAt row)) ≡ f
+        → MarksMatch ev (eventAt row) (marksOf (now (marks .entry)) (now (flags .entry)))
+        → MarksMatch ev (suc (eventAt row)) (marksOf (now (marks .exit)) (now (flags .exit)))) ⌝ }
 {
     if !counted {
         return;

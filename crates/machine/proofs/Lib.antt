@@ -4,7 +4,7 @@
 -- change, and at each file's end the step of its kinds (Quiet, Crashes, Loads, Commits, Issues, Locked). The theorems
 -- that others cite: `refusals`, `begin-refusals` (Refusals), `step-next`, `counts-is` (Simulation), `refusal-told`,
 -- `counted-told`, `after-told` (Taken), `sim-start` (Start), `sim-fits` (Fits), `store-is`, `order-is` (Standings),
--- `last-head`, `committed-is` (Closing).
+-- `last-is`, `committed-is` (Closing).
 pub mod ArmLaws
 pub mod RuleLaws
 pub mod Loops

@@ -1,7 +1,9 @@
--- Kind 12 or another: the definition's two cases.
-use mathlib.Core.Path.{refl}
-use borrow.Author.Tests.{eq-eqb, ne-eqb}
-use Rattle.judge.specs.Judging.{headFound}
+-- A locked operation, kind 12, has what it found in its link; behind any other load it is still the last store of its
+-- location.
+use mathlib.Core.Path.{ap, _∙_}
+use Prim.Native.Nat.{ℕ}
+use Rattle.area.specs.Cells.{getRow}
+use Rattle.judge.proofs.Judging.{head-stays, head-linked}
 use borrow.Author.Needs.{needs}
 use Rattle.judge.proofs.loads.head_found.Statement.{statement}
 use Rattle.judge.proofs.loads.head_found.Tie as tie
@@ -13,15 +15,25 @@ row-get-requires : tie.Need-row-get-requires
 row-get-requires c κs = search needs
 
 returns : tie.Need-returns
-unfolding headFound
-returns c = rw (eq-eqb _ _ (c .before .before .if1 .taken), c .row-get .ensures, c .before .event-at .ensures) refl
+returns c =
+    let at-event = c .before in
+    let at-if1 = at-event .before in
+    let args = at-if1 .before .before .args in
+    λ ev stepped at-x.
+    c .row-get .ensures
+    ∙ (ap (λ (e : ℕ). getRow (args .work .now) e 14) (at-event .event-at .ensures)
+    ∙ head-linked ev _ (args .kind) (args .x) (args .tables .now) (args .work .now) stepped at-x (at-if1 .if1 .taken))
 
 last-committed-requires : tie.Need-last-committed-requires
 last-committed-requires c κs = search needs
 
 returns-2 : tie.Need-returns-2
-unfolding headFound
-returns-2 c = rw (ne-eqb _ _ (c .before .if1 .left), c .last-committed .ensures) refl
+returns-2 c =
+    let at-if1 = c .before in
+    let args = at-if1 .before .before .args in
+    λ ev stepped at-x.
+    c .last-committed .ensures
+    ∙ head-stays ev _ (args .kind) (args .x) (args .tables .now) (args .work .now) stepped at-x (at-if1 .if1 .left)
 
 pub head-found-spec : {M : Type 1} → statement M
 head-found-spec =

@@ -1,15 +1,19 @@
--- `judge_event` meets its contract: an event that does not count changes nothing, a counted load is judged by the chain
--- that it found.
-use mathlib.Core.Path.{refl}
+-- An event that does not count changes nothing; a counted load is judged by the head of the stores committed at its
+-- location.
+use mathlib.Core.Path.{ap}
 use borrow.Author.Needs.{needs}
 use borrow.Author.Tests.{not-true, not-false}
-use Rattle.judge.specs.Judging.{judgedBy}
+use Rattle.record.specs.declared.events.Fields.{Fields}
+use Rattle.judge.proofs.Judging.{match-uncounted, match-counted}
 use Rattle.judge.proofs.loads.judge_event.Statement.{statement}
 use Rattle.judge.proofs.loads.judge_event.Tie as tie
 
 returns : tie.Need-returns
-unfolding judgedBy
-returns c = rw (not-true (c .before .before .args .counted) (c .if1 .taken)) refl
+returns c =
+    let args = c .before .before .args in
+    λ ev stepped fields-are matching.
+    match-uncounted ev _ (args .kind) (args .tables .now) (args .work .now) _ matching
+    (rw (not-true (args .counted) (c .if1 .taken)) at stepped)
 
 head-found-requires : tie.Need-head-found-requires
 head-found-requires c κs = search needs
@@ -18,16 +22,14 @@ judge-load-requires : tie.Need-judge-load-requires
 judge-load-requires c κs = search needs
 
 returns-2 : tie.Need-returns-2
-unfolding judgedBy
 returns-2 c =
     let at-head = c .before .before .before in
     let at-if1 = at-head .before in
-    rw (
-      not-false (at-if1 .before .before .args .counted) (at-if1 .if1 .left),
-      c .judge-load .ensures,
-      at-head .head-found .ensures,
-    )
-    refl
+    let args = at-if1 .before .before .args in
+    λ ev stepped fields-are matching.
+    let counts = rw (not-false (args .counted) (at-if1 .if1 .left)) at stepped in
+    match-counted ev _ (args .kind) (args .tables .now) (args .work .now) _ matching counts (args .f) fields-are _
+    (at-head .head-found .ensures ev counts (ap (λ (f : Fields). f .location) fields-are)) _ (c .judge-load .ensures)
 
 pub judge-event-spec : {M : Type 1} → statement M
 judge-event-spec = tie.close (tie.spec returns head-found-requires judge-load-requires returns-2)

@@ -92,7 +92,7 @@ returns-3 c =
     scanned-passes (args .trace .now) (args .threads) (args .locations) (eventAt (args .t .row)) (args .t)
     (args .tables .now) (marksOf (args .marks .now) (args .flags .now)) (args .work .now) (entry .pre) (told .0 .0)
     (sym (told .1) ∙ at-scan .scan-at .ensures) (at-step .step .result) _ _ (at-step .step .ensures)
-    (omega (arith, at-if1 .if1 .left)) _ (c .judge-event .ensures)
+    (omega (arith, at-if1 .if1 .left)) _ (c .judge-event .ensures (events (args .trace .now)))
 
 pub judge-record-spec : {M : Type 1} → statement M
 judge-record-spec =
