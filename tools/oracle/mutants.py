@@ -98,6 +98,17 @@ def own_stretch_unseen(m: Machine, load: Load, committed_only: bool = False) -> 
     return {p for p in TRUE["forbids"](m, load) if m.stores[p].stretch != stretch}
 
 
+def of_loading_thread(m: Machine, load: Load, committed_only: bool = False) -> set[int]:
+    """The location's stores are looked up by the load's thread."""
+    return {p for p in TRUE["forbids"](m, load) if m.stores[p].thread == load.thread}
+
+
+def of_last_storing_thread(m: Machine, load: Load, committed_only: bool = False) -> set[int]:
+    """The location's stores are looked up by the thread of the last one."""
+    last = max(TRUE["forbids"](m, load, True), key=lambda p: m.stores[p].commit, default=0)
+    return {p for p in TRUE["forbids"](m, load) if last and m.stores[p].thread == m.stores[last].thread}
+
+
 def nothing_observed(load: Load) -> set[int]:
     """Loads only forbid."""
     return set()
@@ -299,6 +310,8 @@ MUTANTS: dict[str, dict[str, object]] = {
     "source 0 free": {"forbids": zero_free},
     "later by issue": {"forbids": by_issue},
     "own stretch not forbidden": {"forbids": own_stretch_unseen},
+    "stores of the loading thread": {"forbids": of_loading_thread},
+    "stores of the last storing thread": {"forbids": of_last_storing_thread},
     "nothing observed": {"observes": nothing_observed},
     "pair of the last load": {"smallest_pair": pair_of_last_load},
     "smallest observed first": {"smallest_pair": observed_first},

@@ -15,7 +15,8 @@ from pathlib import Path
 import generate
 import oracle
 from oracle import Refused
-from sessions import CASES, EDGES, ERRORS, LOCKED, MORE_REFUSALS, ORDERS, REFUSALS, WINDOWS, show, without_windows
+from sessions import CASES, EDGES, ERRORS, LOCKED, LOOKUPS, MORE_REFUSALS, ORDERS, REFUSALS, WINDOWS
+from sessions import show, without_windows
 
 LONGEST = 32767  # the program's room for a trace; the program `verdict` is run on longer input by tests/verdict
 SEED = 2027
@@ -41,7 +42,7 @@ def listed() -> list[Pair]:
     for name, data, expected in CASES + REFUSALS + MORE_REFUSALS + EDGES + ERRORS:
         if len(data) <= LONGEST:
             pairs += judged("j", name, data, without_windows(expected))
-    for name, data, expected in WINDOWS + LOCKED:
+    for name, data, expected in WINDOWS + LOCKED + LOOKUPS:
         pairs += judged("w", name, data, expected.split(" / "))
     for name, data, first, second, answer in ORDERS:
         pairs.append((f"# order: {name}", [f"# order: {name}"]))

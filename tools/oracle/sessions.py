@@ -352,6 +352,56 @@ LOCKED: list[tuple[str, bytes, str]] = [
      "events 7 / verdict broken / load 7 / missing 1 / observed 3 / kind flush / primary 0 / window 1 3 3"),
 ]
 
+# Document 02, job 3: a crossing load goes by all stores committed at its location, of whichever thread. Each session
+# tells a lookup of those stores from one by thread, in the order of issue, of another location, of stores that are not
+# committed, or made too early or too late.
+TWO_THREADS = "I0.0 C0 I1.0 C1 X"
+EIGHT_THREADS = "I0.0 C0 I1.0 C1 I2.0 C2 I3.0 C3 I4.0 C4 I5.0 C5 I6.0 C6 I7.0 C7 X"
+LOOKUPS: list[tuple[str, bytes, str]] = [
+    ("3, the last store at the location, is of another thread than the load from 1, which forbids it",
+     session(TWO_THREADS + " L0.0<1 L1.0<3"),
+     "events 7 / verdict broken / load 7 / missing 3 / observed 3 / kind contradiction"),
+    ("the same load by the thread of 3 forbids the same",
+     session(TWO_THREADS + " L1.0<1 L0.0<3"),
+     "events 7 / verdict broken / load 7 / missing 3 / observed 3 / kind contradiction"),
+    ("a load by a thread that stored nothing, from 0: it forbids the stores of both others",
+     session(TWO_THREADS + " L2.0<0 L0.0<1"),
+     "events 7 / verdict broken / load 7 / missing 1 / observed 1 / kind contradiction"),
+    ("a load from the last store, 4, forbids none: 1, the last of the load's own thread, happens before 4 and is in",
+     session("I0.0 C0 L1.0<1 I1.0 C1 X L0.0<4"), "events 7 / verdict robust / cut 1 1 1 / share 100"),
+    ("stores of eight threads: a load from 7 forbids those of threads 4 to 7, and 15 is observed",
+     session(EIGHT_THREADS + " L0.0<7 L7.0<15"),
+     "events 19 / verdict broken / load 19 / missing 15 / observed 15 / kind contradiction"),
+    ("the same, and the second load reads past 7, which the first one observed",
+     session(EIGHT_THREADS + " L0.0<7 L7.0<5"),
+     "events 19 / verdict broken / load 19 / missing 7 / observed 7 / kind contradiction"),
+    ("the last store committed is 1, not 2 which was issued later: a load from 2 forbids 1",
+     session("I0.0 I1.0 C1 C0 X L1.0<2 L0.0<1"),
+     "events 7 / verdict broken / load 7 / missing 1 / observed 1 / kind contradiction"),
+    ("thread 1 stores there between two loads from 1: the second one finds 5, committed behind 1, and forbids it",
+     session("I0.0 C0 X L0.0<1 I1.0 C1 X L0.0<1 L1.0<5"),
+     "events 9 / verdict broken / load 9 / missing 5 / observed 5 / kind contradiction"),
+    ("3, which waits when the crash comes, is none of the committed stores: a load from 0 finds 1, and forbids it",
+     session("I0.0 C0 I1.0 X L1.0<0 L0.0<1"),
+     "events 6 / verdict broken / load 6 / missing 1 / observed 1 / kind contradiction"),
+    ("nothing is committed at location 0: thread 1's load of it forbids no store, though location 1 has two",
+     session("I0.1 C0 I1.1 C1 X L1.0<0 L1.1<1"), "events 7 / verdict robust / cut 1 1 0 / share 50"),
+    ("a store is committed in this stretch at another location: the load is crossing all the same, and forbids 1",
+     session("I0.0 C0 X I1.1 C1 L1.0<0 X L0.0<1"),
+     "events 8 / verdict broken / load 8 / missing 1 / observed 1 / kind contradiction"),
+    ("a crossing locked operation finds the stores committed before its own, and does not forbid its own",
+     session("I0.0 C0 X R1.0<1 X L0.0<4"), "events 6 / verdict robust / cut 1 1 0 / cut 2 0 1 / share 100"),
+    ("a crossing locked operation from 1 forbids 3, the last store before its own",
+     session(TWO_THREADS + " R2.0<1 X L1.0<3"),
+     "events 8 / verdict broken / load 8 / missing 3 / observed 3 / kind contradiction"),
+    ("thread 1's store 3 is committed behind 1, and thread 0 loads from it before it issues 6: it is missing",
+     session("I0.0 C0 I1.0 C1 L0.0<3 I0.8 C0 X L2.0<1 L2.8<6", locations=9),
+     "events 10 / verdict broken / load 10 / missing 3 / observed 6 / kind flush / primary 1 / window 0 6 6"),
+    ("the last location of 256 has stores of its own",
+     session("I0.255 C0 I1.255 C1 X L0.0<0 L0.255<1 L1.255<3", locations=256),
+     "events 8 / verdict broken / load 8 / missing 3 / observed 3 / kind contradiction"),
+]
+
 # Order queries: name, trace, first, second, expected answer.
 ORDERS: list[tuple[str, bytes, int, int, object]] = [
     ("query 0", B, 0, 0, Refused(16, 0)),
@@ -405,7 +455,7 @@ def self_test() -> list[tuple[str, bool]]:
     """All comparisons: a name and whether it holds."""
     results: list[tuple[str, bool]] = []
     judges: list[tuple[str, Callable]] = [("judge", oracle.judge), ("judge_closure", oracle.judge_closure)]
-    for name, data, expected in CASES + REFUSALS + MORE_REFUSALS + EDGES + ERRORS + WINDOWS + LOCKED:
+    for name, data, expected in CASES + REFUSALS + MORE_REFUSALS + EDGES + ERRORS + WINDOWS + LOCKED + LOOKUPS:
         for label, judging in judges:
             results.append((f"{name} ({label})", " / ".join(oracle.lines_with_windows(data, judging)) == expected))
     for name, data, first, second, answer in ORDERS:
