@@ -8,6 +8,6 @@ pub mod RoundTrips
 pub mod Starts
 pub mod Fronts
 pub mod Scans
-pub mod Loads
+pub mod Sources
 pub mod TakesApart
 pub mod GoesThrough

@@ -8,6 +8,7 @@ use Rattle.record.specs.Bytes.{word, putWord}
 use Rattle.record.specs.declared.events.Event.{Event}
 use Rattle.record.specs.declared.events.Event.the-variants.{Begin, Issue, Commit, Load, Clflush, Clwb}
 use Rattle.record.specs.declared.events.Event.the-variants.{Sfence, Mfence, Crash, SkipOn, SkipOff, Locked}
+use Rattle.record.specs.declared.events.Event.the-variants.{Signal, Wait}
 use Rattle.record.specs.declared.events.Fields.{Fields}
 
 -- ---- the columns of the table: the fields as a list, and back
@@ -55,6 +56,10 @@ threadIn row = offsetsIn row .thread
 abbrev pub locationIn : List ℕ → ℕ
 locationIn row = offsetsIn row .location
 
+-- that of the source
+abbrev pub sourceIn : List ℕ → ℕ
+sourceIn row = offsetsIn row .source
+
 -- each field that a row places ends within n bytes
 pub record RowFits (row : List ℕ) (n : ℕ) : Type 0 where
   pub ends : Each (λ (at : ℕ). at + 2 ≤ n) (columns (offsetsIn row))
@@ -101,6 +106,8 @@ eventsOf f =
     ∷ SkipOn (f .thread)
     ∷ SkipOff (f .thread)
     ∷ Locked (f .thread) (f .location) (f .source)
+    ∷ Signal (f .thread)
+    ∷ Wait (f .thread) (f .source)
     ∷ []
 
 -- the event of a kind with these fields; a crash where there is no such kind
@@ -126,3 +133,5 @@ fieldsOf Crash = threadFields 0 0 0
 fieldsOf (SkipOn t) = threadFields t 0 0
 fieldsOf (SkipOff t) = threadFields t 0 0
 fieldsOf (Locked t x s) = threadFields t x s
+fieldsOf (Signal t) = threadFields t 0 0
+fieldsOf (Wait t s) = threadFields t 0 s

@@ -1,17 +1,17 @@
--- Record number e of a trace: document 01, "The trace". And the loads of a trace.
+-- Record number e of a trace: document 01, "The trace". And the sources of a trace.
 use mathlib.Core.List.{List, _++_}
 use mathlib.Core.Path.{_≡_}
 use Prim.Native.Nat.{ℕ, zero, suc, _+_, _≤_}
-use mathlib.Core.Bool.{Bool, true, false, _&&_, _||_}
+use mathlib.Core.Bool.{Bool, true, false, _&&_, not}
 use lib.ListN.{take, drop}
 use lib.Dec.{eqb}
 use Rattle.record.specs.Bytes.{word}
 use Rattle.record.specs.Table.{rowOf, lengthOf}
-use Rattle.record.specs.Fields.{offsetsIn}
+use Rattle.record.specs.Fields.{threadIn, sourceIn}
 use Rattle.record.specs.Tests.{_gives_else_}
 use Rattle.record.specs.Reading.{frame}
-use Rattle.record.specs.declared.parts.LoadAt.{LoadAt}
 use Rattle.record.specs.declared.parts.Place.{Place}
+use Rattle.record.specs.declared.parts.SourceAt.{SourceAt}
 use Rattle.record.specs.declared.reading.Frame.{Frame}
 use Rattle.record.specs.declared.reading.Frame.the-variants.{Size, Unframed}
 
@@ -46,28 +46,33 @@ unfoldable pub recordsTo : List ℕ → ℕ → List ℕ
 recordsTo s zero = recordPart s 0
 recordsTo s (suc e) = recordsTo s e ++ recordPart s (suc e)
 
--- ---- the loads of a trace, without reading its other records
+-- ---- the sources of a trace, without reading its other records
 
--- the kinds that load
-abbrev pub loads? : ℕ → Bool
-loads? k = eqb k 4 || eqb k 12
+-- a record without a source, and the position past it
+abbrev pub noSource : ℕ → SourceAt
+noSource past = record { sourced = false; thread = 0; source = 0; next = past }
 
--- a record that does not load, and the position past it
-abbrev pub noLoad : ℕ → LoadAt
-noLoad past = record { loads = false; thread = 0; source = 0; next = past }
-
--- a kind that loads, of kind 4's length: its thread and its source stand where the table says, alike for both kinds. Of
--- a record that can be read this is what reading answers: `load-at-read` of proofs/Loads.antt
-unfoldable pub loadAt : List ℕ → ℕ → LoadAt
-loadAt s at =
-    let offsets = offsetsIn (rowOf 4) in
-    let past = at + sizeAt s at in
-    (eqb (sizeAt s at) (lengthOf 4 + 2) && loads? (word s (at + 2))) gives
+-- the record of that size at a position, if its kind has a source: its thread and source stand where the row says
+abbrev pub sourceIf : Bool → List ℕ → ℕ → ℕ → List ℕ → SourceAt
+sourceIf sourced s at size row =
+    sourced gives
     record {
-      loads = true;
-      thread = word s (at + offsets .thread);
-      source = word s (at + offsets .source);
-      next = past;
+      sourced = true;
+      thread = word s (at + threadIn row);
+      source = word s (at + sourceIn row);
+      next = at + size;
     }
     else
-    noLoad past
+    noSource (at + size)
+
+-- its kind has a source: the table of kinds
+abbrev pub sourced? : ℕ → Bool
+sourced? k = not (eqb (sourceIn (rowOf k)) 0)
+
+-- the record at a position: it has a source if its kind has, and its length is the kind's. Of a record that can be read
+-- this is what reading answers: `source-at-read` of proofs/Sources.antt
+unfoldable pub sourceAt : List ℕ → ℕ → SourceAt
+sourceAt s at =
+    let k = word s (at + 2) in
+    let size = sizeAt s at in
+    sourceIf (eqb size (lengthOf k + 2) && sourced? k) s at size (rowOf k)

@@ -53,6 +53,14 @@ pub enum Event {
         location: u16,
         source: u16,
     },
+    // work is handed over, and taken over from the signal that the source names
+    Signal {
+        thread: u16,
+    },
+    Wait {
+        thread: u16,
+        source: u16,
+    },
 }
 
 // The values of an event's fields; 0 where its kind has no such field.
@@ -77,38 +85,31 @@ pub fn kind_of(e: Event) -> u16
 {
     match e {
         Event::Begin {
-            version: _,
-            threads: _,
-            locations: _,
+            version,
+            threads,
+            locations,
         } => 1,
-        Event::Issue {
-            thread: _,
-            location: _,
-        } => 2,
-        Event::Commit { thread: _ } => 3,
+        Event::Issue { thread, location } => 2,
+        Event::Commit { thread } => 3,
         Event::Load {
-            thread: _,
-            location: _,
-            source: _,
+            thread,
+            location,
+            source,
         } => 4,
-        Event::Clflush {
-            thread: _,
-            location: _,
-        } => 5,
-        Event::Clwb {
-            thread: _,
-            location: _,
-        } => 6,
-        Event::Sfence { thread: _ } => 7,
-        Event::Mfence { thread: _ } => 8,
+        Event::Clflush { thread, location } => 5,
+        Event::Clwb { thread, location } => 6,
+        Event::Sfence { thread } => 7,
+        Event::Mfence { thread } => 8,
         Event::Crash => 9,
-        Event::SkipOn { thread: _ } => 10,
-        Event::SkipOff { thread: _ } => 11,
+        Event::SkipOn { thread } => 10,
+        Event::SkipOff { thread } => 11,
         Event::Locked {
-            thread: _,
-            location: _,
-            source: _,
+            thread,
+            location,
+            source,
         } => 12,
+        Event::Signal { thread } => 13,
+        Event::Wait { thread, source } => 14,
     }
 }
 
@@ -162,6 +163,8 @@ pub fn fields_of(e: Event) -> Fields
             location,
             source,
         } => thread_fields(thread, location, source),
+        Event::Signal { thread } => thread_fields(thread, 0, 0),
+        Event::Wait { thread, source } => thread_fields(thread, 0, source),
     }
 }
 
@@ -169,39 +172,35 @@ pub fn fields_of(e: Event) -> Fields
 pub(crate) fn of_kind(kind: u16, f: Fields) -> Event
     ensures { λ r. ⌜ r ≡ eventOf kind f ⌝ }
 {
+    let thread = f.thread;
+    let location = f.location;
+    let source = f.source;
     match kind {
         1 => Event::Begin {
             version: f.version,
             threads: f.threads,
             locations: f.locations,
         },
-        2 => Event::Issue {
-            thread: f.thread,
-            location: f.location,
-        },
-        3 => Event::Commit { thread: f.thread },
+        2 => Event::Issue { thread, location },
+        3 => Event::Commit { thread },
         4 => Event::Load {
-            thread: f.thread,
-            location: f.location,
-            source: f.source,
+            thread,
+            location,
+            source,
         },
-        5 => Event::Clflush {
-            thread: f.thread,
-            location: f.location,
-        },
-        6 => Event::Clwb {
-            thread: f.thread,
-            location: f.location,
-        },
-        7 => Event::Sfence { thread: f.thread },
-        8 => Event::Mfence { thread: f.thread },
-        10 => Event::SkipOn { thread: f.thread },
-        11 => Event::SkipOff { thread: f.thread },
+        5 => Event::Clflush { thread, location },
+        6 => Event::Clwb { thread, location },
+        7 => Event::Sfence { thread },
+        8 => Event::Mfence { thread },
+        10 => Event::SkipOn { thread },
+        11 => Event::SkipOff { thread },
         12 => Event::Locked {
-            thread: f.thread,
-            location: f.location,
-            source: f.source,
+            thread,
+            location,
+            source,
         },
+        13 => Event::Signal { thread },
+        14 => Event::Wait { thread, source },
         _ => Event::Crash,
     }
 }

@@ -19,7 +19,7 @@ pub(crate) const LOCATIONS: usize = 7;
 
 // A row for each kind, at its number: kind, length, and the offsets in the record of its thread, location and source,
 // then of a begin's version, threads and locations. Offset 0: the kind has no such field. Length 0: no such kind.
-pub(crate) const KINDS: [[u16; 8]; 13] = [
+pub(crate) const KINDS: [[u16; 8]; 15] = [
     [0, 0, 0, 0, 0, 0, 0, 0],
     [1, 8, 0, 0, 0, 4, 6, 8],
     [2, 6, 4, 6, 0, 0, 0, 0],
@@ -33,6 +33,8 @@ pub(crate) const KINDS: [[u16; 8]; 13] = [
     [10, 4, 4, 0, 0, 0, 0, 0],
     [11, 4, 4, 0, 0, 0, 0, 0],
     [12, 8, 4, 6, 8, 0, 0, 0],
+    [13, 4, 4, 0, 0, 0, 0, 0],
+    [14, 6, 4, 0, 6, 0, 0, 0],
 ];
 
 // The row of a kind; zeros where there is no such kind. Each arm indexes the table by a constant: an index that is
@@ -58,6 +60,8 @@ pub(crate) fn row_of(kind: u16) -> [u16; 8]
         10 => KINDS[10],
         11 => KINDS[11],
         12 => KINDS[12],
+        13 => KINDS[13],
+        14 => KINDS[14],
         _ => KINDS[0],
     }
 }

@@ -1,5 +1,5 @@
 // Trace records: reading them, as events or as plain numbers, writing them, and finding record number e in a trace, or
-// its loads.
+// its sources.
 //
 // This layer knows nothing of threads or crashes: a field's value may be anything from 0 to 65,535. Every public call
 // takes any input, always returns, and has no `requires`; its answer, and every byte lent for writing, is an equation
@@ -19,11 +19,11 @@ pub use events::Named;
 pub use events::event_of;
 pub use events::fields_of;
 pub use events::kind_of;
-pub use parts::LoadAt;
 pub use parts::Place;
-pub use parts::load_at;
+pub use parts::SourceAt;
 pub use parts::part;
 pub use parts::place_of;
+pub use parts::source_at;
 pub use reader::Reader;
 pub use reader::new;
 pub use reader::next;

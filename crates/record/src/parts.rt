@@ -1,8 +1,12 @@
-// Where record number e stands in a trace, the record as a part of it, and what a load says that stands at a position.
+// Where record number e stands in a trace, the record as a part of it, and what a record at a position says of its
+// source.
 ghost use mathlib.Core.Path.{_≡_};
 ghost use Prim.Native.Nat.{_+_, _≤_};
 ghost use lib.ListN.{length};
-ghost use Rattle.record.specs.Parts.{sizeAt, placeOf, recordPart, loads?, noLoad, loadAt};
+ghost use lib.Dec.{eqb};
+ghost use mathlib.Core.Bool.{_||_};
+ghost use Rattle.record.specs.Fields.{RowFits};
+ghost use Rattle.record.specs.Parts.{sizeAt, placeOf, recordPart, noSource, sourceIf, sourceAt};
 use crate::bytes::wide;
 use crate::bytes::word_at;
 use crate::kinds::KINDS;
@@ -59,17 +63,46 @@ pub fn part(trace: &[u8], e: usize) -> &[u8]
     &trace[start..end]
 }
 
-// What the record at a position says if it loads: its thread and its source; and the position past the record.
-pub struct LoadAt {
-    pub loads: bool,
+// What the record at a position says if its kind has a source: its thread and its source; and the position past the
+// record.
+pub struct SourceAt {
+    pub sourced: bool,
     pub thread: u16,
     pub source: u16,
     pub next: usize,
 }
 
-// A kind that loads: 4 and 12, whose rows of the table have one length and one place for each field.
+// A record without a source.
+fn no_source(next: usize) -> SourceAt
+    ensures { λ r. ⌜ r ≡ noSource next ⌝ }
+{
+    SourceAt {
+        sourced: false,
+        thread: 0,
+        source: 0,
+        next,
+    }
+}
+
+// The record of that size at a position, if its kind has a source: its thread and source stand where the row says.
+fn source_if(sourced: bool, trace: &[u8], at: usize, size: usize, row: [u16; 8]) -> SourceAt
+    requires { ⌜ (at + size ≤ length (now trace)) × RowFits row size ⌝ }
+    ensures { λ r. ⌜ r ≡ sourceIf sourced (now (trace .entry)) at size row ⌝ }
+{
+    if !sourced {
+        return no_source(at + size);
+    }
+    SourceAt {
+        sourced: true,
+        thread: word_at(trace, at + wide(row[THREAD])),
+        source: word_at(trace, at + wide(row[SOURCE])),
+        next: at + size,
+    }
+}
+
+// A load or a locked operation, whose rows of the table have one length and one place for each field.
 fn loads(kind: u16) -> bool
-    ensures { λ r. ⌜ r ≡ loads? kind ⌝ }
+    ensures { λ r. ⌜ r ≡ (eqb kind 4 || eqb kind 12) ⌝ }
 {
     if kind == 4 {
         return true;
@@ -77,38 +110,23 @@ fn loads(kind: u16) -> bool
     kind == 12
 }
 
-// A record that does not load.
-fn no_load(next: usize) -> LoadAt
-    ensures { λ r. ⌜ r ≡ noLoad next ⌝ }
-{
-    LoadAt {
-        loads: false,
-        thread: 0,
-        source: 0,
-        next,
-    }
-}
-
-// The record at a position, by its length bytes: for a pass over a trace that was read before, and that wants the loads
-// alone. A record that cannot be framed has no size, so the position past it is its own.
-pub fn load_at(trace: &[u8], at: usize) -> LoadAt
-    ensures { λ r. ⌜ r ≡ loadAt (now (trace .entry)) at ⌝ }
+// The record at a position, by its length bytes: for a pass over a trace that was read before, and that wants the
+// sources alone. A record that cannot be framed has no size, so the position past it is its own. Loads, locked
+// operations and waits have a source; no other kind does.
+pub fn source_at(trace: &[u8], at: usize) -> SourceAt
+    ensures { λ r. ⌜ r ≡ sourceAt (now (trace .entry)) at ⌝ }
 {
     if trace.len() < at {
-        return no_load(at);
+        return no_source(at);
     }
-    let row = KINDS[4];
+    let load = KINDS[4];
+    let wait = KINDS[14];
     let size = size_at(trace, at);
-    if size != wide(row[LENGTH]) + 2 {
-        return no_load(at + size);
+    if size == wide(load[LENGTH]) + 2 {
+        return source_if(loads(word_at(trace, at + 2)), trace, at, size, load);
     }
-    if !loads(word_at(trace, at + 2)) {
-        return no_load(at + size);
+    if size == wide(wait[LENGTH]) + 2 {
+        return source_if(word_at(trace, at + 2) == 14, trace, at, size, wait);
     }
-    LoadAt {
-        loads: true,
-        thread: word_at(trace, at + wide(row[THREAD])),
-        source: word_at(trace, at + wide(row[SOURCE])),
-        next: at + size,
-    }
+    no_source(at + size)
 }

@@ -115,6 +115,8 @@ pub(crate) fn scan_step(trace: &[u8], at: usize) -> Scanned
         10 => scan_kind(trace, at, 10, KINDS[10]),
         11 => scan_kind(trace, at, 11, KINDS[11]),
         12 => scan_kind(trace, at, 12, KINDS[12]),
+        13 => scan_kind(trace, at, 13, KINDS[13]),
+        14 => scan_kind(trace, at, 14, KINDS[14]),
         _ => Scanned::Refused(refusal_at(trace, at)),
     }
 }

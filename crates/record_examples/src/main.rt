@@ -64,6 +64,8 @@ fn kinds() {
     read(b"\x02\x00\x00\x00");
     read(b"\x02\x00\x0c\x00");
     read(b"\x02\x00\x0d\x00");
+    read(b"\x04\x00\x0e\x00\x00\x00");
+    read(b"\x02\x00\x0f\x00");
     read(b"\x02\x00\x09\x01");
     read(b"\x04\x00\x63\x00\x00");
     read(b"\x09\x00\x01\x00\x01\x00\x01\x00\x02\x00\x00");
@@ -74,6 +76,11 @@ fn kinds() {
 // Every kind, written and framed, and both round trips, with field values from 0 to 65,535.
 fn every_kind() {
     title(b"every kind");
+    kinds_to_fences();
+    kinds_from_crash();
+}
+
+fn kinds_to_fences() {
     write(Event::Begin {
         version: 1,
         threads: 1,
@@ -99,6 +106,9 @@ fn every_kind() {
     });
     write(Event::Sfence { thread: 65535 });
     write(Event::Mfence { thread: 0 });
+}
+
+fn kinds_from_crash() {
     write(Event::Crash);
     write(Event::SkipOn { thread: 4660 });
     write(Event::SkipOff { thread: 1 });
@@ -106,6 +116,11 @@ fn every_kind() {
         thread: 3,
         location: 4,
         source: 260,
+    });
+    write(Event::Signal { thread: 5 });
+    write(Event::Wait {
+        thread: 6,
+        source: 261,
     });
 }
 
@@ -165,8 +180,8 @@ fn positions() {
     read_from(trace, 21);
 }
 
-// Records as plain numbers: through B, a load and a crash, then at the end and inside records; a locked operation; then
-// refusals 2, 3 and 4 with ten bytes and with fewer.
+// Records as plain numbers: through B, a load and a crash, then at the end and inside records; a locked operation; a
+// wait; then refusals 2, 3 and 4 with ten bytes and with fewer.
 fn scans() {
     title(b"scans");
     let trace =
@@ -179,10 +194,11 @@ fn scans() {
     scan_from(trace, 2);
     scan_from(trace, 22);
     scan(b"\x08\x00\x0c\x00\x03\x00\x04\x00\x04\x01");
+    scan(b"\x06\x00\x0e\x00\x06\x00\x05\x01");
     scan(b"");
     scan(b"\x09\x00\x01\x00\x01\x00\x01\x00\x02\x00");
     scan(b"\x08\x00\x01");
-    scan(b"\x02\x00\x0d\x00\x02\x00\x09\x00\x02\x00\x09\x00");
+    scan(b"\x02\x00\x0f\x00\x02\x00\x09\x00\x02\x00\x09\x00");
     scan(b"\x02\x00\x63\x00");
     scan(b"\x04\x00\x09\x00\x00\x00\x02\x00\x09\x00");
     scan(b"\x04\x00\x09\x00\x00\x00");
@@ -206,6 +222,8 @@ fn names() {
     name(11, f);
     name(12, f);
     name(13, f);
+    name(14, f);
+    name(15, f);
     name(65535, f);
 }
 

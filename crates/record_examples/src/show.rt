@@ -64,10 +64,7 @@ fn event(e: Event) {
             thread,
             location,
             source,
-        } => {
-            of_location(b" load", thread, location);
-            value(source);
-        }
+        } => of_source(b" load", thread, location, source),
         Event::Clflush { thread, location } => of_location(b" clflush", thread, location),
         Event::Clwb { thread, location } => of_location(b" clwb", thread, location),
         Event::Sfence { thread } => of_thread(b" sfence", thread),
@@ -79,8 +76,10 @@ fn event(e: Event) {
             thread,
             location,
             source,
-        } => {
-            of_location(b" locked", thread, location);
+        } => of_source(b" locked", thread, location, source),
+        Event::Signal { thread } => of_thread(b" signal", thread),
+        Event::Wait { thread, source } => {
+            of_thread(b" wait", thread);
             value(source);
         }
     }
@@ -94,6 +93,11 @@ fn of_thread(name: &[u8], thread: u16) {
 fn of_location(name: &[u8], thread: u16, location: u16) {
     of_thread(name, thread);
     value(location);
+}
+
+fn of_source(name: &[u8], thread: u16, location: u16, source: u16) {
+    of_location(name, thread, location);
+    value(source);
 }
 
 fn found(r: Read) {

@@ -74,6 +74,18 @@ enum-known-e-11 c = search needs
 thread-fields-requires-11 : tie.Need-thread-fields-requires-11
 thread-fields-requires-11 c κs = search needs
 
+enum-known-e-12 : tie.Need-enum-known-e-12
+enum-known-e-12 c = search needs
+
+thread-fields-requires-12 : tie.Need-thread-fields-requires-12
+thread-fields-requires-12 c κs = search needs
+
+enum-known-e-13 : tie.Need-enum-known-e-13
+enum-known-e-13 c = search needs
+
+thread-fields-requires-13 : tie.Need-thread-fields-requires-13
+thread-fields-requires-13 c κs = search needs
+
 returns : tie.Need-returns
 returns c = sym (ap fieldsOf (c .before .e .given .1))
 
@@ -110,6 +122,12 @@ returns-11 c = c .thread-fields10 .ensures ∙ sym (ap fieldsOf (c .before .befo
 returns-12 : tie.Need-returns-12
 returns-12 c = c .thread-fields11 .ensures ∙ sym (ap fieldsOf (c .before .before .e11 .given .1))
 
+returns-13 : tie.Need-returns-13
+returns-13 c = c .thread-fields12 .ensures ∙ sym (ap fieldsOf (c .before .before .e12 .given .1))
+
+returns-14 : tie.Need-returns-14
+returns-14 c = c .thread-fields13 .ensures ∙ sym (ap fieldsOf (c .before .before .e13 .given .1))
+
 pub fields-of-spec : {M : Type 1} → statement M
 fields-of-spec =
     tie.close
@@ -137,6 +155,10 @@ fields-of-spec =
     thread-fields-requires-10
     enum-known-e-11
     thread-fields-requires-11
+    enum-known-e-12
+    thread-fields-requires-12
+    enum-known-e-13
+    thread-fields-requires-13
     returns
     returns-2
     returns-3
@@ -148,4 +170,6 @@ fields-of-spec =
     returns-9
     returns-10
     returns-11
-    returns-12)
+    returns-12
+    returns-13
+    returns-14)

@@ -50,7 +50,15 @@ returns-11 c = rw (c .match .keys11)
 
 returns-12 : tie.Need-returns-12
 unfolding eventOf
-returns-12 c = crash-else _ _ (c .match .rest)
+returns-12 c = rw (c .match .keys12)
+
+returns-13 : tie.Need-returns-13
+unfolding eventOf
+returns-13 c = rw (c .match .keys13)
+
+returns-14 : tie.Need-returns-14
+unfolding eventOf
+returns-14 c = crash-else _ _ (c .match .rest)
 
 pub of-kind-spec : {M : Type 1} → statement M
 of-kind-spec =
@@ -67,4 +75,6 @@ of-kind-spec =
     returns-9
     returns-10
     returns-11
-    returns-12)
+    returns-12
+    returns-13
+    returns-14)

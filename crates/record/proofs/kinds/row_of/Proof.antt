@@ -75,6 +75,12 @@ array-copy-out-result-13 c = search needs
 array-copy-out-result-14 : tie.Need-array-copy-out-result-14
 array-copy-out-result-14 c = search needs
 
+array-copy-out-result-15 : tie.Need-array-copy-out-result-15
+array-copy-out-result-15 c = search needs
+
+array-copy-out-result-16 : tie.Need-array-copy-out-result-16
+array-copy-out-result-16 c = search needs
+
 returns-7 : tie.Need-returns-7
 unfolding rowOf
 returns-7 c = rw (c .before .match2 .keys1) refl
@@ -104,7 +110,15 @@ unfolding rowOf
 returns-13 c = rw (c .before .match2 .keys7) refl
 
 returns-14 : tie.Need-returns-14
-returns-14 c = zeros-else _ (c .before .before .if1 .left) (c .before .match2 .rest)
+unfolding rowOf
+returns-14 c = rw (c .before .match2 .keys8) refl
+
+returns-15 : tie.Need-returns-15
+unfolding rowOf
+returns-15 c = rw (c .before .match2 .keys9) refl
+
+returns-16 : tie.Need-returns-16
+returns-16 c = zeros-else _ (c .before .before .if1 .left) (c .before .match2 .rest)
 
 pub row-of-spec : {M : Type 1} → statement M
 row-of-spec =
@@ -130,6 +144,8 @@ row-of-spec =
     array-copy-out-result-12
     array-copy-out-result-13
     array-copy-out-result-14
+    array-copy-out-result-15
+    array-copy-out-result-16
     returns-7
     returns-8
     returns-9
@@ -137,4 +153,6 @@ row-of-spec =
     returns-11
     returns-12
     returns-13
-    returns-14)
+    returns-14
+    returns-15
+    returns-16)

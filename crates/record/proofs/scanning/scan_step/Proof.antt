@@ -153,6 +153,28 @@ scan-kind-requires-12 c κs =
     let room = at-end .end-refusal .ensures .1 (at-kind .before .if1 .left) in
     row-at (args .trace .now) (args .at) _ 12 (at-kind .word-at .ensures) (c .before .match .keys12) refl room
 
+array-copy-out-scan-kind-13 : tie.Need-array-copy-out-scan-kind-13
+array-copy-out-scan-kind-13 c = search needs
+
+scan-kind-requires-13 : tie.Need-scan-kind-requires-13
+scan-kind-requires-13 c κs =
+    let at-kind = c .before .before in
+    let at-end = at-kind .before .before in
+    let args = at-end .before .before .args in
+    let room = at-end .end-refusal .ensures .1 (at-kind .before .if1 .left) in
+    row-at (args .trace .now) (args .at) _ 13 (at-kind .word-at .ensures) (c .before .match .keys13) refl room
+
+array-copy-out-scan-kind-14 : tie.Need-array-copy-out-scan-kind-14
+array-copy-out-scan-kind-14 c = search needs
+
+scan-kind-requires-14 : tie.Need-scan-kind-requires-14
+scan-kind-requires-14 c κs =
+    let at-kind = c .before .before in
+    let at-end = at-kind .before .before in
+    let args = at-end .before .before .args in
+    let room = at-end .end-refusal .ensures .1 (at-kind .before .if1 .left) in
+    row-at (args .trace .now) (args .at) _ 14 (at-kind .word-at .ensures) (c .before .match .keys14) refl room
+
 refusal-at-requires : tie.Need-refusal-at-requires
 refusal-at-requires c κs = search needs
 
@@ -193,7 +215,13 @@ returns-13 : tie.Need-returns-13
 returns-13 c = search needs
 
 returns-14 : tie.Need-returns-14
-returns-14 c =
+returns-14 c = search needs
+
+returns-15 : tie.Need-returns-15
+returns-15 c = search needs
+
+returns-16 : tie.Need-returns-16
+returns-16 c =
     let at-kind = c .before .before in
     let at-end = at-kind .before .before in
     let args = at-end .before .before .args in
@@ -232,6 +260,10 @@ scan-step-spec =
     scan-kind-requires-11
     array-copy-out-scan-kind-12
     scan-kind-requires-12
+    array-copy-out-scan-kind-13
+    scan-kind-requires-13
+    array-copy-out-scan-kind-14
+    scan-kind-requires-14
     refusal-at-requires
     returns-2
     returns-3
@@ -245,4 +277,6 @@ scan-step-spec =
     returns-11
     returns-12
     returns-13
-    returns-14)
+    returns-14
+    returns-15
+    returns-16)
