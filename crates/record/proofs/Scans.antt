@@ -39,16 +39,16 @@ word-drop s at i =
 abbrev Room : List ℕ → ℕ → Type 0
 Room s at = (at + 4 ≤ length s) × (at + lengthOf (word s (at + 2)) + 2 ≤ length s)
 
--- the row of the table at a kind's number, or row 0 past the table, is the kind's; whether it has a length is computed
-pub row-at :
+-- a kind that an arm takes is the record's, and its bytes are there; whether the table's row at its number, or row 0
+-- past the table, has a length is computed
+pub known-at :
     (s : List ℕ) (at k j : ℕ) → k ≡ word s (at + 2) → k ≡ j → eqb (getD (getD kinds j (getD kinds 0 [])) 1 0) 0 ≡ false
     → Room s at
-    → (j ≡ word s (at + 2)) × (getD kinds j (getD kinds 0 []) ≡ rowOf j) × (lengthOf j ≢ 0)
-    × (at + lengthOf j + 2 ≤ length s)
+    → (j ≡ word s (at + 2)) × (lengthOf j ≢ 0) × (at + lengthOf j + 2 ≤ length s)
 unfolding rowOf
-row-at s at k j k-is j-is some room =
+known-at s at k j k-is j-is some room =
     let here : j ≡ word s (at + 2) = sym j-is ∙ k-is in
-    (here, refl, eqb-false _ 0 some, rw here (room .1))
+    (here, eqb-false _ 0 some, rw here (room .1))
 
 -- the fields of a record whose bytes are there end within them
 pub row-inside :
@@ -59,11 +59,11 @@ row-inside s at k row row-is room = rw (row-is, tail-is s at) (row-fits k _ (sim
 -- a record with its kind's length, whose bytes are there, is read, and its numbers stand there
 pub scan-known :
     (s : List ℕ) (at k n : ℕ) (row : List ℕ) (f : Fields)
-    → (k ≡ word s (at + 2)) × (row ≡ rowOf k) × (lengthOf k ≢ 0) × (at + lengthOf k + 2 ≤ length s)
-    → n ≡ word s at → n ≡ getD row 1 0 → f ≡ fieldsAt (take (length s - at) (drop at s)) row
+    → (k ≡ word s (at + 2)) × (lengthOf k ≢ 0) × (at + lengthOf k + 2 ≤ length s)
+    → row ≡ rowOf k → n ≡ word s at → n ≡ getD row 1 0 → f ≡ fieldsAt (take (length s - at) (drop at s)) row
     → Record (record { kind = k; fields = f; next = at + n + 2 }) ≡ scanOf (readAt s at)
 unfolding readAt
-scan-known s at k n row f (k-is, row-is, some, room) n-is fits f-is =
+scan-known s at k n row f (k-is, some, room) row-is n-is fits f-is =
     let t = drop at s in
     let of-kind = made t k some in
     let length-fits : n ≡ lengthOf k = rw (← row-is) fits in

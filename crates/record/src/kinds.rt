@@ -38,30 +38,32 @@ pub(crate) const KINDS: [[u16; 8]; 15] = [
 ];
 
 // The row of a kind; zeros where there is no such kind. Each arm indexes the table by a constant: an index that is
-// known only at run time would have the whole table copied at each call.
+// known only at run time would have the whole table copied at each call. The table is named once, for the check of a
+// function takes longer the oftener the table stands in it.
 pub(crate) fn row_of(kind: u16) -> [u16; 8]
     ensures { λ r. ⌜ r ≡ rowOf kind ⌝ }
 {
+    let kinds = KINDS;
     if kind < 6 {
         return match kind {
-            1 => KINDS[1],
-            2 => KINDS[2],
-            3 => KINDS[3],
-            4 => KINDS[4],
-            5 => KINDS[5],
-            _ => KINDS[0],
+            1 => kinds[1],
+            2 => kinds[2],
+            3 => kinds[3],
+            4 => kinds[4],
+            5 => kinds[5],
+            _ => kinds[0],
         };
     }
     match kind {
-        6 => KINDS[6],
-        7 => KINDS[7],
-        8 => KINDS[8],
-        9 => KINDS[9],
-        10 => KINDS[10],
-        11 => KINDS[11],
-        12 => KINDS[12],
-        13 => KINDS[13],
-        14 => KINDS[14],
-        _ => KINDS[0],
+        6 => kinds[6],
+        7 => kinds[7],
+        8 => kinds[8],
+        9 => kinds[9],
+        10 => kinds[10],
+        11 => kinds[11],
+        12 => kinds[12],
+        13 => kinds[13],
+        14 => kinds[14],
+        _ => kinds[0],
     }
 }

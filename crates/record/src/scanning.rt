@@ -13,8 +13,8 @@ ghost use Rattle.record.specs.declared.scanning.Scanned.the-variants.{Re
 use crate::bytes::wide;
 use crate::bytes::word_at;
 use crate::events::Fields;
-use crate::kinds::KINDS;
 use crate::kinds::LENGTH;
+use crate::kinds::row_of;
 use crate::reading::Read;
 use crate::reading::fields_at;
 use crate::reading::step_at;
@@ -77,11 +77,12 @@ fn end_refusal(trace: &[u8], at: usize) -> u16
 }
 
 // The record of that kind at a position, by the kind's row of the table; as many bytes as it has are there.
-fn scan_kind(trace: &[u8], at: usize, kind: u16, row: [u16; 8]) -> Scanned
-    requires { ⌜ (kind ≡ word (now trace) (at + 2)) × (row ≡ rowOf kind) × (lengthOf kind ≢ 0)
+fn scan_kind(trace: &[u8], at: usize, kind: u16) -> Scanned
+    requires { ⌜ (kind ≡ word (now trace) (at + 2)) × (lengthOf kind ≢ 0)
         × (at + lengthOf kind + 2 ≤ length (now trace)) ⌝ }
     ensures { λ r. ⌜ r ≡ scanOf (readAt (now (trace .entry)) at) ⌝ }
 {
+    let row = row_of(kind);
     let len = row[LENGTH];
     if word_at(trace, at) != len {
         return Scanned::Refused(refusal_at(trace, at));
@@ -103,20 +104,20 @@ pub(crate) fn scan_step(trace: &[u8], at: usize) -> Scanned
     }
     let kind = word_at(trace, at + 2);
     match kind {
-        1 => scan_kind(trace, at, 1, KINDS[1]),
-        2 => scan_kind(trace, at, 2, KINDS[2]),
-        3 => scan_kind(trace, at, 3, KINDS[3]),
-        4 => scan_kind(trace, at, 4, KINDS[4]),
-        5 => scan_kind(trace, at, 5, KINDS[5]),
-        6 => scan_kind(trace, at, 6, KINDS[6]),
-        7 => scan_kind(trace, at, 7, KINDS[7]),
-        8 => scan_kind(trace, at, 8, KINDS[8]),
-        9 => scan_kind(trace, at, 9, KINDS[9]),
-        10 => scan_kind(trace, at, 10, KINDS[10]),
-        11 => scan_kind(trace, at, 11, KINDS[11]),
-        12 => scan_kind(trace, at, 12, KINDS[12]),
-        13 => scan_kind(trace, at, 13, KINDS[13]),
-        14 => scan_kind(trace, at, 14, KINDS[14]),
+        1 => scan_kind(trace, at, 1),
+        2 => scan_kind(trace, at, 2),
+        3 => scan_kind(trace, at, 3),
+        4 => scan_kind(trace, at, 4),
+        5 => scan_kind(trace, at, 5),
+        6 => scan_kind(trace, at, 6),
+        7 => scan_kind(trace, at, 7),
+        8 => scan_kind(trace, at, 8),
+        9 => scan_kind(trace, at, 9),
+        10 => scan_kind(trace, at, 10),
+        11 => scan_kind(trace, at, 11),
+        12 => scan_kind(trace, at, 12),
+        13 => scan_kind(trace, at, 13),
+        14 => scan_kind(trace, at, 14),
         _ => Scanned::Refused(refusal_at(trace, at)),
     }
 }

@@ -1,6 +1,7 @@
--- Each arm has the row of the kind that it takes; a number that no arm takes is refused, as is what the end cuts off.
+-- Each arm scans a record of the kind that it takes; a number that no arm takes is refused, as is what the end cuts
+-- off.
 use mathlib.Core.Path.{refl}
-use Rattle.record.proofs.Scans.{row-at, unknown-kind}
+use Rattle.record.proofs.Scans.{known-at, unknown-kind}
 use borrow.Author.Needs.{needs}
 use Rattle.record.proofs.scanning.scan_step.Statement.{statement}
 use Rattle.record.proofs.scanning.scan_step.Tie as tie
@@ -21,159 +22,117 @@ word-at-requires c κs =
     let room = c .before .end-refusal .ensures .1 (c .if1 .left) in
     search needs
 
-array-copy-out-scan-kind : tie.Need-array-copy-out-scan-kind
-array-copy-out-scan-kind c = search needs
-
 scan-kind-requires : tie.Need-scan-kind-requires
 scan-kind-requires c κs =
-    let at-kind = c .before .before in
+    let at-kind = c .before in
     let at-end = at-kind .before .before in
     let args = at-end .before .before .args in
     let room = at-end .end-refusal .ensures .1 (at-kind .before .if1 .left) in
-    row-at (args .trace .now) (args .at) _ 1 (at-kind .word-at .ensures) (c .before .match .keys1) refl room
-
-array-copy-out-scan-kind-2 : tie.Need-array-copy-out-scan-kind-2
-array-copy-out-scan-kind-2 c = search needs
+    known-at (args .trace .now) (args .at) _ 1 (at-kind .word-at .ensures) (c .match .keys1) refl room
 
 scan-kind-requires-2 : tie.Need-scan-kind-requires-2
 scan-kind-requires-2 c κs =
-    let at-kind = c .before .before in
+    let at-kind = c .before in
     let at-end = at-kind .before .before in
     let args = at-end .before .before .args in
     let room = at-end .end-refusal .ensures .1 (at-kind .before .if1 .left) in
-    row-at (args .trace .now) (args .at) _ 2 (at-kind .word-at .ensures) (c .before .match .keys2) refl room
-
-array-copy-out-scan-kind-3 : tie.Need-array-copy-out-scan-kind-3
-array-copy-out-scan-kind-3 c = search needs
+    known-at (args .trace .now) (args .at) _ 2 (at-kind .word-at .ensures) (c .match .keys2) refl room
 
 scan-kind-requires-3 : tie.Need-scan-kind-requires-3
 scan-kind-requires-3 c κs =
-    let at-kind = c .before .before in
+    let at-kind = c .before in
     let at-end = at-kind .before .before in
     let args = at-end .before .before .args in
     let room = at-end .end-refusal .ensures .1 (at-kind .before .if1 .left) in
-    row-at (args .trace .now) (args .at) _ 3 (at-kind .word-at .ensures) (c .before .match .keys3) refl room
-
-array-copy-out-scan-kind-4 : tie.Need-array-copy-out-scan-kind-4
-array-copy-out-scan-kind-4 c = search needs
+    known-at (args .trace .now) (args .at) _ 3 (at-kind .word-at .ensures) (c .match .keys3) refl room
 
 scan-kind-requires-4 : tie.Need-scan-kind-requires-4
 scan-kind-requires-4 c κs =
-    let at-kind = c .before .before in
+    let at-kind = c .before in
     let at-end = at-kind .before .before in
     let args = at-end .before .before .args in
     let room = at-end .end-refusal .ensures .1 (at-kind .before .if1 .left) in
-    row-at (args .trace .now) (args .at) _ 4 (at-kind .word-at .ensures) (c .before .match .keys4) refl room
-
-array-copy-out-scan-kind-5 : tie.Need-array-copy-out-scan-kind-5
-array-copy-out-scan-kind-5 c = search needs
+    known-at (args .trace .now) (args .at) _ 4 (at-kind .word-at .ensures) (c .match .keys4) refl room
 
 scan-kind-requires-5 : tie.Need-scan-kind-requires-5
 scan-kind-requires-5 c κs =
-    let at-kind = c .before .before in
+    let at-kind = c .before in
     let at-end = at-kind .before .before in
     let args = at-end .before .before .args in
     let room = at-end .end-refusal .ensures .1 (at-kind .before .if1 .left) in
-    row-at (args .trace .now) (args .at) _ 5 (at-kind .word-at .ensures) (c .before .match .keys5) refl room
-
-array-copy-out-scan-kind-6 : tie.Need-array-copy-out-scan-kind-6
-array-copy-out-scan-kind-6 c = search needs
+    known-at (args .trace .now) (args .at) _ 5 (at-kind .word-at .ensures) (c .match .keys5) refl room
 
 scan-kind-requires-6 : tie.Need-scan-kind-requires-6
 scan-kind-requires-6 c κs =
-    let at-kind = c .before .before in
+    let at-kind = c .before in
     let at-end = at-kind .before .before in
     let args = at-end .before .before .args in
     let room = at-end .end-refusal .ensures .1 (at-kind .before .if1 .left) in
-    row-at (args .trace .now) (args .at) _ 6 (at-kind .word-at .ensures) (c .before .match .keys6) refl room
-
-array-copy-out-scan-kind-7 : tie.Need-array-copy-out-scan-kind-7
-array-copy-out-scan-kind-7 c = search needs
+    known-at (args .trace .now) (args .at) _ 6 (at-kind .word-at .ensures) (c .match .keys6) refl room
 
 scan-kind-requires-7 : tie.Need-scan-kind-requires-7
 scan-kind-requires-7 c κs =
-    let at-kind = c .before .before in
+    let at-kind = c .before in
     let at-end = at-kind .before .before in
     let args = at-end .before .before .args in
     let room = at-end .end-refusal .ensures .1 (at-kind .before .if1 .left) in
-    row-at (args .trace .now) (args .at) _ 7 (at-kind .word-at .ensures) (c .before .match .keys7) refl room
-
-array-copy-out-scan-kind-8 : tie.Need-array-copy-out-scan-kind-8
-array-copy-out-scan-kind-8 c = search needs
+    known-at (args .trace .now) (args .at) _ 7 (at-kind .word-at .ensures) (c .match .keys7) refl room
 
 scan-kind-requires-8 : tie.Need-scan-kind-requires-8
 scan-kind-requires-8 c κs =
-    let at-kind = c .before .before in
+    let at-kind = c .before in
     let at-end = at-kind .before .before in
     let args = at-end .before .before .args in
     let room = at-end .end-refusal .ensures .1 (at-kind .before .if1 .left) in
-    row-at (args .trace .now) (args .at) _ 8 (at-kind .word-at .ensures) (c .before .match .keys8) refl room
-
-array-copy-out-scan-kind-9 : tie.Need-array-copy-out-scan-kind-9
-array-copy-out-scan-kind-9 c = search needs
+    known-at (args .trace .now) (args .at) _ 8 (at-kind .word-at .ensures) (c .match .keys8) refl room
 
 scan-kind-requires-9 : tie.Need-scan-kind-requires-9
 scan-kind-requires-9 c κs =
-    let at-kind = c .before .before in
+    let at-kind = c .before in
     let at-end = at-kind .before .before in
     let args = at-end .before .before .args in
     let room = at-end .end-refusal .ensures .1 (at-kind .before .if1 .left) in
-    row-at (args .trace .now) (args .at) _ 9 (at-kind .word-at .ensures) (c .before .match .keys9) refl room
-
-array-copy-out-scan-kind-10 : tie.Need-array-copy-out-scan-kind-10
-array-copy-out-scan-kind-10 c = search needs
+    known-at (args .trace .now) (args .at) _ 9 (at-kind .word-at .ensures) (c .match .keys9) refl room
 
 scan-kind-requires-10 : tie.Need-scan-kind-requires-10
 scan-kind-requires-10 c κs =
-    let at-kind = c .before .before in
+    let at-kind = c .before in
     let at-end = at-kind .before .before in
     let args = at-end .before .before .args in
     let room = at-end .end-refusal .ensures .1 (at-kind .before .if1 .left) in
-    row-at (args .trace .now) (args .at) _ 10 (at-kind .word-at .ensures) (c .before .match .keys10) refl room
-
-array-copy-out-scan-kind-11 : tie.Need-array-copy-out-scan-kind-11
-array-copy-out-scan-kind-11 c = search needs
+    known-at (args .trace .now) (args .at) _ 10 (at-kind .word-at .ensures) (c .match .keys10) refl room
 
 scan-kind-requires-11 : tie.Need-scan-kind-requires-11
 scan-kind-requires-11 c κs =
-    let at-kind = c .before .before in
+    let at-kind = c .before in
     let at-end = at-kind .before .before in
     let args = at-end .before .before .args in
     let room = at-end .end-refusal .ensures .1 (at-kind .before .if1 .left) in
-    row-at (args .trace .now) (args .at) _ 11 (at-kind .word-at .ensures) (c .before .match .keys11) refl room
-
-array-copy-out-scan-kind-12 : tie.Need-array-copy-out-scan-kind-12
-array-copy-out-scan-kind-12 c = search needs
+    known-at (args .trace .now) (args .at) _ 11 (at-kind .word-at .ensures) (c .match .keys11) refl room
 
 scan-kind-requires-12 : tie.Need-scan-kind-requires-12
 scan-kind-requires-12 c κs =
-    let at-kind = c .before .before in
+    let at-kind = c .before in
     let at-end = at-kind .before .before in
     let args = at-end .before .before .args in
     let room = at-end .end-refusal .ensures .1 (at-kind .before .if1 .left) in
-    row-at (args .trace .now) (args .at) _ 12 (at-kind .word-at .ensures) (c .before .match .keys12) refl room
-
-array-copy-out-scan-kind-13 : tie.Need-array-copy-out-scan-kind-13
-array-copy-out-scan-kind-13 c = search needs
+    known-at (args .trace .now) (args .at) _ 12 (at-kind .word-at .ensures) (c .match .keys12) refl room
 
 scan-kind-requires-13 : tie.Need-scan-kind-requires-13
 scan-kind-requires-13 c κs =
-    let at-kind = c .before .before in
+    let at-kind = c .before in
     let at-end = at-kind .before .before in
     let args = at-end .before .before .args in
     let room = at-end .end-refusal .ensures .1 (at-kind .before .if1 .left) in
-    row-at (args .trace .now) (args .at) _ 13 (at-kind .word-at .ensures) (c .before .match .keys13) refl room
-
-array-copy-out-scan-kind-14 : tie.Need-array-copy-out-scan-kind-14
-array-copy-out-scan-kind-14 c = search needs
+    known-at (args .trace .now) (args .at) _ 13 (at-kind .word-at .ensures) (c .match .keys13) refl room
 
 scan-kind-requires-14 : tie.Need-scan-kind-requires-14
 scan-kind-requires-14 c κs =
-    let at-kind = c .before .before in
+    let at-kind = c .before in
     let at-end = at-kind .before .before in
     let args = at-end .before .before .args in
     let room = at-end .end-refusal .ensures .1 (at-kind .before .if1 .left) in
-    row-at (args .trace .now) (args .at) _ 14 (at-kind .word-at .ensures) (c .before .match .keys14) refl room
+    known-at (args .trace .now) (args .at) _ 14 (at-kind .word-at .ensures) (c .match .keys14) refl room
 
 refusal-at-requires : tie.Need-refusal-at-requires
 refusal-at-requires c κs = search needs
@@ -236,33 +195,19 @@ scan-step-spec =
     returns
     add-word-at
     word-at-requires
-    array-copy-out-scan-kind
     scan-kind-requires
-    array-copy-out-scan-kind-2
     scan-kind-requires-2
-    array-copy-out-scan-kind-3
     scan-kind-requires-3
-    array-copy-out-scan-kind-4
     scan-kind-requires-4
-    array-copy-out-scan-kind-5
     scan-kind-requires-5
-    array-copy-out-scan-kind-6
     scan-kind-requires-6
-    array-copy-out-scan-kind-7
     scan-kind-requires-7
-    array-copy-out-scan-kind-8
     scan-kind-requires-8
-    array-copy-out-scan-kind-9
     scan-kind-requires-9
-    array-copy-out-scan-kind-10
     scan-kind-requires-10
-    array-copy-out-scan-kind-11
     scan-kind-requires-11
-    array-copy-out-scan-kind-12
     scan-kind-requires-12
-    array-copy-out-scan-kind-13
     scan-kind-requires-13
-    array-copy-out-scan-kind-14
     scan-kind-requires-14
     refusal-at-requires
     returns-2
