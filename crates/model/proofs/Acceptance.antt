@@ -1,8 +1,8 @@
--- What an accepted trace has passed, and what that says of its loads: the list of refusals read backwards, for if the
--- answer of a list of tests is 0, then every test in it failed.
--- In order: the list read backwards, once; what an event has passed; what a counted load is; where a load's source
--- comes from (`own-source`, `commit-source` and `crossing-source`, by case; `source-from`, `source-early`,
--- `counted-source`).
+-- What an accepted trace has passed, and what that says of its loads and waits: the list of refusals read backwards,
+-- for if the answer of a list of tests is 0, then every test in it failed.
+-- In order: the list read backwards, once; what an event has passed (a wait: `wait-signalled`); what a counted load is;
+-- where a load's source comes from (`own-source`, `commit-source` and `crossing-source`, by case; `source-from`,
+-- `source-early`, `counted-source`).
 use Prim.Native.Nat.{ℕ, zero, suc, _≤_, _<_}
 use native.Mathlib.Omega.{arith}
 use mathlib.Core.Path.{_≡_, refl, sym, _∙_}
@@ -13,15 +13,16 @@ use borrow.Author.Tests.{eqb-true, eq-eqb, ne-eqb, ltb-true, ltb-false}
 use Rattle.record.specs.declared.events.Event.{Event}
 use Rattle.model.specs.Search.{last}
 use Rattle.model.specs.Trace.{thread, location, source, is, issue?, commit?, load?, crash?, begin?, drained?}
-use Rattle.model.specs.Trace.{skipOn?, skipOff?, Issue, Commit, Load, hasThread?, hasLocation?}
+use Rattle.model.specs.Trace.{skipOn?, skipOff?, signal?, wait?, Issue, Commit, Load, Signal, Wait}
+use Rattle.model.specs.Trace.{hasThread?, hasLocation?}
 use Rattle.model.specs.Trace.{threads, locations, stretch, commits, place}
 use Rattle.model.specs.Machine.{beside, commitsBefore, queued, oldest, committed, waits, waiting, commitsHere}
-use Rattle.model.specs.Machine.{current, past, sourceFits, crossing, skipping, counted}
+use Rattle.model.specs.Machine.{current, past, sourceFits, signalled, crossing, skipping, counted}
 use Rattle.model.specs.Rules.{Rules, pass, _refuses_else_, answer, beginFits, rules, Accepted}
 use Rattle.model.proofs.Searching.{false-true, same?, parts, or-cases, or-fails, not-without, fails-after}
 use Rattle.model.proofs.Searching.{last-is}
 use Rattle.model.proofs.Counting.{earlier-stretch}
-use Rattle.model.proofs.Roles.{neither, begin-no-load}
+use Rattle.model.proofs.Roles.{one-kind, neither, begin-no-load}
 
 -- ---- the list of refusals, read backwards
 
@@ -59,6 +60,13 @@ module _ (ev : ℕ → Event) where
     pub no-10 : (commit? ev n && not (queued ev n || issue? ev n)) ≡ false
     pub no-12 :
         (skipOn? ev n && skipping ev n (thread ev n) || skipOff? ev n && not (skipping ev n (thread ev n))) ≡ false
+    pub no-18 : (wait? ev n && not (signalled ev n)) ≡ false
+
+  -- what the test of a wait's source says
+  pub record Signalled (n : ℕ) : Type 0 where
+    pub signal : Signal ev (source ev n)
+    pub early : source ev n < n
+    pub in-stretch : stretch ev (source ev n) ≡ stretch ev n
 
   module _ (N : ℕ) (accepted : Accepted ev N) where
     pub passed : (n : ℕ) → n < N → Passed n
@@ -66,7 +74,7 @@ module _ (ev : ℕ → Event) where
     passed n inside = by-number (passes (rules ev n) (accepted .passes n inside))
       where
         by-number : Passes (rules ev n) → Passed n
-        by-number (no-1, (no-5, (no-13, (no-6, (no-7, (no-8, (no-11, (no-9, (no-10, (no-12, end)))))))))) =
+        by-number (no-1, (no-5, (no-13, (no-6, (no-7, (no-8, (no-11, (no-9, (no-10, (no-12, (no-18, end))))))))))) =
             record {
               no-1 = no-1;
               no-5 = no-5;
@@ -78,6 +86,7 @@ module _ (ev : ℕ → Event) where
               no-9 = no-9;
               no-10 = no-10;
               no-12 = no-12;
+              no-18 = no-18;
             }
 
     -- event 0 is a begin
@@ -91,6 +100,10 @@ module _ (ev : ℕ → Event) where
 
     pub store-not-0 : {p : ℕ} → Issue ev p → p ≢ 0
     store-not-0 store is-0 = false-true (sym (first-is-no-store-no-commit .0) ∙ rw is-0 at (store .test))
+
+    pub signal-not-0 : {s : ℕ} → Signal ev s → s ≢ 0
+    signal-not-0 signal is-0 =
+        false-true (sym (one-kind ev 0 1 13 (omega arith) begins) ∙ rw is-0 at (signal .test))
 
     -- "event 2,049" is turned away
     pub event-bound : (n : ℕ) → n < N → n ≤ 2048
@@ -108,6 +121,18 @@ module _ (ev : ℕ → Event) where
     -- an event that needs an empty queue finds it so
     pub drained-empty : (n : ℕ) → n < N → drained? ev n ≡ true → queued ev n ≡ false
     drained-empty n inside drains = fails-after (drained? ev n) (queued ev n) (passed n inside .no-11) drains
+
+    -- a wait's source is an earlier signal of its stretch
+    pub wait-signalled : (n : ℕ) → n < N → Wait ev n → Signalled n
+    wait-signalled n inside waits =
+        let fits = not-without (wait? ev n) (signalled ev n) (passed n inside .no-18) (waits .test) in
+        let and-stretch = parts (signal? ev (source ev n) && ltb (source ev n) n) _ fits in
+        let and-early = parts (signal? ev (source ev n)) _ (and-stretch .0) in
+        record {
+          signal = record { test = and-early .0 };
+          early = ltb-true _ _ (and-early .1);
+          in-stretch = eqb-true _ _ (and-stretch .1);
+        }
 
   -- ---- counted loads
 
@@ -172,6 +197,11 @@ module _ (ev : ℕ → Event) where
     from-own : FromOwn l s → From l s
     from-commit : FromCommit l s → From l s
     from-past : FromPast l s → From l s
+
+  pub from-store : {l s : ℕ} → From l s → Issue ev s
+  from-store (from-own from) = from .own .store
+  from-store (from-commit from) = from .of-thread .store
+  from-store (from-past from) = from .store
 
   waiting-is-own : (l : ℕ) → waiting ev l ≢ 0 → FromOwn l (waiting ev l)
   unfolding waiting

@@ -1,7 +1,8 @@
 -- Nothing depends on later events: two numberings that agree on the first N events have, of these events, the same
 -- stretches, counts, queues, sources, counted loads, refusals and happens-before. Each of these definitions looks at
--- earlier events only, apart from the load rule's third case, which any source is put to: a source that comes later is
--- of no earlier stretch. Choices and rulings: Prefixes. No event needs to be accepted.
+-- earlier events only, apart from the load rule's third case and the rule of waits, which any source is put to: a
+-- source that comes later is of no earlier stretch, and no earlier signal. Choices and rulings: Prefixes. No event
+-- needs to be accepted.
 -- In the order of specs/: Trace; Machine; Rules; HappensBefore.
 use Prim.Native.Nat.{ℕ, zero, suc, _≤_, _<_}
 use native.Mathlib.Omega.{arith}
@@ -12,13 +13,13 @@ use borrow.Author.Tests.{le-ltb}
 use Rattle.record.specs.declared.events.Event.{Event}
 use Rattle.record.specs.declared.events.Fields.{Fields}
 use Rattle.record.specs.Fields.{fieldsOf}
-use Rattle.model.specs.Trace.{thread, location, source, issue?, commit?, Issue, Load, stretch, count}
-use Rattle.model.specs.Trace.{issues, commits, place}
+use Rattle.model.specs.Trace.{thread, location, source, issue?, commit?, signal?, Issue, Load, Signal, Wait}
+use Rattle.model.specs.Trace.{stretch, count, issues, commits, place}
 use Rattle.model.specs.Machine.{beside, commitsBefore, queued, oldest, committed, commitsIt, commitOf}
-use Rattle.model.specs.Machine.{waits, waiting, commitsHere, current, past, sourceFits, switched, skipping}
-use Rattle.model.specs.Machine.{counted, counting}
+use Rattle.model.specs.Machine.{waits, waiting, commitsHere, current, past, sourceFits, signalled, switched}
+use Rattle.model.specs.Machine.{skipping, counted, counting}
 use Rattle.model.specs.Rules.{beginFits, rules, refusal, Accepted}
-use Rattle.model.specs.HappensBefore.{Precedes, own, read, chain, Before, AtOrBefore}
+use Rattle.model.specs.HappensBefore.{Precedes, own, read, handed, chain, Before, AtOrBefore}
 use Rattle.model.proofs.Searching.{less?, last-same, last-within}
 use Rattle.model.proofs.Counting.{stretch-mono}
 use Rattle.model.proofs.Ordering.{precedes-lt}
@@ -34,6 +35,10 @@ reversed agree e inside = sym (agree e inside)
 -- and fewer of them
 pub fewer : {N : ℕ} {ev other : ℕ → Event} → (n : ℕ) → n ≤ N → Agree N ev other → Agree n ev other
 fewer n within agree e inside = agree e (omega arith)
+
+-- no earlier signal comes later
+signalled-later : (ev : ℕ → Event) (n : ℕ) → n ≤ source ev n → signalled ev n ≡ false
+signalled-later ev n later = rw (le-ltb (source ev n) n later, and-false (signal? ev (source ev n))) refl
 
 -- no store of an earlier stretch comes later
 past-later : (ev : ℕ → Event) (n s : ℕ) → n ≤ s → past ev n s ≡ false
@@ -210,6 +215,22 @@ module _ {N : ℕ} {ev other : ℕ → Event} (agree : Agree N ev other) where
         agree n inside,
       )
 
+  -- ---- waits
+
+  signalled-same : (n : ℕ) → n < N → signalled ev n ≡ signalled other n
+  signalled-same n inside = by-order (less? (source ev n) n)
+    where
+      by-order : (source ev n < n) ⊎ (n ≤ source ev n) → signalled ev n ≡ signalled other n
+      by-order (inl earlier) =
+          rw (
+            ← source-same n inside,
+            stretch-same (source ev n) (omega arith),
+            stretch-same n (omega arith),
+            agree (source ev n) (omega arith),
+          )
+      by-order (inr later) =
+          signalled-later ev n later ∙ sym (signalled-later other n (rw (source-same n inside) at later))
+
   -- ---- the rules
 
   beginFits-same : (n : ℕ) → n < N → beginFits ev n ≡ beginFits other n
@@ -225,6 +246,7 @@ module _ {N : ℕ} {ev other : ℕ → Event} (agree : Agree N ev other) where
   refusal-same n inside =
       rw (
         sourceFits-same n inside,
+        signalled-same n inside,
         queued-same n inside,
         skipping-same n (thread ev n) (omega arith),
         stretch-same n (omega arith),
@@ -250,6 +272,12 @@ module _ {N : ℕ} {ev other : ℕ → Event} (agree : Agree N ev other) where
   pub load-same : {e : ℕ} → e < N → Load ev e → Load other e
   load-same {e} inside loads = record { test = rw (agree e inside) at (loads .test) }
 
+  pub signal-same : {e : ℕ} → e < N → Signal ev e → Signal other e
+  signal-same {e} inside signal = record { test = rw (agree e inside) at (signal .test) }
+
+  pub wait-same : {e : ℕ} → e < N → Wait ev e → Wait other e
+  wait-same {e} inside waits = record { test = rw (agree e inside) at (waits .test) }
+
   pub stretches-same :
       (e n : ℕ) → e ≤ N → n ≤ N → stretch ev e ≡ stretch ev n → stretch other e ≡ stretch other n
   stretches-same e n e-within n-within same = omega (arith, stretch-same e e-within, stretch-same n n-within)
@@ -257,7 +285,7 @@ module _ {N : ℕ} {ev other : ℕ → Event} (agree : Agree N ev other) where
   threads-same : (e n : ℕ) → e < N → n < N → thread ev e ≡ thread ev n → thread other e ≡ thread other n
   threads-same e n e-inside n-inside same = omega (arith, thread-same e e-inside, thread-same n n-inside)
 
-  precedes-same : {p n : ℕ} → n < N → Precedes ev p n → Precedes other p n
+  pub precedes-same : {p n : ℕ} → n < N → Precedes ev p n → Precedes other p n
   precedes-same {p} {n} inside (own store in-stretch by-thread earlier) =
       own (issue-same (omega arith) store) (stretches-same p n (omega arith) (omega arith) in-stretch)
       (threads-same p n (omega arith) inside by-thread) earlier
@@ -266,6 +294,12 @@ module _ {N : ℕ} {ev other : ℕ → Event} (agree : Agree N ev other) where
       (load-same (omega arith) loads) (sym (source-same l (omega arith)) ∙ from)
       (threads-same l n (omega arith) inside by-thread)
       (stretches-same l n (omega arith) (omega arith) load-in-stretch) after early
+  precedes-same {p} {n} inside
+      (handed s w signal in-stretch before waits from by-thread wait-in-stretch after early) =
+      handed s w (signal-same (omega arith) signal) (stretches-same s n (omega arith) (omega arith) in-stretch)
+      (precedes-same (omega arith) before) (wait-same (omega arith) waits) (sym (source-same w (omega arith)) ∙ from)
+      (threads-same w n (omega arith) inside by-thread)
+      (stretches-same w n (omega arith) (omega arith) wait-in-stretch) after early
   precedes-same inside (chain {p} {q} {n} store first second) =
       let q<n = precedes-lt ev second in
       chain (issue-same (omega arith) store) (precedes-same (omega arith) first) (precedes-same inside second)

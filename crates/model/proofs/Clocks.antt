@@ -1,6 +1,6 @@
--- Vector clocks compute happens-before (`clock-is-happens-before`, and `covers-exactly` of the test). What a clock
--- counts happens before: it is the thread's own, or a load brought it in. What happens before is counted: clocks grow
--- along happens-before.
+-- Vector clocks compute happens-before (`clock-is-happens-before`, and `covers-exactly` of the test; of signals
+-- `clock-is-handed` and `covers-handed`). What a clock counts happens before: it is the thread's own, or a load or a
+-- wait brought it in. What happens before is counted: clocks grow along happens-before.
 -- In order: the stores that a clock counts (`clock-place`); that they happen before; that clocks grow; the theorem.
 use Prim.Native.Nat.{ℕ, zero, suc, _≤_, _<_, max}
 use native.Mathlib.Omega.{arith}
@@ -10,15 +10,16 @@ use mathlib.Core.Logic.{_⊎_, inl, inr, _≢_, _↔_}
 use lib.Dec.{eqb}
 use borrow.Author.Tests.{eqb-true, eq-eqb, ltb-true, lt-ltb}
 use Rattle.record.specs.declared.events.Event.{Event}
-use Rattle.model.specs.Trace.{thread, source, issue?, crash?, Issue, stretch, issues, place}
-use Rattle.model.specs.HappensBefore.{Precedes, Before, AtOrBefore, own, read, chain}
+use Rattle.model.specs.Trace.{thread, source, issue?, crash?, Issue, Load, Signal, stretch, issues, place}
+use Rattle.model.specs.HappensBefore.{Precedes, Before, AtOrBefore, own, read, handed, chain}
 use Rattle.model.specs.Clocks.{joins, seen, vc, covers?}
-use Rattle.model.proofs.Searching.{test, both, parts, same?, less?}
+use Rattle.model.proofs.Searching.{test, false-true, both, parts, same?, less?}
 use Rattle.model.proofs.Counting.{stretch-crash, stretch-else, stretch-mono, count-mono, at-place}
 use Rattle.model.proofs.Induction.{from-all-smaller}
-use Rattle.model.proofs.Ordering.{same-stretch}
-use Rattle.model.proofs.Roles.{issue-no-crash, load-no-crash}
-use Rattle.model.proofs.ClockSteps.{Joined, joins→, →joins, seen-zero, seen-crash, seen-join, seen-keep}
+use Rattle.model.proofs.Ordering.{precedes-stretch, same-stretch}
+use Rattle.model.proofs.Roles.{issue-no-crash, load-no-crash, signal-no-crash, wait-no-crash, signal-no-issue}
+use Rattle.model.proofs.ClockSteps.{Meets, loads-store, waits-signal, meets-no-crash, Joined, joins→, →joins}
+use Rattle.model.proofs.ClockSteps.{seen-zero, seen-crash, seen-join, seen-keep}
 use Rattle.model.proofs.ClockSteps.{vc-here, vc-own, vc-other, seen-bound, vc-bound}
 
 module _ (ev : ℕ → Event) where
@@ -96,32 +97,43 @@ module _ (ev : ℕ → Event) where
           let same = stretch-else ev n no-crash in
           earlier n (omega arith) p e store (p-in-stretch ∙ same) (e-in-stretch ∙ same) (omega arith) was-seen-before
 
-      -- event n is a load that brings p in
+      -- event n is a load or a wait that brings p in
       brought : Joined ev n t → place ev p < vc ev (source ev n) (thread ev p) → Precedes ev p e
       brought joined counted =
-          from-source
-          (counted-precedes (source ev n) p of-source (issue-no-crash ev (joined .store)) store in-stretch counted)
+          by-role (joined .meets) (counted-precedes s p of-source (no-crashes .1) store in-stretch counted)
         where
-          of-source : SeenPrecedes (suc (source ev n))
-          of-source = earlier (suc (source ev n)) (joined .early)
+          s : ℕ
+          s = source ev n
+
+          no-crashes : (crash? ev n ≡ false) × (crash? ev s ≡ false)
+          no-crashes = meets-no-crash ev (joined .meets)
+
+          of-source : SeenPrecedes (suc s)
+          of-source = earlier (suc s) (joined .early)
 
           same : stretch ev (suc n) ≡ stretch ev n
-          same = stretch-else ev n (load-no-crash ev (joined .loads))
+          same = stretch-else ev n (no-crashes .0)
 
-          in-stretch : stretch ev p ≡ stretch ev (source ev n)
+          in-stretch : stretch ev p ≡ stretch ev s
           in-stretch = p-in-stretch ∙ same ∙ sym (joined .in-stretch)
 
-          load-in-stretch : stretch ev n ≡ stretch ev e
-          load-in-stretch = sym (e-in-stretch ∙ same)
+          here : stretch ev n ≡ stretch ev e
+          here = sym (e-in-stretch ∙ same)
 
-          source-precedes : Precedes ev (source ev n) e
-          source-precedes =
-              read n (joined .store) (joined .in-stretch ∙ load-in-stretch) (joined .loads) refl (joined .by-t)
-              load-in-stretch (joined .early) (omega arith)
+          loaded : Load ev n → Issue ev s → Precedes ev s e
+          loaded load source-stores =
+              read n source-stores (joined .in-stretch ∙ here) load refl (joined .by-t) here (joined .early)
+              (omega arith)
 
-          from-source : (p ≡ source ev n) ⊎ Precedes ev p (source ev n) → Precedes ev p e
-          from-source (inl is) = rw is source-precedes
-          from-source (inr before) = chain (joined .store) before source-precedes
+          by-role : Meets ev n → (p ≡ s) ⊎ Precedes ev p s → Precedes ev p e
+          by-role (loads-store load source-stores) (inl is) = rw is (loaded load source-stores)
+          by-role (loads-store load source-stores) (inr before) =
+              chain source-stores before (loaded load source-stores)
+          by-role (waits-signal wait signal) (inl is) =
+              absurd (false-true (sym (signal-no-issue ev signal) ∙ rw is at (store .test)))
+          by-role (waits-signal wait signal) (inr before) =
+              handed s n signal (joined .in-stretch ∙ here) before wait refl (joined .by-t) here (joined .early)
+              (omega arith)
 
       before-or-brought :
           crash? ev n ≡ false → joins ev n t ≡ true
@@ -207,8 +219,7 @@ module _ (ev : ℕ → Event) where
       joined : Joined ev l (thread ev n)
       joined =
           record {
-            loads = loads;
-            store = rw from store;
+            meets = loads-store loads (rw from store);
             by-t = by-thread;
             early = rw from after;
             in-stretch = rw from (in-stretch ∙ sym load-in-stretch);
@@ -216,6 +227,26 @@ module _ (ev : ℕ → Event) where
 
       brought : seen ev (suc l) (thread ev n) u ≡ max (seen ev l (thread ev n) u) (vc ev p u)
       brought = rw from at (seen-join ev l (thread ev n) u (→joins ev l (thread ev n) joined))
+  clocks-grow here
+      (handed {p} {n} s w signal s-in-stretch before waits from by-thread w-in-stretch after early) u =
+      omega (
+        arith,
+        clocks-grow (signal-no-crash ev signal) before u,
+        brought,
+        seen-in-clock w n u (wait-no-crash ev waits) here early w-in-stretch,
+      )
+    where
+      joined : Joined ev w (thread ev n)
+      joined =
+          record {
+            meets = waits-signal waits (rw from signal);
+            by-t = by-thread;
+            early = rw from after;
+            in-stretch = rw from (s-in-stretch ∙ sym w-in-stretch);
+          }
+
+      brought : seen ev (suc w) (thread ev n) u ≡ max (seen ev w (thread ev n) u) (vc ev s u)
+      brought = rw from at (seen-join ev w (thread ev n) u (→joins ev w (thread ev n) joined))
   clocks-grow here (chain {p} {q} {n} q-store first second) u =
       let to-q : vc ev p u ≤ vc ev q u = clocks-grow (issue-no-crash ev q-store) first u in
       let to-n : vc ev q u ≤ vc ev n u = clocks-grow here second u in
@@ -223,42 +254,70 @@ module _ (ev : ℕ → Event) where
 
   -- ---- the theorem
 
-  -- p's place is below q's clock for p's thread exactly if p is q or happens before it
+  -- of any event n: p's place is below n's clock for p's thread exactly if p is n or happens before it
+  clock-is-precedes :
+      (n p : ℕ) → crash? ev n ≡ false → Issue ev p → stretch ev p ≡ stretch ev n
+      → (place ev p < vc ev n (thread ev p)) ↔ ((p ≡ n) ⊎ Precedes ev p n)
+  clock-is-precedes n p here p-store in-stretch =
+      (counted-precedes n p (seen-precedes (suc n)) here p-store in-stretch, is-counted)
+    where
+      itself : place ev p < vc ev p (thread ev p)
+      itself = omega (arith, vc-own ev p (thread ev p) p-store refl)
+
+      is-counted : (p ≡ n) ⊎ Precedes ev p n → place ev p < vc ev n (thread ev p)
+      is-counted (inl is) = rw (← is) itself
+      is-counted (inr precedes) = omega (arith, itself, clocks-grow here precedes (thread ev p))
+
+  -- of a store q
   pub clock-is-happens-before :
       (q p : ℕ) → Issue ev q → Issue ev p → stretch ev p ≡ stretch ev q
       → (place ev p < vc ev q (thread ev p)) ↔ ((p ≡ q) ⊎ Before ev p q)
   clock-is-happens-before q p q-store p-store in-stretch =
-      (counted-is-before, before-is-counted)
+      (λ counted. to (exactly .0 counted), λ before. exactly .1 (from before))
     where
-      q-here : crash? ev q ≡ false
-      q-here = issue-no-crash ev q-store
+      exactly : (place ev p < vc ev q (thread ev p)) ↔ ((p ≡ q) ⊎ Precedes ev p q)
+      exactly = clock-is-precedes q p (issue-no-crash ev q-store) p-store in-stretch
 
-      counted-is-before : place ev p < vc ev q (thread ev p) → (p ≡ q) ⊎ Before ev p q
-      counted-is-before counted =
-          by-order (counted-precedes q p (seen-precedes (suc q)) q-here p-store in-stretch counted)
-        where
-          by-order : (p ≡ q) ⊎ Precedes ev p q → (p ≡ q) ⊎ Before ev p q
-          by-order (inl is) = inl is
-          by-order (inr precedes) = inr (record { store = q-store; precedes = precedes })
+      to : (p ≡ q) ⊎ Precedes ev p q → (p ≡ q) ⊎ Before ev p q
+      to (inl is) = inl is
+      to (inr precedes) = inr (record { store = q-store; precedes = precedes })
 
-      itself : place ev p < vc ev p (thread ev p)
-      itself = omega (arith, vc-own ev p (thread ev p) p-store refl)
+      from : (p ≡ q) ⊎ Before ev p q → (p ≡ q) ⊎ Precedes ev p q
+      from (inl is) = inl is
+      from (inr before) = inr (before .precedes)
 
-      before-is-counted : (p ≡ q) ⊎ Before ev p q → place ev p < vc ev q (thread ev p)
-      before-is-counted (inl is) = rw (← is) itself
-      before-is-counted (inr before) = omega (arith, itself, clocks-grow q-here (before .precedes) (thread ev p))
-
-  -- the same of the test
-  pub covers-exactly : (p q : ℕ) → Issue ev p → Issue ev q → (covers? ev p q ≡ true) ↔ AtOrBefore ev p q
-  covers-exactly p q p-store q-store = (to, from)
+  -- of a signal s, which is no store
+  pub clock-is-handed :
+      (s p : ℕ) → Signal ev s → Issue ev p → stretch ev p ≡ stretch ev s
+      → (place ev p < vc ev s (thread ev p)) ↔ Precedes ev p s
+  clock-is-handed s p signal p-store in-stretch =
+      (λ counted. to (exactly .0 counted), λ precedes. exactly .1 (inr precedes))
     where
-      to : covers? ev p q ≡ true → AtOrBefore ev p q
+      exactly : (place ev p < vc ev s (thread ev p)) ↔ ((p ≡ s) ⊎ Precedes ev p s)
+      exactly = clock-is-precedes s p (signal-no-crash ev signal) p-store in-stretch
+
+      to : (p ≡ s) ⊎ Precedes ev p s → Precedes ev p s
+      to (inl is) = false-true (sym (signal-no-issue ev signal) ∙ rw is at (p-store .test))
+      to (inr precedes) = precedes
+
+  -- the same of the test, for an order that is within a stretch and that clocks compute
+  by-clock :
+      {Order : Type 0} (p q : ℕ) → (Order → stretch ev p ≡ stretch ev q)
+      → (stretch ev p ≡ stretch ev q → (place ev p < vc ev q (thread ev p)) ↔ Order)
+      → (covers? ev p q ≡ true) ↔ Order
+  by-clock {Order} p q within exactly = (to, from)
+    where
+      to : covers? ev p q ≡ true → Order
       to passes =
           let (in-stretch, counted) = parts (eqb (stretch ev p) (stretch ev q)) _ passes in
-          clock-is-happens-before q p q-store p-store (eqb-true _ _ in-stretch) .0 (ltb-true _ _ counted)
+          exactly (eqb-true _ _ in-stretch) .0 (ltb-true _ _ counted)
 
-      from : AtOrBefore ev p q → covers? ev p q ≡ true
+      from : Order → covers? ev p q ≡ true
       from order =
-          let in-stretch = same-stretch ev p q order in
-          both _ _ (eq-eqb _ _ in-stretch)
-          (lt-ltb _ _ (clock-is-happens-before q p q-store p-store in-stretch .1 order))
+          both _ _ (eq-eqb _ _ (within order)) (lt-ltb _ _ (exactly (within order) .1 order))
+
+  pub covers-exactly : (p q : ℕ) → Issue ev p → Issue ev q → (covers? ev p q ≡ true) ↔ AtOrBefore ev p q
+  covers-exactly p q p-store q-store = by-clock p q (same-stretch ev p q) (clock-is-happens-before q p q-store p-store)
+
+  pub covers-handed : (p s : ℕ) → Issue ev p → Signal ev s → (covers? ev p s ≡ true) ↔ Precedes ev p s
+  covers-handed p s p-store signal = by-clock p s (precedes-stretch ev) (clock-is-handed s p signal p-store)

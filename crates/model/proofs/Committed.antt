@@ -1,6 +1,7 @@
 -- In an accepted trace, whatever happens before a committed store is committed, and earlier in commit order: at the
 -- store's commit all that its thread issued before it is committed, and so is what its thread loaded from, since a load
--- from another thread's store of its stretch reads one whose commit comes before the load.
+-- from another thread's store of its stretch reads one whose commit comes before the load. What was handed over to its
+-- thread is committed at the signal already, since a signal finds its thread's queue empty.
 -- In order: the commit of a store; in an accepted trace, commits never pass issues, so that no store's commit comes
 -- before it; what happens before an event whose thread's earlier stores are committed (`settled`), by one recursion
 -- over happens-before; the theorem `before-committed`.
@@ -10,17 +11,18 @@ use mathlib.Core.Path.{_≡_, refl, sym, _∙_}
 use mathlib.Core.Bool.{Bool, true, false, _&&_}
 use mathlib.Core.Logic.{_⊎_, inl, inr, _≢_}
 use lib.Dec.{eqb}
-use borrow.Author.Tests.{eqb-true, eqb-false, eq-eqb, not-true}
+use borrow.Author.Tests.{eqb-true, eqb-false, eq-eqb, not-true, not-false}
 use Rattle.record.specs.declared.events.Event.{Event}
-use Rattle.model.specs.Trace.{thread, source, issue?, commit?, Issue, Commit}
+use Rattle.model.specs.Trace.{thread, source, issue?, commit?, Issue, Commit, Signal}
 use Rattle.model.specs.Trace.{stretch, count, issues, commits, place}
 use Rattle.model.specs.Machine.{commitsBefore, queued, commitsIt, commitOf}
-use Rattle.model.specs.HappensBefore.{Precedes, own, read, chain, Before}
+use Rattle.model.specs.HappensBefore.{Precedes, own, read, handed, chain, Before}
 use Rattle.model.specs.Rules.{Accepted}
 use Rattle.model.proofs.Searching.{test, less?, both, parts, or-cases, last-of}
 use Rattle.model.proofs.Counting.{count-it, count-mono, count-lt, AtPlace, at-place, place-unique}
-use Rattle.model.proofs.Acceptance.{store-not-0, commit-queued, source-from}
+use Rattle.model.proofs.Acceptance.{store-not-0, commit-queued, drained-empty, source-from}
 use Rattle.model.proofs.Acceptance.{From, from-own, from-commit, from-past}
+use Rattle.model.proofs.Roles.{signal-drains}
 use Rattle.model.proofs.Ordering.{precedes-lt}
 
 module _ (ev : ℕ → Event) where
@@ -177,6 +179,13 @@ module _ (ev : ℕ → Event) where
     abbrev Settled : ℕ → ℕ → Type 0
     Settled m n = issues ev n (stretch ev n) (thread ev n) ≤ commits ev m (stretch ev n) (thread ev n)
 
+    -- so it is at a signal, before which no store of its thread waits
+    signal-settled : (s : ℕ) → s < N → Signal ev s → Settled s s
+    signal-settled s inside signal =
+        let empty = drained-empty ev N accepted s inside (signal-drains ev signal) in
+        let all : issues ev s (stretch ev s) (thread ev s) ≡ commitsBefore ev s = eqb-true _ _ (not-false _ empty) in
+        omega arith
+
     -- a store of n's own thread and stretch, issued earlier
     own-settled :
         (p n m : ℕ) → Issue ev p → stretch ev p ≡ stretch ev n → thread ev p ≡ thread ev n → p < n → Settled m n
@@ -215,6 +224,11 @@ module _ (ev : ℕ → Event) where
       where
         from : From ev l (source ev l)
         from = source-from ev N accepted l (omega arith) loads (rw from-p (store-not-0 ev N accepted store))
+    settled (handed {p} s w signal in-stretch before waits from by-thread wait-in-stretch after early) m within inside
+        settles =
+        let s-inside : s < N = omega arith in
+        let by-signal = settled before s (omega arith) s-inside (signal-settled s s-inside signal) in
+        omega (arith, count-mono ev (commit? ev) s m (stretch ev p) (thread ev p) (omega arith))
     settled (chain {p} {q} {n} store first second) m within inside settles =
         let q-committed : Committed m q = settled second m within inside settles in
         settled first m (omega (arith, precedes-lt ev second)) inside (omega arith)

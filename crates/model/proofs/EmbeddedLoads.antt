@@ -1,5 +1,5 @@
 -- Happens-before and what loads observe and forbid, for a part of a trace and the whole (specs/Embedding.antt). What
--- happens before a store of the part is a store of the part; so is what its loads observe and forbid.
+-- happens before a store or a signal of the part is a store of the part; so is what its loads observe and forbid.
 -- In order: what is no gap; loads among stores; happens-before; stores that are in; what loads observe and forbid. A
 -- lemma -at starts from events of the part, a lemma -kept from events of the whole.
 use Prim.Native.Nat.{ℕ, _≤_, _<_}
@@ -8,15 +8,15 @@ use mathlib.Core.Path.{_≡_, sym, _∙_, ap}
 use mathlib.Core.Bool.{Bool, true, false}
 use mathlib.Core.Logic.{_⊎_, inl, inr, _≢_, _↔_}
 use Rattle.record.specs.declared.events.Event.{Event}
-use Rattle.model.specs.Trace.{thread, location, source, issue?, load?, Issue, stretch}
+use Rattle.model.specs.Trace.{thread, location, source, issue?, load?, Issue, Signal, stretch}
 use Rattle.model.specs.Machine.{commitOf}
-use Rattle.model.specs.HappensBefore.{Precedes, own, read, chain, Before, AtOrBefore}
+use Rattle.model.specs.HappensBefore.{Precedes, own, read, handed, chain, Before, AtOrBefore}
 use Rattle.model.specs.Choice.{Choice, In, Observes, Newer, Forbids, Observed, Forbidden}
 use Rattle.model.specs.Embedding.{Numbering, Naming, Role, Embedding, Apart, restricted}
 use Rattle.model.proofs.Searching.{same?, less?, test, false-true, excluded}
 use Rattle.model.proofs.CountedLoads.{counted-is-load}
 use Rattle.model.proofs.Numberings.{into-injective, number-zero, kept-mono, kept-lt, number-below, number-mono}
-use Rattle.model.proofs.Numberings.{number-lt, number-injective}
+use Rattle.model.proofs.Numberings.{number-lt, number-le, number-injective}
 use Rattle.model.proofs.EmbeddedTrace.{stretch-kept, stretch-store, stretch-loads, stretch-load, place-at}
 use Rattle.model.proofs.EmbeddedMachine.{commitOf-at, counted-at}
 
@@ -44,17 +44,16 @@ module _
   pub store-kept : {p : ℕ} → via .stores .gap? p ≡ false → Issue whole p → Issue part (via .stores .kept p)
   store-kept {p} stays store = record { test = role-kept (via .issuing) p stays (store .test) }
 
-  -- the source of a load of the part
+  -- event s of the whole is event e of the part
+  numbered : (e s : ℕ) → s ≡ via .stores .number e → Numbered (λ q. e ≡ q) s
+  numbered e s is =
+      rw is (record { stays = via .stores .number-stays e; holds = sym (via .stores .kept-number e) })
+
+  -- so is the source of a load of the part
   source-kept :
       (l : ℕ) → load? part l ≡ true → (s : ℕ) → source whole (via .loads .number l) ≡ s
       → Numbered (λ q. source part l ≡ q) s
-  source-kept l loads s from =
-      let is-s : s ≡ via .stores .number (source part l) = sym from ∙ via .source-same l loads in
-      rw is-s
-      (record {
-        stays = via .stores .number-stays (source part l);
-        holds = sym (via .stores .kept-number (source part l));
-      })
+  source-kept l loads s from = numbered (source part l) s (sym from ∙ via .source-same l loads)
 
   -- ---- loads among stores
 
@@ -78,65 +77,95 @@ module _
 
   -- ---- happens-before
 
-  -- events of the thread of store n
-  of-store :
+  -- the thread of event n of the part, which is a store or a signal, in the whole
+  abbrev ThreadAt : ℕ → Type 0
+  ThreadAt n = thread whole (via .stores .number n) ≡ threadsBy .into (thread part n)
+
+  -- events of that thread
+  of-thread :
       {plays? : (ℕ → Event) → ℕ → Bool} {by : Numbering} (role : Role plays? by threadsBy part whole)
-      (m n : ℕ) → plays? part m ≡ true → issue? part n ≡ true → thread part m ≡ thread part n
+      (m n : ℕ) → plays? part m ≡ true → ThreadAt n → thread part m ≡ thread part n
       → thread whole (by .number m) ≡ thread whole (via .stores .number n)
-  of-store role m n plays store by-thread =
-      role .thread-same m plays ∙ ap (threadsBy .into) by-thread ∙ sym (via .issuing .thread-same n store)
+  of-thread role m n plays last by-thread =
+      role .thread-same m plays ∙ ap (threadsBy .into) by-thread ∙ sym last
 
   precedes-at :
-      {p n : ℕ} → Issue part n → Precedes part p n → Precedes whole (via .stores .number p) (via .stores .number n)
+      {p n : ℕ} → ThreadAt n → Precedes part p n → Precedes whole (via .stores .number p) (via .stores .number n)
   precedes-at last (own {p} {n} store in-stretch by-thread earlier) =
       own (store-at store) (stretch-store via p ∙ in-stretch ∙ sym (stretch-store via n))
-      (of-store (via .issuing) p n (store .test) (last .test) by-thread) (number-mono (via .stores) p n earlier)
+      (of-thread (via .issuing) p n (store .test) last by-thread) (number-mono (via .stores) p n earlier)
   precedes-at last (read {p} {n} l store in-stretch load from-p by-thread load-in-stretch after-p not-after-n) =
       read (via .loads .number l) (store-at store) (stretch-store via p ∙ in-stretch ∙ sym (stretch-store via n))
       (record { test = via .loading .same l ∙ load .test })
       (via .source-same l (load .test) ∙ ap (via .stores .number) from-p)
-      (of-store (via .loading) l n (load .test) (last .test) by-thread)
+      (of-thread (via .loading) l n (load .test) last by-thread)
       (stretch-load via l ∙ load-in-stretch ∙ sym (stretch-store via n)) (store-load p l after-p)
       (load-store l n not-after-n)
-  precedes-at last (chain store first second) =
-      chain (store-at store) (precedes-at store first) (precedes-at last second)
+  precedes-at last (handed {p} {n} s w signal in-stretch before waits from by-thread wait-in-stretch after early) =
+      handed (via .stores .number s) (via .stores .number w) (record { test = via .signalling .same s ∙ signal .test })
+      (stretch-store via s ∙ in-stretch ∙ sym (stretch-store via n))
+      (precedes-at (via .signalling .thread-same s (signal .test)) before)
+      (record { test = via .waiting .same w ∙ waits .test })
+      (via .wait-source w (waits .test) ∙ ap (via .stores .number) from)
+      (of-thread (via .waiting) w n (waits .test) last by-thread)
+      (stretch-store via w ∙ wait-in-stretch ∙ sym (stretch-store via n)) (number-mono (via .stores) s w after)
+      (number-le (via .stores) w n early)
+  precedes-at last (chain {p} {q} {n} store first second) =
+      chain (store-at store) (precedes-at (via .issuing .thread-same q (store .test)) first) (precedes-at last second)
 
   pub before-at : {p q : ℕ} → Before part p q → Before whole (via .stores .number p) (via .stores .number q)
-  before-at before =
-      record { store = store-at (before .store); precedes = precedes-at (before .store) (before .precedes) }
+  before-at {p} {q} before = record {
+    store = store-at (before .store);
+    precedes = precedes-at (via .issuing .thread-same q (before .store .test)) (before .precedes);
+  }
 
-  -- an event m of the whole that plays a role for the thread of store n of the part
+  -- and what happens before a signal
+  pub handed-at :
+      {p s : ℕ} → Signal part s → Precedes part p s → Precedes whole (via .stores .number p) (via .stores .number s)
+  handed-at {p} {s} signal = precedes-at (via .signalling .thread-same s (signal .test))
+
+  -- event n of the whole is an event of the part, with one of the part's threads
+  record OwnEvent (n : ℕ) : Type 0 where
+    event : via .stores .gap? n ≡ false
+    same : thread whole n ≡ threadsBy .into (thread part (via .stores .kept n))
+    own : threadsBy .own? (threadsBy .into (thread part (via .stores .kept n))) ≡ true
+
+  -- so is one that is numbered as a store and plays a role
+  own-event :
+      {plays? : (ℕ → Event) → ℕ → Bool} (role : Role plays? (via .stores) threadsBy part whole) (n : ℕ)
+      → via .stores .gap? n ≡ false → plays? whole n ≡ true → OwnEvent n
+  own-event role n event plays =
+      let here = role-kept role n event plays in
+      record { event = event; same = thread-kept role n event here; own = role .thread-own (via .stores .kept n) here }
+
+  -- an event m of the whole that plays a role for the thread of event n of the part
   module _
       {plays? : (ℕ → Event) → ℕ → Bool} {by : Numbering} (role : Role plays? by threadsBy part whole)
-      (m n : ℕ) (plays : plays? whole m ≡ true) (by-thread : thread whole m ≡ thread whole n)
-      (event : via .stores .gap? n ≡ false) (store : Issue part (via .stores .kept n)) where
+      (m n : ℕ) (plays : plays? whole m ≡ true) (by-thread : thread whole m ≡ thread whole n) (last : OwnEvent n) where
     beside-stays : by .gap? m ≡ false
     beside-stays =
         excluded (by .gap? m) (threadsBy .own? (thread whole m)) (λ gap. role .foreign m gap plays)
-        (rw (by-thread, thread-kept (via .issuing) n event (store .test))
-        (via .issuing .thread-own (via .stores .kept n) (store .test)))
+        (rw (by-thread, last .same) (last .own))
 
     beside-thread : thread part (by .kept m) ≡ thread part (via .stores .kept n)
     beside-thread =
         into-injective threadsBy _ _
-        (sym (thread-kept role m beside-stays (role-kept role m beside-stays plays)) ∙ by-thread
-        ∙ thread-kept (via .issuing) n event (store .test))
+        (sym (thread-kept role m beside-stays (role-kept role m beside-stays plays)) ∙ by-thread ∙ last .same)
 
-  -- what happens before store n of the part is a store of the part, and does so there
+  -- what happens before event n of the part is a store of the part, and does so there
   precedes-kept :
-      {p n : ℕ} → via .stores .gap? n ≡ false → Issue part (via .stores .kept n) → Precedes whole p n
-      → Numbered (λ q. Precedes part q (via .stores .kept n)) p
-  precedes-kept event last (own {p} {n} store in-stretch by-thread earlier) =
-      let stays = beside-stays (via .issuing) p n (store .test) by-thread event last in
+      {p n : ℕ} → OwnEvent n → Precedes whole p n → Numbered (λ q. Precedes part q (via .stores .kept n)) p
+  precedes-kept last (own {p} {n} store in-stretch by-thread earlier) =
+      let stays = beside-stays (via .issuing) p n (store .test) by-thread last in
       record {
         stays = stays;
         holds =
             own (store-kept stays store) (sym (stretch-kept via p) ∙ in-stretch ∙ stretch-kept via n)
-            (beside-thread (via .issuing) p n (store .test) by-thread event last)
+            (beside-thread (via .issuing) p n (store .test) by-thread last)
             (kept-lt (via .stores) p n stays earlier);
       }
-  precedes-kept event last (read {p} {n} l store in-stretch load from-p by-thread load-in-stretch after early) =
-      let load-stays = beside-stays (via .loading) l n (load .test) by-thread event last in
+  precedes-kept last (read {p} {n} l store in-stretch load from-p by-thread load-in-stretch after early) =
+      let load-stays = beside-stays (via .loading) l n (load .test) by-thread last in
       let loads = role-kept (via .loading) l load-stays (load .test) in
       let from : Numbered (λ q. source part (via .loads .kept l) ≡ q) p =
       source-kept (via .loads .kept l) loads p (rw (via .loads .number-kept l load-stays) from-p)
@@ -149,23 +178,52 @@ module _
         holds =
             read (via .loads .kept l) (store-kept (from .stays) store)
             (sym (stretch-kept via p) ∙ in-stretch ∙ stretch-kept via n) (record { test = loads }) (from .holds)
-            (beside-thread (via .loading) l n (load .test) by-thread event last)
+            (beside-thread (via .loading) l n (load .test) by-thread last)
             (sym (stretch-loads via l) ∙ load-in-stretch ∙ stretch-kept via n)
             (omega (arith, kept-lt (via .stores) p l (from .stays) after, same-load))
             (omega (arith, kept-mono (via .stores) l n early, same-load));
       }
-  precedes-kept event last (chain store first second) =
-      let later = precedes-kept event last second in
-      let middle = store-kept (later .stays) store in
-      let sooner = precedes-kept (later .stays) middle first in
-      record { stays = sooner .stays; holds = chain middle (sooner .holds) (later .holds) }
+  precedes-kept last (handed {p} {n} s w signal in-stretch before waits from by-thread wait-in-stretch after early) =
+      let wait-stays = beside-stays (via .waiting) w n (waits .test) by-thread last in
+      let waits-here = role-kept (via .waiting) w wait-stays (waits .test) in
+      let is-s : s ≡ via .stores .number (source part (via .stores .kept w)) =
+      sym from ∙ rw (via .stores .number-kept w wait-stays) at (via .wait-source (via .stores .kept w) waits-here)
+      in
+      let of-s = numbered (source part (via .stores .kept w)) s is-s in
+      let sooner = precedes-kept (own-event (via .signalling) s (of-s .stays) (signal .test)) before in
+      record {
+        stays = sooner .stays;
+        holds =
+            handed (via .stores .kept s) (via .stores .kept w)
+            (record { test = role-kept (via .signalling) s (of-s .stays) (signal .test) })
+            (sym (stretch-kept via s) ∙ in-stretch ∙ stretch-kept via n) (sooner .holds)
+            (record { test = waits-here }) (of-s .holds)
+            (beside-thread (via .waiting) w n (waits .test) by-thread last)
+            (sym (stretch-kept via w) ∙ wait-in-stretch ∙ stretch-kept via n)
+            (kept-lt (via .stores) s w (of-s .stays) after) (kept-mono (via .stores) w n early);
+      }
+  precedes-kept last (chain {p} {q} {n} store first second) =
+      let later = precedes-kept last second in
+      let sooner = precedes-kept (own-event (via .issuing) q (later .stays) (store .test)) first in
+      record {
+        stays = sooner .stays;
+        holds = chain (store-kept (later .stays) store) (sooner .holds) (later .holds);
+      }
 
   pub before-kept :
       {p q : ℕ} → via .stores .gap? q ≡ false → Before whole p q → Numbered (λ r. Before part r (via .stores .kept q)) p
   before-kept {p} {q} event before =
-      let last = store-kept event (before .store) in
-      let inside = precedes-kept event last (before .precedes) in
-      record { stays = inside .stays; holds = record { store = last; precedes = inside .holds } }
+      let inside = precedes-kept (own-event (via .issuing) q event (before .store .test)) (before .precedes) in
+      record {
+        stays = inside .stays;
+        holds = record { store = store-kept event (before .store); precedes = inside .holds };
+      }
+
+  pub handed-kept :
+      {p s : ℕ} → via .stores .gap? s ≡ false → Signal whole s → Precedes whole p s
+      → Precedes part (via .stores .kept p) (via .stores .kept s)
+  handed-kept {p} {s} event signal precedes =
+      precedes-kept (own-event (via .signalling) s event (signal .test)) precedes .holds
 
   pub at-or-before-at :
       {p q : ℕ} → AtOrBefore part p q → AtOrBefore whole (via .stores .number p) (via .stores .number q)

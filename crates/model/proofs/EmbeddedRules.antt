@@ -9,14 +9,15 @@ use lib.Dec.{eqb, ltb, leb}
 use borrow.Author.Tests.{le-ltb}
 use Rattle.record.specs.declared.events.Event.{Event}
 use Rattle.model.specs.Trace.{thread, location, hasThread?, hasLocation?, threads, locations, stretch, begin?}
-use Rattle.model.specs.Trace.{issue?, commit?, load?, drained?, skipOn?, skipOff?}
-use Rattle.model.specs.Machine.{queued, sourceFits, skipping}
+use Rattle.model.specs.Trace.{source, issue?, commit?, load?, drained?, skipOn?, skipOff?, wait?}
+use Rattle.model.specs.Machine.{queued, sourceFits, signalled, skipping}
 use Rattle.model.specs.Rules.{beginFits, rules, refusal, Accepted}
 use Rattle.model.specs.Embedding.{Naming, Embedding, Apart, SameEvent, SameBegin}
 use Rattle.model.proofs.Acceptance.{event-bound}
 use Rattle.model.proofs.Ranges.{commit-has-thread, drained-has-thread, skip-on-has-thread, skip-off-has-thread}
 use Rattle.model.proofs.Numberings.{number-zero, kept-lt, kept-le, number-below, number-eqb-zero, number-ltb}
-use Rattle.model.proofs.EmbeddedTrace.{by-role, stretch-kept, issues-at, commits-before-at, skipping-kept}
+use Rattle.model.proofs.EmbeddedTrace.{by-role, stretch-kept, stretch-store, issues-at, commits-before-at}
+use Rattle.model.proofs.EmbeddedTrace.{skipping-kept}
 use Rattle.model.proofs.EmbeddedMachine.{sourceFits-at}
 
 module _
@@ -95,6 +96,18 @@ module _
         by-role (skipOff? part e) (λ it. rw (skipping-same (skip-off-has-thread part e it), same .kind-same))
         (λ other. rw (same .kind-same, other))
 
+    signalled-same : wait? part e ≡ true → signalled whole n ≡ signalled part e
+    signalled-same waits =
+        let s = source part e in
+        let from-s : source whole n ≡ via .stores .number s = rw (same .as-store) at (via .wait-source e waits) in
+        let early : ltb (via .stores .number s) n ≡ ltb s e = rw (same .as-store) at (number-ltb (via .stores) s e) in
+        rw (from-s, via .signalling .same s, early, stretch-store via s, stretch-same)
+
+    wait-rule : (wait? whole n && not (signalled whole n)) ≡ (wait? part e && not (signalled part e))
+    wait-rule =
+        by-role (wait? part e) (λ waits. rw (signalled-same waits, same .kind-same))
+        (λ other. rw (same .kind-same, other))
+
     first-same : eqb n 0 ≡ eqb e 0
     first-same = rw (same .as-store) at (number-eqb-zero (via .stores) e)
 
@@ -122,6 +135,7 @@ module _
           commit-rule,
           skip-on-rule,
           skip-off-rule,
+          wait-rule,
           first-same,
           later-same,
           limit-same,

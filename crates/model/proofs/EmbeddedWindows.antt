@@ -1,9 +1,9 @@
 -- Windows (specs/Windows.antt), for a part of a trace and the whole (specs/Embedding.antt), where the part has all
 -- threads and locations, and each of its events has one number, as a store and as a load. Then each thread has the same
--- window in both, its places shifted (specs/Flushes.antt): no store and no load of the whole is a gap, since that would
--- be foreign, and numbers keep their order.
--- In order: what is no gap; stores and loads, at their numbers; what brings a store; the two places; the window; the
--- fault, `fault-at`. A lemma -at starts from events of the part, a lemma -kept from events of the whole.
+-- window in both, its places shifted (specs/Flushes.antt): no store, load or wait of the whole is a gap, since that
+-- would be foreign, and numbers keep their order.
+-- In order: what is no gap; stores, loads and waits, at their numbers; what brings a store; the two places; the window;
+-- the fault, `fault-at`. A lemma -at starts from events of the part, a lemma -kept from events of the whole.
 use Prim.Native.Nat.{ℕ, suc, _-_}
 use native.Mathlib.Omega.{arith}
 use mathlib.Core.Path.{_≡_, refl, sym, _∙_}
@@ -11,10 +11,10 @@ use mathlib.Core.Bool.{Bool, true, false, cond}
 use mathlib.Core.List.{List, map}
 use lib.Dec.{eqb}
 use Rattle.record.specs.declared.events.Event.{Event}
-use Rattle.model.specs.Trace.{thread, source, load?, Issue, Load}
-use Rattle.model.specs.HappensBefore.{AtOrBefore}
-use Rattle.model.specs.Windows.{Places, none, between, Brings, FirstBrings, FirstPlace, LastPlace, Window}
-use Rattle.model.specs.Windows.{WindowIs, windowOf}
+use Rattle.model.specs.Trace.{thread, source, load?, Issue, Load, Signal, Wait}
+use Rattle.model.specs.HappensBefore.{Precedes, AtOrBefore}
+use Rattle.model.specs.Windows.{Places, none, between, ComesBy, by-load, by-wait, Brings, FirstBrings}
+use Rattle.model.specs.Windows.{FirstPlace, LastPlace, Window, WindowIs, windowOf}
 use Rattle.model.specs.Windows as windows
 use Rattle.model.specs.Answers.{tabulate, contradiction, flush, faultOf}
 use Rattle.model.specs.Embedding.{Numbering, everything, Role, Embedding}
@@ -24,7 +24,7 @@ use Rattle.model.proofs.Tabulating.{tabulate-same, tabulate-map}
 use Rattle.model.proofs.WindowPlaces.{window-is, window-unique}
 use Rattle.model.proofs.Numberings.{number-mono, number-lt, number-eqb}
 use Rattle.model.proofs.EmbeddedTrace.{stretch-store}
-use Rattle.model.proofs.EmbeddedLoads.{store-at, at-or-before-at, at-or-before-kept}
+use Rattle.model.proofs.EmbeddedLoads.{store-at, at-or-before-at, at-or-before-kept, handed-at, handed-kept}
 
 module _
     {part whole : ℕ → Event} (via : Embedding everything everything part whole)
@@ -41,17 +41,19 @@ module _
       → (n : ℕ) → plays? whole n ≡ true → by .gap? n ≡ false
   stays {plays?} {by} role n plays = excluded (by .gap? n) true (λ gap. role .foreign n gap plays) refl
 
-  -- each store, and each load, of the whole is an event of the part
+  -- each store, and each load or wait, of the whole is an event of the part
   store-of : (n : ℕ) → Issue whole n → (e : ℕ) × (there e ≡ n)
   store-of n store = (via .stores .kept n, via .stores .number-kept n (stays (via .issuing) n (store .test)))
 
-  load-of : (n : ℕ) → Load whole n → (e : ℕ) × (there e ≡ n)
-  load-of n loads = (
+  bringing-of : {p : ℕ} (n : ℕ) → ComesBy whole p n → (e : ℕ) × (there e ≡ n)
+  bringing-of n (by-load loads order) = (
     via .loads .kept n,
     sym (one-number (via .loads .kept n)) ∙ via .loads .number-kept n (stays (via .loading) n (loads .test)),
   )
+  bringing-of n (by-wait waits signal precedes) =
+      (via .stores .kept n, via .stores .number-kept n (stays (via .waiting) n (waits .test)))
 
-  -- ---- stores and loads, at their numbers
+  -- ---- stores, loads and waits, at their numbers
 
   store-kept : {p : ℕ} → Issue whole (there p) → Issue part p
   store-kept {p} store = record { test = sym (via .issuing .same p) ∙ store .test }
@@ -70,50 +72,74 @@ module _
   load-kept : {l : ℕ} → Load whole (there l) → Load part l
   load-kept {l} loads = record { test = sym (load-same l) ∙ loads .test }
 
-  load-thread : {l : ℕ} → Load part l → thread whole (there l) ≡ thread part l
-  load-thread {l} loads = rw (one-number l) at (via .loading .thread-same l (loads .test))
-
   load-source : {l : ℕ} → Load part l → source whole (there l) ≡ there (source part l)
   load-source {l} loads = rw (one-number l) at (via .source-same l (loads .test))
 
+  wait-source : {l : ℕ} → Wait part l → source whole (there l) ≡ there (source part l)
+  wait-source {l} waits = via .wait-source l (waits .test)
+
   -- ---- what brings a store
+
+  comes-at : {p l : ℕ} → ComesBy part p l → ComesBy whole (there p) (there l)
+  comes-at {p} {l} (by-load loads order) =
+      by-load (record { test = load-same l ∙ loads .test }) (rw (load-source loads) (at-or-before-at via order))
+  comes-at {p} {l} (by-wait waits signal precedes) =
+      by-wait (record { test = via .waiting .same l ∙ waits .test })
+      (record { test = rw (wait-source waits) (via .signalling .same (source part l) ∙ signal .test) })
+      (rw (wait-source waits) (handed-at via signal precedes))
+
+  comes-kept : {p l : ℕ} → ComesBy whole (there p) (there l) → ComesBy part p l
+  comes-kept {p} {l} (by-load loads order) =
+      let loads-here = load-kept loads in
+      by-load loads-here (order-kept (rw (load-source loads-here) at order))
+  comes-kept {p} {l} (by-wait waits signal precedes) =
+      let waits-here : Wait part l = record { test = sym (via .waiting .same l) ∙ waits .test } in
+      let s = source part l in
+      let signal-there : Signal whole (there s) = rw (wait-source waits-here) at signal in
+      let precedes-there : Precedes whole (there p) (there s) = rw (wait-source waits-here) at precedes in
+      by-wait waits-here (record { test = sym (via .signalling .same s) ∙ signal-there .test })
+      (rw (via .stores .kept-number p, via .stores .kept-number s) at
+      (handed-kept via (via .stores .number-stays s) signal-there precedes-there))
 
   brings-at : {p l : ℕ} → Brings part p l → Brings whole (there p) (there l)
   brings-at {p} {l} it = record {
-    loads = record { test = load-same l ∙ it .loads .test };
     in-stretch = stretch-store via l ∙ it .in-stretch ∙ sym (stretch-store via p);
-    from = rw (load-source (it .loads)) (at-or-before-at via (it .from));
+    comes = comes-at (it .comes);
   }
 
   brings-kept : {p l : ℕ} → Brings whole (there p) (there l) → Brings part p l
-  brings-kept {p} {l} it =
-      let loads = load-kept (it .loads) in
-      record {
-        loads = loads;
-        in-stretch = sym (stretch-store via l) ∙ it .in-stretch ∙ stretch-store via p;
-        from = order-kept (rw (load-source loads) at (it .from));
-      }
+  brings-kept {p} {l} it = record {
+    in-stretch = sym (stretch-store via l) ∙ it .in-stretch ∙ stretch-store via p;
+    comes = comes-kept (it .comes);
+  }
+
+  -- by an event of the same thread
+  bringing-thread : {p l : ℕ} → ComesBy part p l → thread whole (there l) ≡ thread part l
+  bringing-thread {p} {l} (by-load loads order) = rw (one-number l) at (via .loading .thread-same l (loads .test))
+  bringing-thread {p} {l} (by-wait waits signal precedes) = via .waiting .thread-same l (waits .test)
 
   module _ (p t : ℕ) where
     first-brings-at : (l : ℕ) → FirstBrings part p t l → FirstBrings whole (there p) t (there l)
     first-brings-at l it = record {
-      by-t = load-thread (it .brings .loads) ∙ it .by-t;
+      by-t = bringing-thread (it .brings .comes) ∙ it .by-t;
       brings = brings-at (it .brings);
       none-earlier = λ n earlier by-t brings.
-          let (e, is-n) = load-of n (brings .loads) in
-          let brings-there : Brings whole (there p) (there e) = rw is-n brings in
+          let (e, is-n) = bringing-of n (brings .comes) in
+          let brings-here : Brings part p e = brings-kept (rw is-n brings) in
           it .none-earlier e (number-lt (via .stores) e l (rw is-n earlier))
-          (sym (load-thread (load-kept (brings-there .loads))) ∙ rw is-n by-t) (brings-kept brings-there);
+          (sym (bringing-thread (brings-here .comes)) ∙ rw is-n by-t) brings-here;
     }
 
     first-brings-kept : (l : ℕ) → FirstBrings whole (there p) t (there l) → FirstBrings part p t l
-    first-brings-kept l it = record {
-      by-t = sym (load-thread (load-kept (it .brings .loads))) ∙ it .by-t;
-      brings = brings-kept (it .brings);
-      none-earlier = λ n earlier by-t brings.
-          it .none-earlier (there n) (number-mono (via .stores) n l earlier)
-          (load-thread (brings .loads) ∙ by-t) (brings-at brings);
-    }
+    first-brings-kept l it =
+        let brings-here = brings-kept (it .brings) in
+        record {
+          by-t = sym (bringing-thread (brings-here .comes)) ∙ it .by-t;
+          brings = brings-here;
+          none-earlier = λ n earlier by-t brings.
+              it .none-earlier (there n) (number-mono (via .stores) n l earlier)
+              (bringing-thread (brings .comes) ∙ by-t) (brings-at brings);
+        }
 
   -- ---- the two places
 
@@ -134,7 +160,7 @@ module _
         → (e : ℕ) × (suc (there e) ≡ from) × FirstPlace part p t (suc e)
     first-kept from (windows.own is-own) = (p, refl, windows.own (is-own ∙ store-thread store))
     first-kept from (windows.brought l differs it) =
-        let (e, is-l) = load-of l (it .brings .loads) in (
+        let (e, is-l) = bringing-of l (it .brings .comes) in (
           e,
           rw is-l,
           windows.brought e (λ is-own. differs (is-own ∙ sym (store-thread store)))

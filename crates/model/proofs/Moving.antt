@@ -1,5 +1,5 @@
 -- Events with their sources renumbered (`moved` of specs/Flushes.antt): kind and other fields stay, since an event that
--- does not load has no source, and 0, which is no event's source, stays 0.
+-- neither loads nor waits has no source, and 0, which is no event's source, stays 0.
 -- In order: what a renumbered event is; a list of them; two-byte fields.
 use Prim.Native.Nat.{ℕ, _<_}
 use native.Mathlib.Omega.{arith}
@@ -10,7 +10,7 @@ use lib.Dec.{eqb}
 use lib.ListN.{List·getD-map}
 use Rattle.record.specs.declared.events.Event.{Event}
 use Rattle.record.specs.declared.events.Event.the-variants.{Begin, Issue, Commit, Load, Clflush, Clwb, Sfence, Mfence}
-use Rattle.record.specs.declared.events.Event.the-variants.{Crash, SkipOn, SkipOff, Locked}
+use Rattle.record.specs.declared.events.Event.the-variants.{Crash, SkipOn, SkipOff, Locked, Signal, Wait}
 use Rattle.record.specs.declared.events.Fields.{Fields}
 use Rattle.record.specs.Events.{kindOf}
 use Rattle.record.specs.Fields.{eventOf, threadFields, fieldsOf, TwoByte}
@@ -30,10 +30,10 @@ pub record Renumbered (f : ℕ → ℕ) (e d : Event) : Type 0 where
   pub threads-same : fieldsOf e .threads ≡ fieldsOf d .threads
   pub locations-same : fieldsOf e .locations ≡ fieldsOf d .locations
 
--- an event loads, and then its fields but the source stay; or it has no source, and stays
+-- an event loads or waits, and then its fields but the source stay; or it has no source, and stays
 data Source (f : ℕ → ℕ) (e : Event) : Type 0 where
   moves :
-      (eqb (kindOf e) 4 || eqb (kindOf e) 12) ≡ true → kindOf e ≡ kindOf (moved f e)
+      (eqb (kindOf e) 4 || eqb (kindOf e) 12 || eqb (kindOf e) 14) ≡ true → kindOf e ≡ kindOf (moved f e)
       → fieldsOf (moved f e) ≡ resourced f (fieldsOf e) → Source f e
   stays : moved f e ≡ e → fieldsOf e .source ≡ 0 → Source f e
 
@@ -51,12 +51,14 @@ source-of f Crash = stays refl refl
 source-of f (SkipOn t) = stays refl refl
 source-of f (SkipOff t) = stays refl refl
 source-of f (Locked t x s) = moves refl refl refl
+source-of f (Signal t) = stays refl refl
+source-of f (Wait t s) = moves refl refl refl
 
 pub moved-is : (f : ℕ → ℕ) → f 0 ≡ 0 → (e : Event) → Renumbered f e (moved f e)
 moved-is f keeps-0 e = by-source (source-of f e)
   where
     by-source : Source f e → Renumbered f e (moved f e)
-    by-source (moves is-load kind-same fields-are) = record {
+    by-source (moves has-source kind-same fields-are) = record {
       kind-same = kind-same;
       thread-same = sym (ap (λ (x : Fields). x .thread) fields-are);
       location-same = sym (ap (λ (x : Fields). x .location) fields-are);
@@ -79,15 +81,16 @@ pub moved-kind : (f : ℕ → ℕ) (e : Event) → kindOf (moved f e) ≡ kindOf
 moved-kind f e = by-source (source-of f e)
   where
     by-source : Source f e → kindOf (moved f e) ≡ kindOf e
-    by-source (moves is-load kind-same fields-are) = sym kind-same
+    by-source (moves has-source kind-same fields-are) = sym kind-same
     by-source (stays left no-source) = rw left
 
--- an event that does not load has no source
-pub no-source : (e : Event) → (eqb (kindOf e) 4 || eqb (kindOf e) 12) ≡ false → fieldsOf e .source ≡ 0
+-- an event that neither loads nor waits has no source
+pub no-source :
+    (e : Event) → (eqb (kindOf e) 4 || eqb (kindOf e) 12 || eqb (kindOf e) 14) ≡ false → fieldsOf e .source ≡ 0
 no-source e other = by-source (source-of (λ s. s) e)
   where
     by-source : Source (λ s. s) e → fieldsOf e .source ≡ 0
-    by-source (moves is-load kind-same fields-are) = false-true (sym other ∙ is-load)
+    by-source (moves has-source kind-same fields-are) = false-true (sym other ∙ has-source)
     by-source (stays left no-source) = no-source
 
 -- ---- a list of them

@@ -11,7 +11,7 @@ use Rattle.record.specs.declared.events.Event.{Event}
 use Rattle.record.specs.Fields.{threadIn, locationIn}
 use Rattle.record.specs.Table.{rowOf}
 use Rattle.model.specs.Trace.{kind, thread, location, hasThread?, hasLocation?, Issue, Commit, Load}
-use Rattle.model.specs.Trace.{is, drained?, skipOn?, skipOff?}
+use Rattle.model.specs.Trace.{Signal, Wait, is, drained?, signal?, skipOn?, skipOff?}
 use Rattle.model.specs.Rules.{Accepted}
 use Rattle.model.proofs.Searching.{or-cases}
 use Rattle.model.proofs.Limits.{few-threads, few-locations, thread-below, location-below}
@@ -49,9 +49,21 @@ module _ (ev : ℕ → Event) where
   unfolding rowOf
   load-has-thread {l} loads = of-two threadOf? 4 12 refl refl l (loads .test)
 
+  pub signal-has-thread : {e : ℕ} → Signal ev e → hasThread? ev e ≡ true
+  unfolding rowOf
+  signal-has-thread {e} signals = rw (eqb-true (kind ev e) 13 (signals .test)) refl
+
   pub drained-has-thread : (e : ℕ) → drained? ev e ≡ true → hasThread? ev e ≡ true
   unfolding rowOf
-  drained-has-thread e it = of-two threadOf? 8 12 refl refl e it
+  drained-has-thread e it = by-kind (or-cases (is ev 8 e || is ev 12 e) (signal? ev e) it)
+    where
+      by-kind : ((is ev 8 e || is ev 12 e) ≡ true) ⊎ (signal? ev e ≡ true) → hasThread? ev e ≡ true
+      by-kind (inl either) = of-two threadOf? 8 12 refl refl e either
+      by-kind (inr signals) = signal-has-thread (record { test = signals })
+
+  pub wait-has-thread : {e : ℕ} → Wait ev e → hasThread? ev e ≡ true
+  unfolding rowOf
+  wait-has-thread {e} waits = rw (eqb-true (kind ev e) 14 (waits .test)) refl
 
   pub skip-on-has-thread : (e : ℕ) → skipOn? ev e ≡ true → hasThread? ev e ≡ true
   unfolding rowOf

@@ -12,6 +12,7 @@ use lib.ListN.{length, List·getD-eq-default}
 use Rattle.record.specs.declared.events.Event.{Event}
 use Rattle.record.specs.declared.events.Event.the-variants.{Crash}
 use Rattle.model.specs.Trace.{traceOf, source, issue?, commit?, load?, begin?, skipOn?, skipOff?, crash?}
+use Rattle.model.specs.Trace.{signal?, wait?}
 use Rattle.model.specs.Trace as trace
 use Rattle.model.specs.Machine.{committed}
 use Rattle.model.specs.Rules.{Accepted}
@@ -57,19 +58,23 @@ module _
   whole-finds : Finds whole
   whole-finds = accepted-finds es accepted
 
-  -- the source of an event stays: it is a store, or event 0
+  -- the source of an event stays: it is a store, a signal, or event 0
   source-stays : (n : ℕ) → out? (source whole n) ≡ false
-  source-stays n = by-source (same? (source whole n) 0) (test (load? whole n))
+  source-stays n = by-source (same? (source whole n) 0) (test (load? whole n)) (test (wait? whole n))
     where
       from-none : source whole n ≡ 0 → out? (source whole n) ≡ false
       from-none none = rw none first-stays
 
       by-source :
           (source whole n ≡ 0) ⊎ (source whole n ≢ 0) → (load? whole n ≡ true) ⊎ (load? whole n ≡ false)
-          → out? (source whole n) ≡ false
-      by-source (inl none) load = from-none none
-      by-source (inr some) (inr other) = from-none (no-source (whole n) other)
-      by-source (inr some) (inl loads) =
+          → (wait? whole n ≡ true) ⊎ (wait? whole n ≡ false) → out? (source whole n) ≡ false
+      by-source (inl none) load wait = from-none none
+      by-source (inr some) (inr other) (inr no-wait) =
+          from-none (no-source (whole n) (rw (other, no-wait)))
+      by-source (inr some) (inr other) (inl waits) =
+          excluded (out? (source whole n)) (signal? whole (source whole n))
+          (λ out. quiet (source whole n) out .no-signal) (whole-finds .wait-signal n waits)
+      by-source (inr some) (inl loads) wait =
           excluded (out? (source whole n)) (issue? whole (source whole n))
           (λ out. quiet (source whole n) out .no-issue) (whole-finds .source-store n loads some)
 
@@ -105,6 +110,8 @@ module _
     issuing = role issue? (λ e. rw (there e .kind-same)) (λ n none. none .no-issue);
     skip-on = role skipOn? (λ e. rw (there e .kind-same)) (λ n none. none .no-skip-on);
     skip-off = role skipOff? (λ e. rw (there e .kind-same)) (λ n none. none .no-skip-off);
+    signalling = role signal? (λ e. rw (there e .kind-same)) (λ n none. none .no-signal);
+    waiting = role wait? (λ e. rw (there e .kind-same)) (λ n none. none .no-wait);
     loading = role load? (λ e. rw (there e .kind-same)) (λ n none. none .no-load);
     committing = role commit? (λ e. rw (there e .kind-same)) (λ n none. none .no-commit);
     crash-same = λ e. rw (there e .kind-same);
@@ -113,6 +120,7 @@ module _
     load-location = λ e loads. there e .location-same;
     location-own = λ e loads. refl;
     source-same = λ e loads. source-there e;
+    wait-source = λ e waits. source-there e;
     stores-at-load = numbering .kept-number;
     commits-at-load = numbering .kept-number;
     stores-at-commit = λ e.
@@ -122,7 +130,7 @@ module _
   }
 
   short-finds : Finds short
-  short-finds = record { commit-finds = commit-finds; source-store = source-store }
+  short-finds = record { commit-finds = commit-finds; source-store = source-store; wait-signal = wait-signal }
     where
       store-there : (p : ℕ) → issue? whole (number out? es p) ≡ true → issue? short p ≡ true
       store-there p store = rw (there p .kind-same) at store
@@ -141,6 +149,13 @@ module _
           store-there (source short e)
           (rw (source-there e) at
           (whole-finds .source-store (number out? es e) (rw (there e .kind-same) loads) some-there))
+
+      wait-signal : (e : ℕ) → wait? short e ≡ true → signal? short (source short e) ≡ true
+      wait-signal e waits =
+          let there-signals : signal? whole (number out? es (source short e)) ≡ true =
+          rw (source-there e) at (whole-finds .wait-signal (number out? es e) (rw (there e .kind-same) waits))
+          in
+          rw (there (source short e) .kind-same) at there-signals
 
   apart : Apart embedding
   apart = record {

@@ -14,7 +14,7 @@ use Rattle.record.specs.declared.events.Event.{Event}
 use Rattle.record.specs.declared.events.Event.the-variants.{Begin, Issue, Commit, Load, Crash, Locked}
 use Rattle.record.specs.Events.{kindOf}
 use Rattle.record.specs.Fields.{eventOf, fieldsOf}
-use Rattle.model.specs.Trace.{traceOf, kind, thread, location, source, issue?, commit?, load?, crash?}
+use Rattle.model.specs.Trace.{traceOf, kind, thread, location, source, issue?, commit?, load?, wait?, crash?}
 use Rattle.model.specs.Rules.{Accepted}
 use Rattle.model.specs.Flushes.{moved}
 use Rattle.model.specs.Embedding.{everything, Role, Embedding, Apart, Cover}
@@ -210,6 +210,12 @@ module _
     skip-off =
         role 1 (omega arith) (λ c. eqb c 11) (rw (three .stores, of-kind)) store-thread
         (other-fails (λ c. eqb c 11) refl refl refl);
+    signalling =
+        role 1 (omega arith) (λ c. eqb c 13) (rw (three .stores, of-kind)) store-thread
+        (other-fails (λ c. eqb c 13) refl refl refl);
+    waiting =
+        role 1 (omega arith) (λ c. eqb c 14) (rw (three .stores, of-kind)) store-thread
+        (other-fails (λ c. eqb c 14) refl refl refl);
     loading =
         role 0 (omega arith) (λ c. eqb c 4 || eqb c 12) (rw (three .loads, of-kind))
         (ap (λ x. fieldsOf x .thread) (three .loads)) load-gap;
@@ -230,6 +236,7 @@ module _
     source-same = λ e loads.
         at-number 0 (λ x. fieldsOf x .source) (λ x. asStore k (fieldsOf x .source))
         (ap (λ x. fieldsOf x .source) (three .loads)) (λ e is. is .source-moved) e;
+    wait-source = λ e waits. there 1 e (λ is-k. not-wait (rw is-k at waits)) .source-moved;
     stores-at-load = λ e. kept-number 0 1 k (omega arith) (omega arith) e (omega arith);
     commits-at-load = λ e. kept-number 0 2 k (omega arith) (omega arith) e (omega arith);
     stores-at-commit = λ e. past-number 2 1 k (omega arith) (omega arith) e (omega arith);
@@ -239,6 +246,9 @@ module _
     where
       no-crash : crash? part k ≡ false
       no-crash = rw of-kind
+
+      not-wait : wait? part k ≡ true → ⊥
+      not-wait waits = omega (arith, of-kind, eqb-true (kind part k) 14 waits)
 
   pub apart : Apart embedding
   apart = record {

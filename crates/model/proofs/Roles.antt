@@ -1,7 +1,7 @@
 -- Which roles exclude a crash or a begin, which kinds play no role, and that an event plays a role or does not. An
 -- event has one kind, and each role is a test of it; by these facts, proofs elsewhere need not look at the numbers of
 -- kinds.
--- In order: what issues, commits and loads are not; the kinds that play no role; the decisions.
+-- In order: what issues, commits, loads, signals and waits are not; the kinds that play no role; the decisions.
 use Prim.Native.Nat.{ℕ, _≤_}
 use native.Mathlib.Omega.{arith}
 use mathlib.Core.Path.{_≡_}
@@ -9,9 +9,9 @@ use mathlib.Core.Bool.{true, false, _||_}
 use mathlib.Core.Logic.{_⊎_, inl, inr, _≢_}
 use borrow.Author.Tests.{eqb-true, ne-eqb}
 use Rattle.record.specs.declared.events.Event.{Event}
-use Rattle.model.specs.Trace.{kind, is, begin?, issue?, commit?, load?, crash?, skipOn?, skipOff?}
-use Rattle.model.specs.Trace.{Issue, Commit, Load}
-use Rattle.model.proofs.Searching.{test, or-cases}
+use Rattle.model.specs.Trace.{kind, is, begin?, issue?, commit?, load?, crash?, signal?, wait?, drained?}
+use Rattle.model.specs.Trace.{skipOn?, skipOff?, Issue, Commit, Load, Signal, Wait}
+use Rattle.model.proofs.Searching.{test, or-cases, or-right}
 
 module _ (ev : ℕ → Event) where
   -- an event of one kind is of no other
@@ -40,6 +40,21 @@ module _ (ev : ℕ → Event) where
   pub load-no-crash : {e : ℕ} → Load ev e → crash? ev e ≡ false
   load-no-crash {e} loads = no-third e 4 12 9 (omega arith) (omega arith) (loads .test)
 
+  pub signal-no-crash : {e : ℕ} → Signal ev e → crash? ev e ≡ false
+  signal-no-crash {e} signals = one-kind e 13 9 (omega arith) (signals .test)
+
+  pub signal-no-issue : {e : ℕ} → Signal ev e → issue? ev e ≡ false
+  signal-no-issue {e} signals = neither e 13 2 12 (omega arith) (omega arith) (signals .test)
+
+  pub signal-drains : {e : ℕ} → Signal ev e → drained? ev e ≡ true
+  signal-drains {e} signals = or-right (is ev 8 e || is ev 12 e) (signal? ev e) (signals .test)
+
+  pub wait-no-crash : {e : ℕ} → Wait ev e → crash? ev e ≡ false
+  wait-no-crash {e} waits = one-kind e 14 9 (omega arith) (waits .test)
+
+  pub wait-no-load : {e : ℕ} → Wait ev e → load? ev e ≡ false
+  wait-no-load {e} waits = neither e 14 4 12 (omega arith) (omega arith) (waits .test)
+
   pub begin-no-load : (e : ℕ) → is ev 1 e ≡ true → load? ev e ≡ false
   begin-no-load e = neither e 1 4 12 (omega arith) (omega arith)
 
@@ -52,6 +67,8 @@ module _ (ev : ℕ → Event) where
     pub no-commit : commit? ev e ≡ false
     pub no-load : load? ev e ≡ false
     pub no-crash : crash? ev e ≡ false
+    pub no-signal : signal? ev e ≡ false
+    pub no-wait : wait? ev e ≡ false
     pub no-skip-on : skipOn? ev e ≡ false
     pub no-skip-off : skipOff? ev e ≡ false
 
@@ -63,6 +80,8 @@ module _ (ev : ℕ → Event) where
     no-commit = rw (ne-eqb (kind ev e) 3 (λ is. omega arith), not-locked);
     no-load = rw (ne-eqb (kind ev e) 4 (λ is. omega arith), not-locked);
     no-crash = ne-eqb (kind ev e) 9 (λ is. omega arith);
+    no-signal = ne-eqb (kind ev e) 13 (λ is. omega arith);
+    no-wait = ne-eqb (kind ev e) 14 (λ is. omega arith);
     no-skip-on = ne-eqb (kind ev e) 10 (λ is. omega arith);
     no-skip-off = ne-eqb (kind ev e) 11 (λ is. omega arith);
   }

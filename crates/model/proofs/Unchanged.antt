@@ -17,10 +17,11 @@ use Rattle.model.specs.Machine.{committed, switched, skipping}
 use Rattle.model.specs.Rules.{Accepted}
 use Rattle.model.specs.Clocks.{seen, vc}
 use Rattle.model.specs.Stores.{storeAt, madeAt, newestAt, landsAt, landed}
-use Rattle.model.proofs.Searching.{test, both, parts}
+use Rattle.model.proofs.Searching.{test, false-true, both, parts}
 use Rattle.model.proofs.Counting.{stretch-crash, stretch-else, count-it, count-fresh, place-unique}
-use Rattle.model.proofs.Roles.{one-kind, load-no-crash}
-use Rattle.model.proofs.ClockSteps.{joins→, →joins, seen-join, seen-keep}
+use Rattle.model.proofs.Roles.{one-kind, load-no-crash, wait-no-load}
+use Rattle.model.proofs.ClockSteps.{Meets, loads-store, waits-signal, Joined, joins→, →joins}
+use Rattle.model.proofs.ClockSteps.{seen-join, seen-keep}
 use Rattle.model.proofs.StorePlaces.{fails, last-here, last-skip, store-at-none, store-at-else}
 use Rattle.model.proofs.StorePlaces.{its-place, committed-store}
 
@@ -154,19 +155,18 @@ module _ (ev : ℕ → Event) where
   -- ---- what threads have seen
 
   pub seen-away :
-      (n t u : ℕ) → crash? ev n ≡ false → (Load ev n → thread ev n ≡ t → ⊥) → seen ev (suc n) t u ≡ seen ev n t u
+      (n t u : ℕ) → crash? ev n ≡ false → (Meets ev n → thread ev n ≡ t → ⊥) → seen ev (suc n) t u ≡ seen ev n t u
   seen-away n t u no-crash away =
       seen-keep ev n t u no-crash
-      (fails _ (λ passes. let joined = joins→ ev n t passes in away (joined .loads) (joined .by-t)))
+      (fails _ (λ passes. let joined = joins→ ev n t passes in away (joined .meets) (joined .by-t)))
 
-  -- a load from a store of the stretch
+  -- a load from a store of the stretch, or a wait for a signal of it
   pub seen-from :
-      (n u : ℕ) → Load ev n → Issue ev (source ev n) → source ev n < n → stretch ev (source ev n) ≡ stretch ev n
+      (n u : ℕ) → Meets ev n → source ev n < n → stretch ev (source ev n) ≡ stretch ev n
       → seen ev (suc n) (thread ev n) u ≡ max (seen ev n (thread ev n) u) (vc ev (source ev n) u)
-  seen-from n u loads store early in-stretch =
+  seen-from n u meets early in-stretch =
       seen-join ev n (thread ev n) u
-      (→joins ev n (thread ev n)
-      (record { loads = loads; store = store; by-t = refl; early = early; in-stretch = in-stretch }))
+      (→joins ev n (thread ev n) (record { meets = meets; by-t = refl; early = early; in-stretch = in-stretch }))
 
   -- any other load
   pub seen-crossing :
@@ -175,8 +175,11 @@ module _ (ev : ℕ → Event) where
       → seen ev (suc n) t u ≡ seen ev n t u
   seen-crossing n t u loads none =
       seen-keep ev n t u (load-no-crash ev loads)
-      (fails _
-      (λ passes. let joined = joins→ ev n t passes in none (joined .store) (joined .early) (joined .in-stretch)))
+      (fails _ (λ passes. let joined = joins→ ev n t passes in by-role joined (joined .meets)))
+    where
+      by-role : Joined ev n t → Meets ev n → ⊥
+      by-role joined (loads-store load store) = none store (joined .early) (joined .in-stretch)
+      by-role joined (waits-signal wait signal) = false-true (sym (wait-no-load ev wait) ∙ loads .test)
 
   -- ---- the committed stores of a location
 

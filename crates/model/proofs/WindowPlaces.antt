@@ -2,8 +2,8 @@
 -- (`window-unique`); its places are those behind what gives the thread the missing store and at or before a store of
 -- its own that is the observed one or happens before it (`window-places`), and what the thread issues from a place on
 -- happens after the missing store (`has-precedes`); the observed store's thread has one (`observed-has-window`), for
--- what happens before that store is its thread's own or was brought by a load in front of it, unless the load that
--- first brings it is the observed store's own record (`brings-itself-none`).
+-- what happens before that store is its thread's own or was brought by a load or wait in front of it, unless the load
+-- that first brings it is the observed store's own record (`brings-itself-none`).
 -- In order: what brings a store; the two ends; the window; its places; the observed store's thread.
 use Prim.Native.Nat.{ℕ, suc, _≤_, _<_}
 use native.Mathlib.Omega.{arith}
@@ -14,49 +14,65 @@ use lib.Dec.{eqb}
 use borrow.Author.Tests.{eqb-true, eq-eqb, ne-eqb, lt-ltb, le-ltb}
 use Rattle.record.specs.declared.events.Event.{Event}
 use Rattle.model.specs.Search.{first, last}
-use Rattle.model.specs.Trace.{thread, source, issue?, load?, Issue, stretch}
-use Rattle.model.specs.HappensBefore.{Precedes, Before, AtOrBefore, own, read, chain}
+use Rattle.model.specs.Trace.{thread, source, issue?, Issue, stretch}
+use Rattle.model.specs.HappensBefore.{Precedes, Before, AtOrBefore, own, read, handed, chain}
 use Rattle.model.specs.Rules.{Accepted}
-use Rattle.model.specs.Clocks.{covers?}
-use Rattle.model.specs.Windows.{Places, none, between, Brings, FirstBrings, FirstPlace, LastPlace, Window}
-use Rattle.model.specs.Windows.{WindowIs, BringsItself, Has, Reaches, PlaceIn, brings?, behind, lastCovered}
-use Rattle.model.specs.Windows.{windowOf}
+use Rattle.model.specs.Clocks.{meets?, covers?}
+use Rattle.model.specs.Windows.{Places, none, between, ComesBy, by-load, by-wait, Brings, FirstBrings}
+use Rattle.model.specs.Windows.{FirstPlace, LastPlace, Window, WindowIs, BringsItself, Has, Reaches}
+use Rattle.model.specs.Windows.{PlaceIn, brings?, behind, lastCovered, windowOf}
 use Rattle.model.specs.Windows as windows
 use Rattle.model.proofs.Searching.{both, parts, same?, less?, →some, first-is}
 use Rattle.model.proofs.Searching.{first-found, last-is, last-largest}
 use Rattle.model.proofs.Counting.{stretch-mono}
 use Rattle.model.proofs.Ordering.{precedes-lt, precedes-stretch, before-lt, before-first, same-stretch}
 use Rattle.model.proofs.Ordering.{at-or-before-le, before-at-or-before}
-use Rattle.model.proofs.Clocks.{covers-exactly}
-use Rattle.model.proofs.Acceptance.{source-early}
+use Rattle.model.proofs.Clocks.{covers-exactly, covers-handed}
+use Rattle.model.proofs.ClockSteps.{Meets, loads-store, waits-signal, meets→, →meets}
+use Rattle.model.proofs.Acceptance.{source-early, wait-signalled}
 
 module _ (ev : ℕ → Event) where
   -- ---- what brings a store
 
   -- what a store is or happens before is a store
-  pub store-behind : {p q : ℕ} → Issue ev p → AtOrBefore ev p q → Issue ev q
+  store-behind : {p q : ℕ} → Issue ev p → AtOrBefore ev p q → Issue ev q
   store-behind store (inl same) = rw same at store
   store-behind store (inr before) = before .store
 
+  -- a store comes by an event that meets a source whose clock covers the store
+  pub comes→ : (p n : ℕ) → Issue ev p → Meets ev n → covers? ev p (source ev n) ≡ true → ComesBy ev p n
+  comes→ p n store (loads-store loads source-store) covered =
+      by-load loads (covers-exactly ev p (source ev n) store source-store .0 covered)
+  comes→ p n store (waits-signal waits signal) covered =
+      by-wait waits signal (covers-handed ev p (source ev n) store signal .0 covered)
+
+  pub →comes : (p n : ℕ) → Issue ev p → ComesBy ev p n → Meets ev n × (covers? ev p (source ev n) ≡ true)
+  →comes p n store (by-load loads order) =
+      let source-store = store-behind store order in
+      (loads-store loads source-store, covers-exactly ev p (source ev n) store source-store .1 order)
+  →comes p n store (by-wait waits signal precedes) =
+      (waits-signal waits signal, covers-handed ev p (source ev n) store signal .1 precedes)
+
+  -- the source is not earlier than the store and, in an accepted trace, earlier than the event
+  pub comes-from : {p n : ℕ} → ComesBy ev p n → p ≤ source ev n
+  comes-from {p} {n} (by-load loads order) = at-or-before-le ev p (source ev n) order
+  comes-from {p} {n} (by-wait waits signal precedes) = omega (arith, precedes-lt ev precedes)
+
+  pub comes-early : (N : ℕ) → Accepted ev N → {p l : ℕ} → l < N → ComesBy ev p l → source ev l < l
+  comes-early N accepted {p} {l} inside (by-load loads order) = source-early ev N accepted l inside loads
+  comes-early N accepted {p} {l} inside (by-wait waits signal precedes) =
+      wait-signalled ev N accepted l inside waits .early
+
   brings→ : (p n : ℕ) → Issue ev p → brings? ev p n ≡ true → Brings ev p n
   brings→ p n store passes =
-      let (with-source, covered) =
-      parts (load? ev n && eqb (stretch ev n) (stretch ev p) && issue? ev (source ev n)) _ passes
-      in
-      let (with-stretch, is-store) = parts (load? ev n && eqb (stretch ev n) (stretch ev p)) _ with-source in
-      let (loads, in-stretch) = parts (load? ev n) _ with-stretch in
-      record {
-        loads = record { test = loads };
-        in-stretch = eqb-true _ _ in-stretch;
-        from = covers-exactly ev p (source ev n) store (record { test = is-store }) .0 covered;
-      }
+      let (with-role, covered) = parts (eqb (stretch ev n) (stretch ev p) && meets? ev n) _ passes in
+      let (in-stretch, meets) = parts (eqb (stretch ev n) (stretch ev p)) _ with-role in
+      record { in-stretch = eqb-true _ _ in-stretch; comes = comes→ p n store (meets→ ev n meets) covered }
 
   →brings : (p n : ℕ) → Issue ev p → Brings ev p n → brings? ev p n ≡ true
   →brings p n store it =
-      let source-store = store-behind store (it .from) in
-      both _ _
-      (both _ _ (both _ _ (it .loads .test) (eq-eqb _ _ (it .in-stretch))) (source-store .test))
-      (covers-exactly ev p (source ev n) store source-store .1 (it .from))
+      let (meets, covered) = →comes p n store (it .comes) in
+      both _ _ (both _ _ (eq-eqb _ _ (it .in-stretch)) (→meets ev n meets)) covered
 
   -- ---- when thread t has store p, and reaches store q
 
@@ -278,41 +294,63 @@ module _ (ev : ℕ → Event) where
   has-precedes N accepted p t n e store (inl (is-own, behind-p)) later inside by-t in-stretch =
       own store (sym in-stretch) (sym is-own ∙ sym by-t) (omega arith)
   has-precedes N accepted p t n e store (inr (other, (l, behind-l, by-thread, brings))) later inside by-t in-stretch =
-      by-source (brings .from)
+      by-role (brings .comes)
     where
       s : ℕ
       s = source ev l
 
-      s-store : Issue ev s
-      s-store = store-behind store (brings .from)
+      here : stretch ev l ≡ stretch ev e
+      here = brings .in-stretch ∙ sym in-stretch
 
-      s-precedes : Precedes ev s e
-      s-precedes =
-          read l s-store (sym (same-stretch ev p s (brings .from)) ∙ sym in-stretch) (brings .loads) refl
-          (by-thread ∙ sym by-t) (brings .in-stretch ∙ sym in-stretch)
-          (source-early ev N accepted l (omega arith) (brings .loads)) (omega arith)
+      early : s < l
+      early = comes-early N accepted (omega arith) (brings .comes)
 
-      by-source : AtOrBefore ev p s → Precedes ev p e
-      by-source (inl same) = rw same s-precedes
-      by-source (inr before) = chain s-store (before .precedes) s-precedes
+      by-source : AtOrBefore ev p s → Issue ev s → Precedes ev s e → Precedes ev p e
+      by-source (inl same) s-store s-precedes = rw same s-precedes
+      by-source (inr before) s-store s-precedes = chain s-store (before .precedes) s-precedes
+
+      by-role : ComesBy ev p l → Precedes ev p e
+      by-role (by-load loads order) =
+          let s-store = store-behind store order in
+          by-source order s-store
+          (read l s-store (sym (same-stretch ev p s order) ∙ sym in-stretch) loads refl (by-thread ∙ sym by-t) here
+          early (omega arith))
+      by-role (by-wait waits signal precedes) =
+          handed s l signal (sym (precedes-stretch ev precedes) ∙ sym in-stretch) precedes waits refl
+          (by-thread ∙ sym by-t) here early (omega arith)
 
   -- ---- the observed store's thread
 
   -- an event that brings p to n's thread, at n or before it
   record BroughtBy (p n : ℕ) : Type 0 where
-    load : ℕ
-    early : load ≤ n
-    by-thread : thread ev load ≡ thread ev n
-    brings : Brings ev p load
+    by : ℕ
+    early : by ≤ n
+    by-thread : thread ev by ≡ thread ev n
+    brings : Brings ev p by
+
+  -- what happens before a store that comes by an event comes by it too
+  comes-too : {p q n : ℕ} → Before ev p q → ComesBy ev q n → ComesBy ev p n
+  comes-too before (by-load loads order) = by-load loads (inr (before-at-or-before ev before order))
+  comes-too before (by-wait waits signal precedes) =
+      by-wait waits signal (chain (before .store) (before .precedes) precedes)
 
   -- what happens before an event of another thread was brought to that thread
   brought : {p n : ℕ} → Precedes ev p n → thread ev p ≢ thread ev n → BroughtBy p n
   brought (own store in-stretch by-thread earlier) other = absurd (other by-thread)
   brought (read l store in-stretch loads from by-thread load-in-stretch after early) other = record {
-    load = l;
+    by = l;
     early = early;
     by-thread = by-thread;
-    brings = record { loads = loads; in-stretch = load-in-stretch ∙ sym in-stretch; from = inl (sym from) };
+    brings = record { in-stretch = load-in-stretch ∙ sym in-stretch; comes = by-load loads (inl (sym from)) };
+  }
+  brought (handed s w signal in-stretch before waits from by-thread wait-in-stretch after early) other = record {
+    by = w;
+    early = early;
+    by-thread = by-thread;
+    brings = record {
+      in-stretch = wait-in-stretch ∙ sym (precedes-stretch ev before ∙ in-stretch);
+      comes = by-wait waits (rw from signal) (rw from before);
+    };
   }
   brought (chain {p} {q} {n} q-store to-q to-n) other =
       by-thread (same? (thread ev q) (thread ev n)) (brought to-q) (brought to-n)
@@ -324,7 +362,7 @@ module _ (ev : ℕ → Event) where
       by-thread (inl same) by-q by-n =
           let it = by-q (λ is-q. other (is-q ∙ same)) in
           record {
-            load = it .load;
+            by = it .by;
             early = omega (arith, it .early, precedes-lt ev to-n);
             by-thread = it .by-thread ∙ same;
             brings = it .brings;
@@ -333,13 +371,12 @@ module _ (ev : ℕ → Event) where
           let it = by-n differs in
           let p-before-q : Before ev p q = record { store = q-store; precedes = to-q } in
           record {
-            load = it .load;
+            by = it .by;
             early = it .early;
             by-thread = it .by-thread;
             brings = record {
-              loads = it .brings .loads;
               in-stretch = it .brings .in-stretch ∙ sym (precedes-stretch ev to-q);
-              from = inr (before-at-or-before ev p-before-q (it .brings .from));
+              comes = comes-too p-before-q (it .brings .comes);
             };
           }
 
@@ -387,12 +424,12 @@ module _ (ev : ℕ → Event) where
               omega arith
 
           at-q : BroughtBy p q → Brings ev p q
-          at-q it = by-place (same? (it .load) q)
+          at-q it = by-place (same? (it .by) q)
             where
-              by-place : (it .load ≡ q) ⊎ (it .load ≢ q) → Brings ev p q
+              by-place : (it .by ≡ q) ⊎ (it .by ≢ q) → Brings ev p q
               by-place (inl is-q) = rw is-q at (it .brings)
               by-place (inr differs) =
-                  absurd (none-earlier (it .load) (omega (arith, it .early)) (it .by-thread) (it .brings))
+                  absurd (none-earlier (it .by) (omega (arith, it .early)) (it .by-thread) (it .brings))
 
       by-thread : (thread ev q ≡ thread ev p) ⊎ (thread ev q ≢ thread ev p) → Has ev p (thread ev q) q
       by-thread (inl same) = inl (same, before-lt ev before)

@@ -1,6 +1,6 @@
 -- Nothing depends on later events: of two numberings that agree on the first N events, which are accepted, each thread
 -- has the same window for two of their stores (specs/Windows.antt), and so the two have the same fault. For all that a
--- window asks for stands at or before the observed store, the sources of the loads among it.
+-- window asks for stands at or before the observed store, the sources of the loads and waits among it.
 -- In order: what brings a store; the two places; the window; the fault, `fault-same`.
 use Prim.Native.Nat.{ℕ, _≤_, _<_}
 use native.Mathlib.Omega.{arith}
@@ -8,31 +8,38 @@ use mathlib.Core.Path.{_≡_, sym, _∙_}
 use Rattle.record.specs.declared.events.Event.{Event}
 use Rattle.model.specs.Trace.{source, Issue}
 use Rattle.model.specs.Rules.{Accepted}
-use Rattle.model.specs.Windows.{Places, none, between, Brings, FirstPlace, LastPlace, Window, WindowIs, windowOf}
+use Rattle.model.specs.Windows.{Places, none, between, ComesBy, by-load, by-wait, Brings, FirstPlace}
+use Rattle.model.specs.Windows.{LastPlace, Window, WindowIs, windowOf}
 use Rattle.model.specs.Windows as windows
 use Rattle.model.specs.Answers.{faultOf}
 use Rattle.model.proofs.Tabulating.{tabulate-same}
 use Rattle.model.proofs.Ordering.{at-or-before-le}
-use Rattle.model.proofs.WindowPlaces.{window-is, window-unique}
-use Rattle.model.proofs.Acceptance.{source-early}
+use Rattle.model.proofs.WindowPlaces.{comes-from, comes-early, window-is, window-unique}
 use Rattle.model.proofs.Agreement.{Agree, reversed, thread-same, source-same, stretches-same, accepted-same}
-use Rattle.model.proofs.Agreement.{issue-same, load-same, at-or-before-same}
+use Rattle.model.proofs.Agreement.{issue-same, load-same, signal-same, wait-same, precedes-same}
+use Rattle.model.proofs.Agreement.{at-or-before-same}
 
 module _ {N : ℕ} {ev other : ℕ → Event} (agree : Agree N ev other) (accepted : Accepted ev N) where
   -- ---- what brings a store, which comes earlier
 
-  brings-early : {p l : ℕ} → l < N → Brings ev p l → p ≤ l
-  brings-early {p} {l} inside it =
-      omega (arith, at-or-before-le ev p (source ev l) (it .from), source-early ev N accepted l inside (it .loads))
+  comes-behind : {p l : ℕ} → l < N → ComesBy ev p l → p < l
+  comes-behind inside comes = omega (arith, comes-from ev comes, comes-early ev N accepted inside comes)
+
+  comes-same : {p l : ℕ} → l < N → source ev l < l → ComesBy ev p l → ComesBy other p l
+  comes-same {p} {l} inside early (by-load loads order) =
+      by-load (load-same agree inside loads)
+      (rw (source-same agree l inside) at (at-or-before-same agree (omega arith) order))
+  comes-same {p} {l} inside early (by-wait waits signal precedes) =
+      by-wait (wait-same agree inside waits)
+      (rw (source-same agree l inside) at (signal-same agree (omega arith) signal))
+      (rw (source-same agree l inside) at (precedes-same agree (omega arith) precedes))
 
   brings-same : {p l : ℕ} → l < N → Brings ev p l → Brings other p l
   brings-same {p} {l} inside it =
-      let early = source-early ev N accepted l inside (it .loads) in
-      let p-early = brings-early inside it in
+      let behind = comes-behind inside (it .comes) in
       record {
-        loads = load-same agree inside (it .loads);
         in-stretch = stretches-same agree l p (omega arith) (omega arith) (it .in-stretch);
-        from = rw (source-same agree l inside) at (at-or-before-same agree (omega arith) (it .from));
+        comes = comes-same inside (comes-early ev N accepted inside (it .comes)) (it .comes);
       }
 
 module _ {N : ℕ} {ev other : ℕ → Event} (agree : Agree N ev other) (accepted : Accepted ev N) where
@@ -41,7 +48,7 @@ module _ {N : ℕ} {ev other : ℕ → Event} (agree : Agree N ev other) (accept
   first-same : {p t from : ℕ} → from ≤ N → FirstPlace ev p t from → FirstPlace other p t from
   first-same {p} within (windows.own is-own) = windows.own (is-own ∙ thread-same agree p (omega arith))
   first-same {p} {t} within (windows.brought l differs it) =
-      let early = brings-early agree accepted (omega arith) (it .brings) in
+      let behind = comes-behind agree accepted (omega arith) (it .brings .comes) in
       windows.brought l (λ is-own. differs (is-own ∙ sym (thread-same agree p (omega arith))))
       (record {
         by-t = sym (thread-same agree l (omega arith)) ∙ it .by-t;

@@ -12,7 +12,7 @@ use mathlib.Core.Logic.{_⊎_, _≢_}
 use lib.Dec.{leb}
 use Rattle.record.specs.declared.events.Event.{Event}
 use Rattle.model.specs.Trace.{kind, thread, location, source, hasThread?, hasLocation?, threads, locations}
-use Rattle.model.specs.Trace.{begin?, issue?, commit?, load?, crash?, skipOn?, skipOff?}
+use Rattle.model.specs.Trace.{begin?, issue?, commit?, load?, crash?, skipOn?, skipOff?, signal?, wait?}
 use Rattle.model.specs.Machine.{committed}
 use Rattle.model.specs.Rules.{beginFits}
 use Rattle.model.specs.Choice.{Choice}
@@ -82,6 +82,8 @@ pub record Embedding (threadsBy locationsBy : Naming) (part whole : ℕ → Even
   pub issuing : Role issue? stores threadsBy part whole
   pub skip-on : Role skipOn? stores threadsBy part whole
   pub skip-off : Role skipOff? stores threadsBy part whole
+  pub signalling : Role signal? stores threadsBy part whole
+  pub waiting : Role wait? stores threadsBy part whole
   pub loading : Role load? loads threadsBy part whole
   pub committing : Role commit? commits threadsBy part whole
   pub crash-same : (e : ℕ) → crash? whole (stores .number e) ≡ crash? part e
@@ -92,6 +94,7 @@ pub record Embedding (threadsBy locationsBy : Naming) (part whole : ℕ → Even
       (e : ℕ) → load? part e ≡ true → location whole (loads .number e) ≡ locationsBy .into (location part e)
   pub location-own : (e : ℕ) → load? part e ≡ true → locationsBy .own? (locationsBy .into (location part e)) ≡ true
   pub source-same : (e : ℕ) → load? part e ≡ true → source whole (loads .number e) ≡ stores .number (source part e)
+  pub wait-source : (e : ℕ) → wait? part e ≡ true → source whole (stores .number e) ≡ stores .number (source part e)
   -- before an event loads, the stores and commits of the earlier events are there, no others; when it commits, its own
   -- store is there too
   pub stores-at-load : (e : ℕ) → stores .kept (loads .number e) ≡ e
@@ -104,10 +107,12 @@ pub record Embedding (threadsBy locationsBy : Naming) (part whole : ℕ → Even
 
 -- ---- what stays apart
 
--- every commit makes a store take effect, and every source that is not 0 is a store: so it is in an accepted trace
+-- every commit makes a store take effect, every load's source that is not 0 is a store, and every wait's a signal: so
+-- it is in an accepted trace
 pub record Finds (ev : ℕ → Event) : Type 0 where
   pub commit-finds : (e : ℕ) → commit? ev e ≡ true → issue? ev (committed ev e) ≡ true
   pub source-store : (e : ℕ) → load? ev e ≡ true → source ev e ≢ 0 → issue? ev (source ev e) ≡ true
+  pub wait-signal : (e : ℕ) → wait? ev e ≡ true → signal? ev (source ev e) ≡ true
 
 module _
     {threadsBy locationsBy : Naming} {part whole : ℕ → Event} (via : Embedding threadsBy locationsBy part whole) where

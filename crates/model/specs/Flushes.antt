@@ -33,7 +33,7 @@ abbrev pub carry : (ℕ → ℕ) → Ruling → Ruling
 carry f = carryBy f f
 
 -- a thread's window: its last place is an event; its first place is one behind an event, the missing store or the load
--- that brings it to the thread, and so it is in the whole trace
+-- or wait that brings it to the thread, and so it is in the whole trace
 abbrev pub shiftedPlaces : (ℕ → ℕ) → Places → Places
 shiftedPlaces f none = none
 shiftedPlaces f (between first last) = between (suc (f (first - 1))) (f last)

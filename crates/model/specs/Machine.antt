@@ -1,4 +1,5 @@
--- What the machine has done before event n, and which sources a load may have: document 01, "Rules of the machine".
+-- What the machine has done before event n, and which sources a load and a wait may have: document 01, "Rules of the
+-- machine", and document 02, job 4.
 -- A queue is no list here: it is first in, first out, so of a thread's stores in a stretch the first are committed, as
 -- many as it has commits there, and the others wait. "A thread's state is handed to each record and comes back
 -- changed": that state is the code's; here it is what the events before n say. A search for a store or a commit gives 0
@@ -9,8 +10,8 @@ use mathlib.Core.List.{List, [], _∷_}
 use lib.Dec.{eqb, ltb, leb}
 use Rattle.record.specs.declared.events.Event.{Event}
 use Rattle.model.specs.Search.{member, last}
-use Rattle.model.specs.Trace.{thread, location, source, issue?, commit?, load?, crash?, skipOn?, skipOff?}
-use Rattle.model.specs.Trace.{stretch, issues, commits, place}
+use Rattle.model.specs.Trace.{thread, location, source, issue?, commit?, load?, signal?, crash?}
+use Rattle.model.specs.Trace.{skipOn?, skipOff?, stretch, issues, commits, place}
 
 module _ (ev : ℕ → Event) where
   -- ---- queues
@@ -80,6 +81,12 @@ module _ (ev : ℕ → Event) where
   -- "Otherwise the load is crossing"
   abbrev pub crossing : ℕ → Bool
   crossing n = load? ev n && eqb (waiting n) 0 && eqb (current n) 0
+
+  -- ---- waits
+
+  -- the source of n is an "earlier signal of the same stretch"
+  abbrev pub signalled : ℕ → Bool
+  signalled n = signal? ev (source ev n) && ltb (source ev n) n && eqb (stretch ev (source ev n)) (stretch ev n)
 
   -- ---- skips, and which loads count
 

@@ -1,6 +1,7 @@
 -- Which events the machine's rules forbid, and in which order: document 01, "When a trace is turned away", refusals 1
--- and 5 to 13; document 02, job 2: "11 also if kind 12's thread has a waiting store, before 9". Refusals 2 to 4 are the
--- record layer's; specs/Reading.antt puts them in front.
+-- and 5 to 13; document 02, job 2: "11 also if kind 12's thread has a waiting store, before 9"; job 4: "11 for a signal
+-- with waiting stores; 18 for a wait whose source is no earlier signal of the same stretch, after 7". Refusals 2 to 4
+-- are the record layer's; specs/Reading.antt puts them in front.
 use Prim.Native.Nat.{ℕ, _<_}
 use mathlib.Core.Path.{_≡_}
 use mathlib.Core.Bool.{Bool, cond, _&&_, _||_, not}
@@ -8,9 +9,9 @@ use lib.Dec.{eqb, ltb, leb}
 use Rattle.record.specs.declared.events.Event.{Event}
 use Rattle.record.specs.Fields.{fieldsOf}
 use Rattle.model.specs.Trace.{thread, location, stretch}
-use Rattle.model.specs.Trace.{begin?, issue?, commit?, load?, drained?, crash?, skipOn?, skipOff?}
+use Rattle.model.specs.Trace.{begin?, issue?, commit?, load?, drained?, crash?, skipOn?, skipOff?, wait?}
 use Rattle.model.specs.Trace.{hasThread?, hasLocation?, threads, locations}
-use Rattle.model.specs.Machine.{queued, sourceFits, skipping}
+use Rattle.model.specs.Machine.{queued, sourceFits, signalled, skipping}
 
 -- tests in the order in which they are made, each with the number by which it refuses
 pub data Rules : Type 0 where
@@ -48,7 +49,8 @@ module _ (ev : ℕ → Event) where
       (hasThread? ev n && leb (threads ev) (thread ev n)) refuses 7 else
       -- "no such location": so are locations
       (hasLocation? ev n && leb (locations ev) (location ev n)) refuses 8 else
-      -- "mfence, queue not empty": "mfence needs an empty queue."; "also if kind 12's thread has a waiting store"
+      -- "mfence, queue not empty": "mfence needs an empty queue."; "also if kind 12's thread has a waiting store", and
+      -- "for a signal with waiting stores"
       (drained? ev n && queued ev n) refuses 11 else
       -- "source against the load rule"
       (load? ev n && not (sourceFits ev n)) refuses 9 else
@@ -57,6 +59,8 @@ module _ (ev : ℕ → Event) where
       -- "skip already on, or already off"
       (skipOn? ev n && skipping ev n (thread ev n)
       || skipOff? ev n && not (skipping ev n (thread ev n))) refuses 12 else
+      -- "a wait whose source is no earlier signal of the same stretch": a wait has no location, so 8 never meets it
+      (wait? ev n && not (signalled ev n)) refuses 18 else
       -- "Flushes and sfence have only their fields checked."
       pass
 

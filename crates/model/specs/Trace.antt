@@ -1,7 +1,8 @@
 -- A trace is a numbering of events: `ev e` is event number e. How many there are, N, is said apart, so that the records
 -- 0 to e are the trace with e + 1 records, and nothing about an event changes with what comes later.
 -- Here: what an event says, the roles that it plays, stretches, and counting. Document 01, "The trace" and "Rules of
--- the machine"; document 02, job 2: "Wherever issues, commits or loads are named", kind 12 "is meant too".
+-- the machine"; document 02, job 2: "Wherever issues, commits or loads are named", kind 12 "is meant too"; job 4: "Kind
+-- 13 (signal [..]) and kind 14 (wait [..]) join the rules."
 use Prim.Native.Nat.{ℕ, zero, suc, _+_}
 use mathlib.Core.Path.{_≡_}
 use mathlib.Core.Bool.{Bool, true, not, _&&_, _||_}
@@ -71,9 +72,16 @@ module _ (ev : ℕ → Event) where
   abbrev pub begin? : ℕ → Bool
   begin? e = is 1 e
 
-  -- it needs an empty queue: an mfence, a locked operation
+  abbrev pub signal? : ℕ → Bool
+  signal? e = is 13 e
+
+  abbrev pub wait? : ℕ → Bool
+  wait? e = is 14 e
+
+  -- it needs an empty queue: an mfence, a locked operation; "Signals are written when visible, so the queue is empty by
+  -- then."
   abbrev pub drained? : ℕ → Bool
-  drained? e = is 8 e || is 12 e
+  drained? e = is 8 e || is 12 e || signal? e
 
   abbrev pub skipOn? : ℕ → Bool
   skipOn? e = is 10 e
@@ -89,6 +97,12 @@ module _ (ev : ℕ → Event) where
 
   pub record Load (e : ℕ) : Type 0 where
     pub test : load? e ≡ true
+
+  pub record Signal (e : ℕ) : Type 0 where
+    pub test : signal? e ≡ true
+
+  pub record Wait (e : ℕ) : Type 0 where
+    pub test : wait? e ≡ true
 
   -- ---- stretches and counts
 

@@ -1,5 +1,5 @@
--- Where the flush may go: document 02, jobs 1 and 2. "For a flush fault, developers want the records in front of which
--- a thread may flush the missing store's line. For missing p, observed q and thread t": the first place, the last
+-- Where the flush may go: document 02, jobs 1, 2 and 4. "For a flush fault, developers want the records in front of
+-- which a thread may flush the missing store's line. For missing p, observed q and thread t": the first place, the last
 -- place, and the window from the one to the other. A place is the number of the record in front of which the flush may
 -- stand.
 -- In order: which events bring p to a thread; the two places; the window; when q's own record brings p; what theorems
@@ -11,9 +11,9 @@ use mathlib.Core.Bool.{Bool, cond, _&&_}
 use lib.Dec.{eqb, ltb}
 use Rattle.record.specs.declared.events.Event.{Event}
 use Rattle.model.specs.Search.{first, last}
-use Rattle.model.specs.Trace.{thread, source, issue?, load?, Issue, Load, stretch}
-use Rattle.model.specs.HappensBefore.{AtOrBefore}
-use Rattle.model.specs.Clocks.{covers?}
+use Rattle.model.specs.Trace.{thread, source, issue?, Issue, Load, Signal, Wait, stretch}
+use Rattle.model.specs.HappensBefore.{Precedes, AtOrBefore}
+use Rattle.model.specs.Clocks.{meets?, covers?}
 
 -- the places of a window, its first and its last; or none
 pub data Places : Type 0 where
@@ -26,11 +26,15 @@ PlaceIn none n = ⊥
 PlaceIn (between from to) n = (from ≤ n) × (n ≤ to)
 
 module _ (ev : ℕ → Event) where
-  -- event n brings store p to its thread: a "load in that stretch whose source is p or happens after p"
+  -- store p comes by event n: a "load [..] whose source is p or happens after p", or a "wait whose signal passes p on"
+  pub data ComesBy (p n : ℕ) : Type 0 where
+    by-load : Load ev n → AtOrBefore ev p (source ev n) → ComesBy p n
+    by-wait : Wait ev n → Signal ev (source ev n) → Precedes ev p (source ev n) → ComesBy p n
+
+  -- event n brings store p to its thread, "in that stretch"
   pub record Brings (p n : ℕ) : Type 0 where
-    pub loads : Load ev n
     pub in-stretch : stretch ev n ≡ stretch ev p
-    pub from : AtOrBefore ev p (source ev n)
+    pub comes : ComesBy p n
 
   -- l is thread t's first event that brings p
   pub record FirstBrings (p t l : ℕ) : Type 0 where
@@ -38,7 +42,8 @@ module _ (ev : ℕ → Event) where
     pub brings : Brings p l
     pub none-earlier : (n : ℕ) → n < l → thread ev n ≡ t → ¬ Brings p n
 
-  -- "the first place is p + 1 in p's thread, elsewhere one past t's first" event that brings p
+  -- "the first place is p + 1 in p's thread, elsewhere one past t's first" event that brings p: "the first such load or
+  -- the first wait whose signal passes p on, the earlier of the two"
   pub data FirstPlace (p t : ℕ) : ℕ → Type 0 where
     own : t ≡ thread ev p → FirstPlace p t (suc p)
     brought : (l : ℕ) → t ≢ thread ev p → FirstBrings p t l → FirstPlace p t (suc l)
@@ -80,9 +85,9 @@ module _ (ev : ℕ → Event) where
 
   -- ---- computed: that this is what `WindowIs` says is `window-is` of proofs/WindowPlaces.antt
 
-  -- `Brings`, by the source's clock
+  -- `Brings`, by the clock of the source, a store or a signal
   abbrev pub brings? : ℕ → ℕ → Bool
-  brings? p n = load? ev n && eqb (stretch ev n) (stretch ev p) && issue? ev (source ev n) && covers? ev p (source ev n)
+  brings? p n = eqb (stretch ev n) (stretch ev p) && meets? ev n && covers? ev p (source ev n)
 
   -- the event behind which thread t has p: p itself in p's thread, elsewhere the first event before q that brings it;
   -- q if there is none
