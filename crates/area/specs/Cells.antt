@@ -20,22 +20,24 @@ getRow l e k = getD l (rowStart e + k % 16) 0
 unfoldable pub putRow : List ℕ → ℕ → ℕ → ℕ → List ℕ
 putRow l e k v = set l (rowStart e + k % 16) v
 
+-- event q's clock for store p's thread is not below p's own
+abbrev pub clockCoversW : List ℕ → ℕ → ℕ → Bool
+clockCoversW l p q = let t = getRow l p 8 in leb (getRow l p t) (getRow l q t)
+
 -- store p is store q or happens before it: they are of the same stretch, and q's clock for p's thread is not below p's
 -- own
 abbrev pub coversW : List ℕ → ℕ → ℕ → Bool
-coversW l p q =
-    let t = getRow l p 8 in
-    eqb (getRow l p 10) (getRow l q 10) && leb (getRow l p t) (getRow l q t)
+coversW l p q = eqb (getRow l p 10) (getRow l q 10) && clockCoversW l p q
 
 -- the number of the event whose row begins there
 abbrev pub eventAt : ℕ → ℕ
 eventAt row = row / 16 + 1
 
--- the event whose row begins there is no store: its stretch is 0
+-- the event whose row begins there is no store, and no signal: its stretch is 0 as either
 abbrev pub noStore : List ℕ → ℕ → List ℕ
-noStore l row = set l (row + 10) 0
+noStore l row = set (set l (row + 10) 0) (row + 11) 0
 
--- the first n numbers from `to` on become the larger of them and of store s's clock
+-- the first n numbers from `to` on become the larger of them and of event s's clock
 unfoldable pub joined : ℕ → List ℕ → ℕ → ℕ → List ℕ → List ℕ
 joined zero l s to numbers = numbers
 joined (suc u) l s to numbers =

@@ -1,14 +1,15 @@
--- What the rows of stores hold after n events. A store's row holds, by column: 0 to 7 its vector clock; 8 its thread; 9
--- its location; 10 its stretch (0: the event is no store); 11 the next store of its thread in the stretch; 14 the store
--- committed before it at its location. Columns 12, 13 and 15 are free. Of any other event only column 10 is written. A
--- row is written when its event comes, and nothing is said of the rows of events to come.
+-- What the rows of stores and signals hold after n events. A store's row holds, by column: 0 to 7 its vector clock; 8
+-- its thread; 9 its location; 10 its stretch (0: the event is no store); 12 the next store of its thread in the
+-- stretch; 14 the store committed before it at its location. A signal's row holds in 0 to 7 its vector clock, and in 11
+-- its stretch (0: the event is no signal). Columns 13 and 15 are free. Of any other event only columns 10 and 11 are
+-- written. A row is written when its event comes, and nothing is said of the rows of events to come.
 use Prim.Native.Nat.{ℕ, _≤_, _<_}
 use mathlib.Core.Path.{_≡_}
 use mathlib.Core.Bool.{false}
 use mathlib.Core.List.{List, [], _∷_}
 use lib.ListN.{length}
 use Rattle.record.specs.declared.events.Event.{Event}
-use Rattle.model.specs.Trace.{thread, location, issue?, Issue, stretch}
+use Rattle.model.specs.Trace.{thread, location, issue?, signal?, Issue, Signal, stretch}
 use Rattle.model.specs.Clocks.{vc}
 use Rattle.area.specs.Cells.{getRow}
 
@@ -25,8 +26,15 @@ module _ (ev : ℕ → Event) where
     pub location-is : getRow l p 9 ≡ location ev p
     pub stretch-is : getRow l p 10 ≡ stretch ev p
 
+  -- the row of signal s
+  pub record SignalRow (l : List ℕ) (s : ℕ) : Type 0 where
+    pub clock-is : (u : ℕ) → u < 8 → getRow l s u ≡ vc ev s u
+    pub stretch-is : getRow l s 11 ≡ stretch ev s
+
   -- the rows of the first n events
   pub record Rows (n : ℕ) (l : List ℕ) : Type 0 where
     pub room : 32768 ≤ length l
     pub stores : (p : ℕ) → p < n → Issue ev p → StoreRow l p
     pub others : (p : ℕ) → 1 ≤ p → p < n → issue? ev p ≡ false → getRow l p 10 ≡ 0
+    pub signals : (s : ℕ) → s < n → Signal ev s → SignalRow l s
+    pub no-signals : (p : ℕ) → 1 ≤ p → p < n → signal? ev p ≡ false → getRow l p 11 ≡ 0

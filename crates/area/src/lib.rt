@@ -1,12 +1,12 @@
 // The lent work area: its first 32,768 numbers are rows of 16, one for each event from 1 to 2,048. `row_get` and
 // `row_put` find a row by a remainder and a column by another, so every number has a row, callers owe no bound, and
 // `row_put` leaves the numbers past the first 32,768 as they are. The other stores go where they are told, in whatever
-// they are lent: `no_store` to column 10 of the row that begins at `row`, `join` to the eight numbers from `to` on,
-// `clear` to all. The judge lends 32,768 numbers.
+// they are lent: `no_store` to columns 10 and 11 of the row that begins at `row`, `join` to the eight numbers from `to`
+// on, `clear` to all. The judge lends 32,768 numbers.
 ghost use mathlib.Core.Path.{_≡_};
 ghost use Prim.Native.Nat.{_+_, _*_, _≤_};
 ghost use lib.ListN.{getD, set, length, replicate};
-ghost use Rattle.area.specs.Cells.{rowStart, getRow, putRow, coversW, eventAt, noStore};
+ghost use Rattle.area.specs.Cells.{rowStart, getRow, putRow, clockCoversW, coversW, eventAt, noStore};
 ghost use Rattle.area.specs.Cells.{total, joined};
 
 pub mod numbers;
@@ -76,6 +76,14 @@ pub fn row_put(work: &mut [u16], e: u16, k: u16, v: u16)
     put(work, row_of(e) + ((k % 16) as usize), v);
 }
 
+// Event q's clock for store p's thread is not below p's own.
+pub fn clock_covers(work: &[u16], p: u16, q: u16) -> bool
+    ensures { λ r. ⌜ r ≡ clockCoversW (now (work .entry)) p q ⌝ }
+{
+    let t = row_get(work, p, 8);
+    row_get(work, p, t) <= row_get(work, q, t)
+}
+
 // Store p is store q or happens before it: they are of the same stretch, and q's clock for p's thread is not below p's
 // own.
 pub fn covers(work: &[u16], p: u16, q: u16) -> bool
@@ -84,8 +92,7 @@ pub fn covers(work: &[u16], p: u16, q: u16) -> bool
     if row_get(work, p, 10) != row_get(work, q, 10) {
         return false;
     }
-    let t = row_get(work, p, 8);
-    row_get(work, p, t) <= row_get(work, q, t)
+    clock_covers(work, p, q)
 }
 
 // The number of the event whose row begins there; 2,049 behind the last row.
@@ -96,15 +103,16 @@ pub fn event_at(row: usize) -> u16
     (row / 16 + 1) as u16
 }
 
-// The event whose row begins there is no store.
+// The event whose row begins there is no store, and no signal.
 pub fn no_store(work: &mut [u16], row: usize)
     requires { ⌜ row + 16 ≤ length (now work) ⌝ }
     ensures { λ _. ⌜ now (work .exit) ≡ noStore (now (work .entry)) row ⌝ }
 {
     work[row + 10] = 0;
+    work[row + 11] = 0;
 }
 
-// The eight numbers from `to` on become the larger of them and of store s's clock.
+// The eight numbers from `to` on become the larger of them and of event s's clock.
 pub fn join(numbers: &mut [u16], to: usize, work: &[u16], s: u16)
     requires { ⌜ (to + 8 ≤ length (now numbers)) × (32768 ≤ length (now work)) ⌝ }
     ensures { λ _. ⌜ now (numbers .exit) ≡ joined 8 (now (work .entry)) s to (now (numbers .entry)) ⌝ }

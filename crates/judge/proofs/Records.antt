@@ -14,6 +14,7 @@ use lib.ListN.{length}
 use Rattle.record.specs.declared.events.Event.{Event}
 use Rattle.record.specs.declared.events.Event.the-variants.{Begin, Issue, Commit, Load, Clflush, Clwb}
 use Rattle.record.specs.declared.events.Event.the-variants.{Sfence, Mfence, Crash, SkipOn, SkipOff, Locked}
+use Rattle.record.specs.declared.events.Event.the-variants.{Signal, Wait}
 use Rattle.record.specs.declared.events.Fields.{Fields}
 use Rattle.record.specs.declared.reading.Read.{Read}
 use Rattle.record.specs.declared.reading.Read.the-variants.{Record, Refused}
@@ -33,8 +34,9 @@ use Rattle.model.proofs.Searching.{test}
 use Rattle.model.proofs.TurnedAway.{passed→, ends-there, unread-there, forbidden-there, passing-there}
 use Rattle.area.specs.Cells.{eventAt}
 use Rattle.machine.specs.Arms.{byKind}
-use Rattle.machine.specs.Twin.{State, World, world, threadAt, started, fitsW}
-use Rattle.machine.specs.Turning.{empty, loadRule, lockedRule, commitRule, fenceRule, skipRule, threadFits, placeFits}
+use Rattle.machine.specs.Twin.{State, World, world, threadAt, started, fitsW, signalledW}
+use Rattle.machine.specs.Turning.{empty, loadRule, lockedRule, commitRule, fenceRule, skipRule, signalRule, waitRule}
+use Rattle.machine.specs.Turning.{threadFits, placeFits}
 use Rattle.machine.specs.Turning.{onThread, onPlace, refusalK, refusalW, countsW, beginRefusal}
 use Rattle.machine.specs.Effects.{stepW}
 use Rattle.machine.specs.declared.state.Step.{Step}
@@ -110,6 +112,12 @@ rule-not-1 w (Locked t x s) =
     on-place-not-1 (w .state) t x (lockedRule w t x s)
     (pick-not-1 (eqb (threadAt w t .oldest) 0) (loadRule w t x s) 11
     (pick-not-1 (fitsW w t x s) 0 9 0-not-1 (λ is-1. omega arith)) (λ is-1. omega arith))
+rule-not-1 w (Signal t) =
+    on-thread-not-1 (w .state) t (signalRule w t)
+    (pick-not-1 (eqb (threadAt w t .oldest) 0) 0 11 0-not-1 (λ is-1. omega arith))
+rule-not-1 w (Wait t s) =
+    on-thread-not-1 (w .state) t (waitRule w s)
+    (pick-not-1 (signalledW w s) 0 18 0-not-1 (λ is-1. omega arith))
 
 module _ (bytes : List ℕ) where
   -- ---- what reading answered, taken apart

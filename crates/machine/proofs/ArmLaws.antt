@@ -14,8 +14,8 @@ behind-load k low not-2 not-3 not-4 = omega arith
 pub behind-crash : (k : ℕ) → 9 ≤ k → k ≢ 9 → 10 ≤ k
 behind-crash k low not-9 = omega arith
 
-module _ {A : Type 0} (k : ℕ) (issue commit load flush fence crash skip locked other : A) where
-  pub flush-arm : 5 ≤ k → k ≤ 6 → flush ≡ byKind k issue commit load flush fence crash skip locked other
+module _ {A : Type 0} (k : ℕ) (issue commit load flush fence crash skip locked signal wait other : A) where
+  pub flush-arm : 5 ≤ k → k ≤ 6 → flush ≡ byKind k issue commit load flush fence crash skip locked signal wait other
   unfolding byKind
   flush-arm low high =
       rw (
@@ -26,7 +26,7 @@ module _ {A : Type 0} (k : ℕ) (issue commit load flush fence crash skip locked
         le-leb k 6 high,
       )
 
-  pub fence-arm : 7 ≤ k → k ≤ 8 → fence ≡ byKind k issue commit load flush fence crash skip locked other
+  pub fence-arm : 7 ≤ k → k ≤ 8 → fence ≡ byKind k issue commit load flush fence crash skip locked signal wait other
   unfolding byKind
   fence-arm low high =
       rw (
@@ -39,7 +39,7 @@ module _ {A : Type 0} (k : ℕ) (issue commit load flush fence crash skip locked
         le-leb k 8 high,
       )
 
-  pub skip-arm : 10 ≤ k → k ≤ 11 → skip ≡ byKind k issue commit load flush fence crash skip locked other
+  pub skip-arm : 10 ≤ k → k ≤ 11 → skip ≡ byKind k issue commit load flush fence crash skip locked signal wait other
   unfolding byKind
   skip-arm low high =
       rw (
@@ -55,11 +55,12 @@ module _ {A : Type 0} (k : ℕ) (issue commit load flush fence crash skip locked
         le-leb k 11 high,
       )
 
-  pub other-arm : (2 ≤ k → k ≤ 12 → ⊥) → other ≡ byKind k issue commit load flush fence crash skip locked other
+  pub other-arm :
+      (2 ≤ k → k ≤ 14 → ⊥) → other ≡ byKind k issue commit load flush fence crash skip locked signal wait other
   unfolding byKind
   other-arm outside = by-order (less? k 2)
     where
-      by-order : (k < 2) ⊎ (2 ≤ k) → other ≡ byKind k issue commit load flush fence crash skip locked other
+      by-order : (k < 2) ⊎ (2 ≤ k) → other ≡ byKind k issue commit load flush fence crash skip locked signal wait other
       by-order (inl low) =
           rw (
             ne-eqb k 2 (λ is. omega arith),
@@ -70,10 +71,14 @@ module _ {A : Type 0} (k : ℕ) (issue commit load flush fence crash skip locked
             ne-eqb k 9 (λ is. omega arith),
             lt-leb 10 k (omega arith),
             ne-eqb k 12 (λ is. omega arith),
+            ne-eqb k 13 (λ is. omega arith),
+            ne-eqb k 14 (λ is. omega arith),
           )
-      by-order (inr some) = by-top (less? 12 k)
+      by-order (inr some) = by-top (less? 14 k)
         where
-          by-top : (12 < k) ⊎ (k ≤ 12) → other ≡ byKind k issue commit load flush fence crash skip locked other
+          by-top :
+              (14 < k) ⊎ (k ≤ 14)
+              → other ≡ byKind k issue commit load flush fence crash skip locked signal wait other
           by-top (inr within-range) = absurd (outside some within-range)
           by-top (inl high) =
               rw (
@@ -88,4 +93,6 @@ module _ {A : Type 0} (k : ℕ) (issue commit load flush fence crash skip locked
                 le-leb 10 k (omega arith),
                 lt-leb k 11 (omega arith),
                 ne-eqb k 12 (λ is. omega arith),
+                ne-eqb k 13 (λ is. omega arith),
+                ne-eqb k 14 (λ is. omega arith),
               )

@@ -7,10 +7,10 @@ use mathlib.Core.Path.{_≡_, refl, sym, _∙_}
 use mathlib.Core.Bool.{true, false, cond}
 use mathlib.Core.List.{List, [], _∷_}
 use mathlib.Core.Logic.{_⊎_, inl, inr, _≢_}
-use Prim.Native.Nat.{ℕ, zero, suc, _+_, _≤_, _<_}
+use Prim.Native.Nat.{ℕ, zero, suc, _≤_, _<_}
 use native.Mathlib.Omega.{arith}
 use borrow.Author.Tests.{ne-eqb}
-use lib.ListN.{getD, length-set}
+use lib.ListN.{getD}
 use Rattle.record.specs.declared.events.Event.{Event}
 use Rattle.model.specs.Trace.{kind, thread, location, issue?, commit?, load?, crash?, skipOn?, skipOff?, Commit}
 use Rattle.model.specs.Trace.{stretch, place}
@@ -182,7 +182,7 @@ module _ (ev : ℕ → Event) (n : ℕ) (w : World) (sim : Sim ev n w) (passes :
         rw (oldest-is, sim .rows .stores taken taken-early (taken-store .store) .location-is)
         (omega (arith, x-small))
 
-    next-is : getRow l (old .oldest) 11 ≡ storeAt ev n j t (suc (done ev n t))
+    next-is : getRow l (old .oldest) 12 ≡ storeAt ev n j t (suc (done ev n t))
     next-is =
         rw oldest-is
         (sim .links taken taken-early (taken-store .store)
@@ -193,7 +193,7 @@ module _ (ev : ℕ → Event) (n : ℕ) (w : World) (sim : Sim ev n w) (passes :
             → storeAt ev n (stretch ev taken) (thread ev taken) (suc i) ≡ storeAt ev n j t (suc (done ev n t))
         at-next i in-j by-t at-i = rw (in-j, by-t, at-i)
 
-    queue-next : Queue ev (suc n) t (committedT old (getRow l (old .oldest) 11))
+    queue-next : Queue ev (suc n) t (committedT old (getRow l (old .oldest) 12))
     unfolding committedT
     queue-next =
         let queue = sim .queues t few in
@@ -237,7 +237,9 @@ module _ (ev : ℕ → Event) (n : ℕ) (w : World) (sim : Sim ev n w) (passes :
         (record {
           head-is = committed-last tables t few (sim .size) p y _ _ (omega arith);
           stretch-is = committed-stretch tables t few (sim .size) p y _ _ (omega arith);
-          link-is = put-same (noStore l row) p 14 link (rw (length-set l (row + 10) 0) (sim .rows .room));
+          link-is =
+              put-same (noStore l row) p 14 link
+              (rw (no-store-is row n (sim .numbers .row-is) n-small l (sim .rows .room) .size) (sim .rows .room));
           other-heads = λ z few-z other.
               beyond (lastCell z) (omega arith) (λ same. other (omega arith)) (λ same. omega arith);
           other-stretches = λ z few-z other.
@@ -255,7 +257,7 @@ module _ (ev : ℕ → Event) (n : ℕ) (w : World) (sim : Sim ev n w) (passes :
         let no-load : load? ev n ≡ false = rw kind-is refl in
         let replaced =
         committed-replaced tables t few (sim .size) (old .oldest) (oldestPlace tables l t) (w .state .stretch)
-        (getRow l (old .oldest) 11) (omega arith)
+        (getRow l (old .oldest) 12) (omega arith)
         in
         let no-store =
         link-no-store n (old .oldest) (getD tables (lastCell (oldestPlace tables l t)) 0) l (noStore l row)
@@ -271,7 +273,8 @@ module _ (ev : ℕ → Event) (n : ℕ) (w : World) (sim : Sim ev n w) (passes :
           queues =
               queues-with ev n tables tables′ no-crash (replaced .others) (rw (replaced .own) queue-next)
               (sim .queues);
-          seen-are = seen-keep ev n tables tables′ no-crash no-load (replaced .seen-same) (sim .seen-are);
+          seen-are =
+              seen-keep ev n tables tables′ no-crash no-load (rw kind-is refl) (replaced .seen-same) (sim .seen-are);
           newest-are =
               newest-keep ev n tables tables′ no-issue (λ i low high. between i (omega arith) high) (sim .newest-are);
           commits-are =
@@ -279,6 +282,6 @@ module _ (ev : ℕ → Event) (n : ℕ) (w : World) (sim : Sim ev n w) (passes :
               (sim .commits-are);
           sources = sources-keep ev n tables tables′ (λ i low high. between i low (omega arith)) (sim .sources);
           chains = chains-next tables′ l′ headed;
-          rows = rows-keep ev n l l′ (sim .limits) no-issue no-store (sim .rows);
-          links = links-keep ev n l l′ (sim .limits) no-issue no-store (sim .links);
+          rows = rows-keep ev n l l′ (sim .limits) no-issue (rw kind-is refl) no-store (sim .rows);
+          links = links-keep ev n l l′ (sim .limits) no-issue (rw kind-is refl) no-store (sim .links);
         }

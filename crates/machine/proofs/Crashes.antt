@@ -10,7 +10,7 @@ use borrow.Author.Tests.{eqb-true, lt-ltb, le-ltb}
 use lib.Dec.{ltb}
 use lib.ListN.{getD}
 use Rattle.record.specs.declared.events.Event.{Event}
-use Rattle.model.specs.Trace.{kind, issue?, commit?, crash?, stretch}
+use Rattle.model.specs.Trace.{kind, issue?, signal?, commit?, crash?, stretch}
 use Rattle.model.specs.Rules.{refusal}
 use Rattle.model.specs.Choice as choice
 use Rattle.model.proofs.Searching.{same?, less?}
@@ -35,6 +35,9 @@ module _ (ev : ℕ → Event) (n : ℕ) (crash : crash? ev n ≡ true) where
 
   no-issue : issue? ev n ≡ false
   no-issue = rw crash-kind refl
+
+  no-signal : signal? ev n ≡ false
+  no-signal = rw crash-kind refl
 
   no-commit : commit? ev n ≡ false
   no-commit = rw crash-kind refl
@@ -144,6 +147,10 @@ module _ (ev : ℕ → Event) (n : ℕ) (w : World) (sim : Sim ev n w) (passes :
             (no-store-links (w .state .row) n (sim .numbers .row-is) small (w .work))
             (λ i low high. beyond i low (λ from below. omega arith))
             (λ i low high. beyond i (omega arith) (λ from below. omega arith)) (sim .chains);
-        rows = rows-keep ev n (w .work) _ (sim .limits) (no-issue ev n crash) no-store (sim .rows);
-        links = links-keep ev n (w .work) _ (sim .limits) (no-issue ev n crash) no-store (sim .links);
+        rows =
+            rows-keep ev n (w .work) _ (sim .limits) (no-issue ev n crash) (no-signal ev n crash) no-store
+            (sim .rows);
+        links =
+            links-keep ev n (w .work) _ (sim .limits) (no-issue ev n crash) (no-signal ev n crash) no-store
+            (sim .links);
       }

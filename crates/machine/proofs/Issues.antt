@@ -15,14 +15,14 @@ use lib.Dec.{eqb}
 use lib.ListN.{length, getD}
 use Rattle.record.specs.declared.events.Event.{Event}
 use Rattle.record.specs.Tests.{_gives_else_}
-use Rattle.model.specs.Trace.{kind, thread, location, issue?, commit?, load?, crash?, skipOn?, skipOff?, Issue}
-use Rattle.model.specs.Trace.{stretch, issues, place}
+use Rattle.model.specs.Trace.{kind, thread, location, issue?, commit?, load?, wait?, crash?, skipOn?, skipOff?}
+use Rattle.model.specs.Trace.{Issue, stretch, issues, place}
 use Rattle.model.specs.Rules.{refusal}
 use Rattle.model.specs.Clocks.{seen, vc}
 use Rattle.model.specs.Stores.{storeAt, newestAt}
 use Rattle.model.proofs.Searching.{false-true, same?}
 use Rattle.model.proofs.Counting.{stretch-else, count-it}
-use Rattle.model.proofs.Roles.{issue-no-crash}
+use Rattle.model.proofs.Roles.{issue-no-crash, signal-no-issue}
 use Rattle.model.proofs.ClockSteps.{vc-own, vc-other}
 use Rattle.model.proofs.Acceptance.{store-not-0}
 use Rattle.model.proofs.Committed.{commits-below-issues}
@@ -42,7 +42,7 @@ use Rattle.machine.proofs.TableLaws.{issued-replaced, issued-beyond, is
 use Rattle.machine.proofs.RowLaws.{Stored, stored-is, written-links, event-is}
 use Rattle.machine.proofs.Keep.{limits-next, in-time, few-own, small-own, numbers-next, spares, counted-up}
 use Rattle.machine.proofs.Keep.{committed-stays, skip-stays, queues-with, seen-keep, commits-keep, sources-keep}
-use Rattle.machine.proofs.Keep.{chains-keep, row-same}
+use Rattle.machine.proofs.Keep.{chains-keep, rows-with}
 
 module _ (ev : ℕ → Event) (n : ℕ) (w : World) (sim : Sim ev n w) (passes : refusal ev n ≡ 0)
     (store : Issue ev n) where
@@ -144,29 +144,17 @@ module _ (ev : ℕ → Event) (n : ℕ) (w : World) (sim : Sim ev n w) (passes :
         clock-entry u few-u (inr other) =
             rw (ne-eqb t u other, vc-other ev n u no-crash (λ same. other (sym same))) (seen-is u few-u)
 
-    -- every store but the new one is an earlier event, whose row is as it was
+    -- every store and signal but the new one is an earlier event, whose row is as it was
     pub rows-next : Rows ev (suc n) l′
-    rows-next = record {
-      room = rw (it .size) (sim .rows .room);
-      stores = λ p early is-store. own-or-other p early is-store (same? p n);
-      others = λ p from-one early none. no-row p from-one early none (same? p n);
-    }
-      where
-        own-or-other : (p : ℕ) → p < suc n → Issue ev p → (p ≡ n) ⊎ (p ≢ n) → StoreRow ev l′ p
-        own-or-other p early is-store (inl own) = rw own new-row
-        own-or-other p early is-store (inr other) =
-            row-same ev n l l′ p (λ k low. it .earlier p k (store-some p is-store) (omega arith) low)
-            (sim .rows .stores p (omega arith) is-store)
-
-        no-row : (p : ℕ) → 1 ≤ p → p < suc n → issue? ev p ≡ false → (p ≡ n) ⊎ (p ≢ n) → getRow l′ p 10 ≡ 0
-        no-row p from-one early none (inl own) = false-true (sym none ∙ rw own (store .test))
-        no-row p from-one early none (inr other) =
-            it .earlier p 10 from-one (omega arith) (omega arith) ∙ sim .rows .others p from-one (omega arith) none
+    rows-next =
+        rows-with ev n l l′ (sim .limits) (it .size) (it .earlier) (λ _. new-row)
+        (λ none. false-true (sym none ∙ store .test))
+        (λ signal. false-true (sym (signal-no-issue ev signal) ∙ store .test)) (λ _. it .no-signal) (sim .rows)
 
     -- ---- the links
 
     -- of the new store: there is none after it
-    link-new : getRow l′ n 11 ≡ storeAt ev (suc n) j t (suc (issued ev n t))
+    link-new : getRow l′ n 12 ≡ storeAt ev (suc n) j t (suc (issued ev n t))
     link-new =
         it .no-next
         ∙ sym
@@ -176,13 +164,13 @@ module _ (ev : ℕ → Event) (n : ℕ) (w : World) (sim : Sim ev n w) (passes :
     -- of the newest so far: the new store
     link-newest :
         (p : ℕ) → p < n → Issue ev p → p ≡ newest
-        → getRow l′ p 11 ≡ storeAt ev (suc n) (stretch ev p) (thread ev p) (suc (place ev p))
+        → getRow l′ p 12 ≡ storeAt ev (suc n) (stretch ev p) (thread ev p) (suc (place ev p))
     link-newest p early is-store is-newest =
         its-link
         ∙ sym (store-at-here ev n (stretch ev p) (thread ev p) (suc (place ev p)) store
         (sym (found .at-place .in-j)) (sym (found .at-place .by-t)) next-place)
       where
-        its-link : getRow l′ p 11 ≡ n
+        its-link : getRow l′ p 12 ≡ n
         its-link = rw is-newest (it .linked (omega (arith, store-some p is-store)) newest-early)
 
         found : IsNewest p
@@ -196,7 +184,7 @@ module _ (ev : ℕ → Event) (n : ℕ) (w : World) (sim : Sim ev n w) (passes :
     -- of every other store: as it was
     link-other :
         (p : ℕ) → p < n → Issue ev p → p ≢ newest
-        → getRow l′ p 11 ≡ storeAt ev (suc n) (stretch ev p) (thread ev p) (suc (place ev p))
+        → getRow l′ p 12 ≡ storeAt ev (suc n) (stretch ev p) (thread ev p) (suc (place ev p))
     link-other p early is-store other =
         it .other-links p (store-some p is-store) early (λ same. other (sym same))
         ∙ sim .links p early is-store
@@ -218,7 +206,7 @@ module _ (ev : ℕ → Event) (n : ℕ) (w : World) (sim : Sim ev n w) (passes :
       where
         by-store :
             (p ≡ n) ⊎ (p ≢ n) → (p ≡ newest) ⊎ (p ≢ newest)
-            → getRow l′ p 11 ≡ storeAt ev (suc n) (stretch ev p) (thread ev p) (suc (place ev p))
+            → getRow l′ p 12 ≡ storeAt ev (suc n) (stretch ev p) (thread ev p) (suc (place ev p))
         by-store (inl own) either = rw own link-new
         by-store (inr differs) (inl is-newest) = link-newest p (omega arith) is-store is-newest
         by-store (inr differs) (inr other) = link-other p (omega arith) is-store other
@@ -270,7 +258,7 @@ module _ (ev : ℕ → Event) (n : ℕ) (w : World) (sim : Sim ev n w) (passes :
       let g-is = sim .queues t few .newest-is in
       let c-is = issue-counted ∙ live-here ev (issue? ev) n no-crash (store .test) in
       rw (same-thread, ← g-is, ← c-is, ← sim .numbers .stretch-is)
-      (stored-is row n begins n-small tables₁ t (up (old .issued)) x (w .state .stretch) (old .newest) l₁ few
+      (stored-is row n begins n-small tables₁ t (up (old .issued)) few x (w .state .stretch) (old .newest) l₁
       (rw same-size (sim .rows .room)) (omega (arith, newest-early, g-is, n-small)))
 
   -- ---- the step of kind 2, which is no commit, no load and no skip
@@ -284,6 +272,9 @@ module _ (ev : ℕ → Event) (n : ℕ) (w : World) (sim : Sim ev n w) (passes :
 
     no-load : load? ev n ≡ false
     no-load = rw kind-is refl
+
+    no-wait : wait? ev n ≡ false
+    no-wait = rw kind-is refl
 
     queue-next : Queue ev (suc n) t (issuedT old n)
     unfolding issuedT
@@ -310,7 +301,7 @@ module _ (ev : ℕ → Event) (n : ℕ) (w : World) (sim : Sim ev n w) (passes :
         let tables′ = issuedTables tables row t x in
         let replaced = issued-replaced tables t few (sim .size) row x small in
         let beyond = issued-beyond tables t few (sim .size) row x small in
-        let seen-next = seen-keep ev n tables tables no-crash no-load (λ _ _ _ _ _. refl) (sim .seen-are) in
+        let seen-next = seen-keep ev n tables tables no-crash no-load no-wait (λ _ _ _ _ _. refl) (sim .seen-are) in
         record {
           numbers = numbers-next ev n (w .state) (sim .numbers) no-crash;
           limits = limits-next ev n (sim .limits) passes;
@@ -318,7 +309,7 @@ module _ (ev : ℕ → Event) (n : ℕ) (w : World) (sim : Sim ev n w) (passes :
           queues =
               queues-with ev n tables tables′ no-crash (replaced .others) (rw (replaced .own, at-n) queue-next)
               (sim .queues);
-          seen-are = seen-keep ev n tables tables′ no-crash no-load (replaced .seen-same) (sim .seen-are);
+          seen-are = seen-keep ev n tables tables′ no-crash no-load no-wait (replaced .seen-same) (sim .seen-are);
           newest-are =
               newest-next tables′ (issued-newest tables t few (sim .size) row x small ∙ at-n)
               (λ i low high. beyond i (omega arith));
@@ -330,7 +321,7 @@ module _ (ev : ℕ → Event) (n : ℕ) (w : World) (sim : Sim ev n w) (passes :
               (sim .sources);
           chains =
               chains-keep ev n tables tables′ l _ no-commit
-              (written-links row n begins n-small tables t _ x _ _ l few)
+              (written-links row n begins n-small tables t _ few x _ _ l)
               (λ i low high. beyond i low (λ same. omega arith))
               (λ i low high. beyond i (omega arith) (λ same. omega (arith, few, small))) (sim .chains);
           rows = rows-next (λ u. ofThread tables t u) (λ u. seen-next t u few) _ (stored tables l refl refl);

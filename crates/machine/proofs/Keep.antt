@@ -9,24 +9,25 @@ use Prim.Native.Nat.{ℕ, suc, _+_, _-_, _*_, _≤_, _<_}
 use native.Mathlib.Omega.{arith}
 use borrow.Author.Tests.{ltb-true}
 use lib.Dec.{ltb}
-use lib.ListN.{getD}
+use lib.ListN.{length, getD}
 use Rattle.record.specs.declared.events.Event.{Event}
 use Rattle.model.specs.Trace.{thread, location, hasThread?, hasLocation?, issue?, commit?, load?, crash?, skipOn?}
-use Rattle.model.specs.Trace.{skipOff?, Issue, stretch, commits, place}
+use Rattle.model.specs.Trace.{skipOff?, signal?, wait?, Issue, Signal, stretch, commits, place}
 use Rattle.model.specs.Machine.{skipping}
 use Rattle.model.specs.Rules.{refusal}
 use Rattle.model.specs.Choice.{finished}
 use Rattle.model.specs.Stores.{storeAt, landed}
 use Rattle.model.proofs.Searching.{false-true, same?}
 use Rattle.model.proofs.Counting.{stretch-else}
-use Rattle.model.proofs.Acceptance.{event-bound, store-not-0}
+use Rattle.model.proofs.Acceptance.{event-bound, store-not-0, signal-not-0}
 use Rattle.model.proofs.Limits.{accepted-next, few-threads, few-locations, few-crashes}
 use Rattle.model.proofs.Ranges.{thread-bound, location-bound}
 use Rattle.model.proofs.StorePlaces.{count-most}
 use Rattle.model.proofs.Unchanged.{count-away, live, live-away, live-here, store-at-away, skipping-away, newest-away}
+use Rattle.model.proofs.ClockSteps.{meets-none}
 use Rattle.model.proofs.Unchanged.{seen-away, landed-away}
 use Rattle.area.specs.Cells.{getRow, up}
-use Rattle.area.specs.Rows.{Linked, StoreRow, Rows}
+use Rattle.area.specs.Rows.{Linked, StoreRow, SignalRow, Rows}
 use Rattle.area.proofs.ReadBack.{up-is}
 use Rattle.machine.specs.declared.threads.Thread.{Thread}
 use Rattle.machine.specs.Tables.{lastCell, sourceCell, commitsCell, newestCell, stretchCell}
@@ -170,13 +171,13 @@ module _ (ev : ℕ → Event) (n : ℕ) where
             (queue-keep no-crash t (threadOf tables t) (queues t few) (λ _. other) (λ _. other) (λ _. other)
             (λ _. other))
 
-    -- an event that is no load and no crash leaves what the threads have seen
+    -- an event that is no load, no wait and no crash leaves what the threads have seen
     pub seen-keep :
-        load? ev n ≡ false → ((t : ℕ) → t < 8 → Same (16 * t) (16 * t + 8) tables tables′) → Seen ev n tables
-        → Seen ev (suc n) tables′
-    seen-keep no-load same seen-are t u few-t few-u =
+        load? ev n ≡ false → wait? ev n ≡ false → ((t : ℕ) → t < 8 → Same (16 * t) (16 * t + 8) tables tables′)
+        → Seen ev n tables → Seen ev (suc n) tables′
+    seen-keep no-load no-wait same seen-are t u few-t few-u =
         same t few-t (16 * t + u) (omega arith) (omega arith) ∙ seen-are t u few-t few-u
-        ∙ sym (seen-away ev n t u no-crash (λ loads _. false-true (sym no-load ∙ loads .test)))
+        ∙ sym (seen-away ev n t u no-crash (λ meets _. meets-none ev no-load no-wait meets))
 
     -- an event that is no crash finishes no stretch
     pub commits-keep : Same 640 704 tables tables′ → Commits ev n tables → Commits ev (suc n) tables′
@@ -240,42 +241,77 @@ module _ (ev : ℕ → Event) (n : ℕ) where
       stretch-is = same 10 (omega arith) ∙ row .stretch-is;
     }
 
-    -- an event that is no store
-    module _ (limits : Limits ev n) (no-issue : issue? ev n ≡ false) (it : NoStore n l l′) where
-      -- a store is an earlier event, and not event 0
-      record Early (p : ℕ) : Type 0 where
-        from-one : 1 ≤ p
-        early : p < n
+    signal-same : (s : ℕ) → ((k : ℕ) → k < 12 → getRow l′ s k ≡ getRow l s k) → SignalRow ev l s → SignalRow ev l′ s
+    signal-same s same row = record {
+      clock-is = λ u few. same u (omega arith) ∙ row .clock-is u few;
+      stretch-is = same 11 (omega arith) ∙ row .stretch-is;
+    }
 
-      store-early : (p : ℕ) → p < suc n → Issue ev p → Early p
-      store-early p below store = by-equality (same? p n)
-        where
-          by-equality : (p ≡ n) ⊎ (p ≢ n) → Early p
-          by-equality (inl is-n) = false-true (sym no-issue ∙ (rw is-n at store) .test)
-          by-equality (inr differs) =
-              let some : p ≢ 0 = store-not-0 ev n (limits .accepted) store in
-              record { from-one = omega arith; early = omega arith }
+    -- the rows of earlier events are as they were, and event n has the row of what it is
+    pub rows-with :
+        Limits ev n → length l′ ≡ length l
+        → ((p k : ℕ) → 1 ≤ p → p < n → k < 12 → getRow l′ p k ≡ getRow l p k)
+        → (Issue ev n → StoreRow ev l′ n) → (issue? ev n ≡ false → getRow l′ n 10 ≡ 0)
+        → (Signal ev n → SignalRow ev l′ n) → (signal? ev n ≡ false → getRow l′ n 11 ≡ 0)
+        → Rows ev n l → Rows ev (suc n) l′
+    rows-with limits size earlier stores others signals no-signals rows = record {
+      room = rw size (rows .room);
+      stores = λ p below store. store-row p below store (same? p n);
+      others = λ p from-one below none. no-store p from-one below none (same? p n);
+      signals = λ s below signal. signal-row s below signal (same? s n);
+      no-signals = λ p from-one below none. no-signal p from-one below none (same? p n);
+    }
+      where
+        store-row : (p : ℕ) → p < suc n → Issue ev p → (p ≡ n) ⊎ (p ≢ n) → StoreRow ev l′ p
+        store-row p below store (inl is-n) = rw is-n (stores (rw is-n at store))
+        store-row p below store (inr differs) =
+            let some : p ≢ 0 = store-not-0 ev n (limits .accepted) store in
+            row-same p (λ k low. earlier p k (omega arith) (omega arith) (omega arith))
+            (rows .stores p (omega arith) store)
 
+        no-store : (p : ℕ) → 1 ≤ p → p < suc n → issue? ev p ≡ false → (p ≡ n) ⊎ (p ≢ n) → getRow l′ p 10 ≡ 0
+        no-store p from-one below none (inl is-n) = rw is-n (others (rw is-n at none))
+        no-store p from-one below none (inr differs) =
+            earlier p 10 from-one (omega arith) (omega arith) ∙ rows .others p from-one (omega arith) none
+
+        signal-row : (s : ℕ) → s < suc n → Signal ev s → (s ≡ n) ⊎ (s ≢ n) → SignalRow ev l′ s
+        signal-row s below signal (inl is-n) = rw is-n (signals (rw is-n at signal))
+        signal-row s below signal (inr differs) =
+            let some : s ≢ 0 = signal-not-0 ev n (limits .accepted) signal in
+            signal-same s (λ k low. earlier s k (omega arith) (omega arith) low)
+            (rows .signals s (omega arith) signal)
+
+        no-signal : (p : ℕ) → 1 ≤ p → p < suc n → signal? ev p ≡ false → (p ≡ n) ⊎ (p ≢ n) → getRow l′ p 11 ≡ 0
+        no-signal p from-one below none (inl is-n) = rw is-n (no-signals (rw is-n at none))
+        no-signal p from-one below none (inr differs) =
+            earlier p 11 from-one (omega arith) (omega arith) ∙ rows .no-signals p from-one (omega arith) none
+
+    -- an event that is no store leaves the links of stores
+    pub links-with :
+        Limits ev n → issue? ev n ≡ false → ((p : ℕ) → 1 ≤ p → p < n → getRow l′ p 12 ≡ getRow l p 12)
+        → Links ev n l → Links ev (suc n) l′
+    links-with limits no-issue earlier links p below store = by-equality (same? p n)
+      where
+        by-equality :
+            (p ≡ n) ⊎ (p ≢ n) → getRow l′ p 12 ≡ storeAt ev (suc n) (stretch ev p) (thread ev p) (suc (place ev p))
+        by-equality (inl is-n) = false-true (sym no-issue ∙ (rw is-n at store) .test)
+        by-equality (inr differs) =
+            let some : p ≢ 0 = store-not-0 ev n (limits .accepted) store in
+            earlier p (omega arith) (omega arith) ∙ links p (omega arith) store
+            ∙ sym
+            (store-at-away ev n (stretch ev p) (thread ev p) (suc (place ev p))
+            (λ is-store _. false-true (sym no-issue ∙ is-store .test)))
+
+    -- an event that is no store and no signal
+    module _
+        (limits : Limits ev n) (no-issue : issue? ev n ≡ false) (no-signal : signal? ev n ≡ false)
+        (it : NoStore n l l′) where
       pub rows-keep : Rows ev n l → Rows ev (suc n) l′
-      rows-keep rows = record {
-        room = rw (it .size) (rows .room);
-        stores = λ p below store.
-            let old = store-early p below store in
-            row-same p (λ k low. it .earlier p k (old .from-one) (old .early) (omega arith))
-            (rows .stores p (old .early) store);
-        others = λ p from-one below none. by-equality p from-one below none (same? p n);
-      }
-        where
-          by-equality :
-              (p : ℕ) → 1 ≤ p → p < suc n → issue? ev p ≡ false → (p ≡ n) ⊎ (p ≢ n) → getRow l′ p 10 ≡ 0
-          by-equality p from-one below none (inl is-n) = rw is-n (it .none)
-          by-equality p from-one below none (inr differs) =
-              it .earlier p 10 from-one (omega arith) (omega arith) ∙ rows .others p from-one (omega arith) none
+      rows-keep =
+          rows-with limits (it .size) (λ p k from-one early low. it .earlier p k from-one early (omega arith))
+          (λ store. false-true (sym no-issue ∙ store .test)) (λ none. it .none)
+          (λ signal. false-true (sym no-signal ∙ signal .test)) (λ none. it .no-signal)
 
       pub links-keep : Links ev n l → Links ev (suc n) l′
-      links-keep links p below store =
-          let old = store-early p below store in
-          it .earlier p 11 (old .from-one) (old .early) (omega arith) ∙ links p (old .early) store
-          ∙ sym
-          (store-at-away ev n (stretch ev p) (thread ev p) (suc (place ev p))
-          (λ is-store _. false-true (sym no-issue ∙ is-store .test)))
+      links-keep =
+          links-with limits no-issue (λ p from-one early. it .earlier p 12 from-one early (omega arith))

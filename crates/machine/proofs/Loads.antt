@@ -1,46 +1,40 @@
 -- What a load does to the components of `Sim` that loads concern, whatever else the event may be: a crossing load
 -- brings no clock, for by the load rule its source is none or of an earlier stretch, and is noted; any other load has a
--- store of the stretch for its source, whose clock joins what its thread has seen. And the step of kind 4, which is a
--- load and nothing else.
+-- store of the stretch for its source, and meets it (Meeting). And the step of kind 4, which is a load and nothing
+-- else.
 -- In order: the source; what threads have seen; the sources noted; the tables; the step.
-use mathlib.Core.Path.{_≡_, refl, sym, ap, _∙_, subst}
+use mathlib.Core.Path.{_≡_, refl, sym, _∙_, subst}
 use mathlib.Core.Bool.{true, false, _&&_}
 use mathlib.Core.List.{List}
 use mathlib.Core.Logic.{_⊎_, inl, inr, _≢_}
-use Prim.Native.Nat.{ℕ, suc, _+_, _*_, _%_, _≤_, _<_, max}
+use Prim.Native.Nat.{ℕ, suc, _+_, _*_, _≤_, _<_}
 use native.Mathlib.Omega.{arith}
 use borrow.Author.Tests.{eq-eqb, ne-eqb}
 use lib.Dec.{eqb}
-use lib.ListN.{length, getD, set, length-set}
+use lib.ListN.{getD, set, length-set}
 use lib.Seq.{getD-set-same}
 use Rattle.record.specs.declared.events.Event.{Event}
 use Rattle.record.specs.Tests.{_gives_else_}
 use Rattle.model.specs.Trace.{kind, thread, location, source, crash?, Issue, Load, stretch}
 use Rattle.model.specs.Machine.{waiting, current, sourceFits}
 use Rattle.model.specs.Rules.{refusal}
-use Rattle.model.specs.Clocks.{seen}
 use Rattle.model.proofs.Searching.{same?}
 use Rattle.model.proofs.Roles.{load-no-crash}
 use Rattle.model.proofs.Acceptance.{store-not-0, fitting, own-source, commit-source, crossing-source}
 use Rattle.model.proofs.Ranges.{load-has-thread, load-has-location}
-use Rattle.model.proofs.Unchanged.{seen-away, seen-from, seen-crossing}
-use Rattle.area.specs.Cells.{rowStart, getRow, joined}
-use Rattle.area.proofs.Joins.{joined-size, joined-leaves, joined-there}
+use Rattle.model.proofs.ClockSteps.{loads-store}
+use Rattle.model.proofs.Unchanged.{seen-crossing}
+use Rattle.area.specs.Cells.{joined}
 use Rattle.machine.specs.Tables.{threadCell, sourceCell}
-use Rattle.machine.specs.Threads.{ofThread}
 use Rattle.machine.specs.Twin.{World}
 use Rattle.machine.specs.Effects.{meetW, crossW, loadW}
 use Rattle.machine.specs.Sim.{PastAt, Seen, Sources, Sim}
-use Rattle.machine.proofs.Storing.{Same, Elsewhere, set-leaves}
+use Rattle.machine.proofs.Storing.{Same, set-leaves}
 use Rattle.machine.proofs.RuleLaws.{load-is}
-use Rattle.machine.proofs.Keep.{limits-next, few-own, small-own, queues-keep, past-keep, sources-keep}
+use Rattle.machine.proofs.Keep.{limits-next, few-own, small-own, queues-keep, past-keep}
 use Rattle.machine.proofs.Quiet.{Still, still-next}
+use Rattle.machine.proofs.Meeting.{Brought, met}
 use Rattle.machine.proofs.Searches.{→past, crossing-is}
-
--- a column of a store's row, by its position
-column-at : (l : List ℕ) (e u : ℕ) → u < 16 → getD l (rowStart e + u) 0 ≡ getRow l e u
-unfolding getRow
-column-at l e u low = let same : u % 16 ≡ u = omega arith in rw same refl
 
 module _ (ev : ℕ → Event) (n : ℕ) (w : World) (sim : Sim ev n w) (passes : refusal ev n ≡ 0)
     (loads : Load ev n) where
@@ -98,27 +92,7 @@ module _ (ev : ℕ → Event) (n : ℕ) (w : World) (sim : Sim ev n w) (passes :
       let some = store-not-0 ev n (sim .limits .accepted) store in
       omega (arith, crossing-source ev n fits none-waits none-current some .earlier)
 
-  -- ---- what threads have seen: after a load that does not cross, and after one that does
-
-  -- the source's row holds the clock that joins what the load's own thread has seen; other threads load nothing
-  seen-met :
-      FromHere → (tables′ : List ℕ)
-      → ((u : ℕ) → u < 8 → ofThread tables′ t u ≡ max (ofThread tables t u) (getRow (w .work) s u))
-      → ((v : ℕ) → v < 8 → t ≢ v → Same (16 * v) (16 * v + 8) tables tables′) → Seen ev (suc n) tables′
-  seen-met from tables′ joins leaves v u few-v few-u = own-or-other (same? t v)
-    where
-      own-or-other : (t ≡ v) ⊎ (t ≢ v) → ofThread tables′ v u ≡ seen ev (suc n) v u
-      own-or-other (inl own) =
-          rw (
-            ← own,
-            joins u few-u,
-            sim .seen-are t u few few-u,
-            sim .rows .stores s (from .early) (from .store) .clock-is u few-u,
-          )
-          (sym (seen-from ev n u loads (from .store) (from .early) (from .in-stretch)))
-      own-or-other (inr other) =
-          leaves v few-v other (16 * v + u) (omega arith) (omega arith) ∙ sim .seen-are v u few-v few-u
-          ∙ sym (seen-away ev n v u no-crash (λ _ same. other same))
+  -- ---- what threads have seen, after a load that crosses
 
   module _ (none-waits : waiting ev n ≡ 0) (none-current : current ev n ≡ 0) (tables′ : List ℕ) where
     -- the source is no store of the stretch, so that nothing joins
@@ -151,44 +125,15 @@ module _ (ev : ℕ → Event) (n : ℕ) (w : World) (sim : Sim ev n w) (passes :
             rw (leaves (sourceCell y) (omega arith) (omega arith) (λ same. other (omega arith)))
             (λ some. past-keep ev n y _ (sim .sources y few-y some))
 
-  -- ---- what a load leaves of the tables, and how it changes the others
-
-  pub record Loaded (tables′ : List ℕ) : Type 0 where
-    pub size : length tables′ ≡ 3008
-    pub threads-same : (u : ℕ) → u < 8 → Same (16 * u + 8) (16 * u + 13) tables tables′
-    pub seen-are : Seen ev (suc n) tables′
-    pub sources : Sources ev (suc n) tables′
-    pub heads-same : Same 128 384 tables tables′
-    pub rest-same : Same 640 3008 tables tables′
-
-  abbrev metTables : List ℕ
-  metTables = joined 8 (w .work) s (threadCell t 0) tables
+  -- ---- how a load changes the tables
 
   abbrev notedTables : List ℕ
   notedTables = set tables (sourceCell x) s
 
-  met : FromHere → Loaded metTables
-  met from = record {
-    size = joined-size (w .work) s (threadCell t 0) tables 8 ∙ sim .size;
-    threads-same = λ u few-u i from-8 below. leaves i (λ low high. omega arith);
-    seen-are =
-        seen-met from metTables
-        (λ u few-u.
-        let at : threadCell t u ≡ threadCell t 0 + u = omega arith in
-        rw (at, joined-there (w .work) s (threadCell t 0) tables 8 u (omega (arith, few, sim .size)) few-u)
-        (ap (max (getD tables (threadCell t 0 + u) 0)) (column-at (w .work) s u (omega arith))))
-        (λ v few-v other i low high. leaves i (λ low′ high′. other (omega arith)));
-    sources =
-        sources-keep ev n tables metTables (λ i low high. leaves i (λ low′ high′. omega (arith, few))) (sim .sources);
-    heads-same = λ i low high. leaves i (λ low′ high′. omega (arith, few));
-    rest-same = λ i low high. leaves i (λ low′ high′. omega (arith, few));
-  }
-    where
-      leaves : Elsewhere (16 * t) (16 * t + 8) tables metTables
-      leaves i outside =
-          joined-leaves (w .work) s (threadCell t 0) tables 8 i (λ low high. outside (omega arith) (omega arith))
+  from-here : FromHere → Brought ev n w (joined 8 (w .work) s (threadCell t 0) tables)
+  from-here from = met ev n w sim (loads-store loads (from .store)) (from .early) (from .in-stretch) few
 
-  crossed : waiting ev n ≡ 0 → current ev n ≡ 0 → Loaded notedTables
+  crossed : waiting ev n ≡ 0 → current ev n ≡ 0 → Brought ev n w notedTables
   crossed none-waits none-current = record {
     size = length-set tables _ _ ∙ sim .size;
     threads-same = λ u few-u i low high. leaves i (λ same. omega arith);
@@ -204,18 +149,18 @@ module _ (ev : ℕ → Event) (n : ℕ) (w : World) (sim : Sim ev n w) (passes :
       leaves : (i : ℕ) → sourceCell x ≢ i → getD notedTables i 0 ≡ getD tables i 0
       leaves = set-leaves tables (sourceCell x) s
 
-  pub loaded : Loaded (loadW w t x s .tables)
+  pub loaded : Brought ev n w (loadW w t x s .tables)
   unfolding loadW meetW crossW
   loaded = rw (crossing-is ev n w sim few small) (by-case (same? (waiting ev n) 0) (same? (current ev n) 0))
     where
       by-case :
           (waiting ev n ≡ 0) ⊎ (waiting ev n ≢ 0) → (current ev n ≡ 0) ⊎ (current ev n ≢ 0)
-          → Loaded
+          → Brought ev n w
           (((eqb (waiting ev n) 0 && eqb (current ev n) 0) gives crossW w x s else meetW w t s) .tables)
-      by-case (inr waits) either-way = rw (ne-eqb (waiting ev n) 0 waits) (met (waiting-here waits))
+      by-case (inr waits) either-way = rw (ne-eqb (waiting ev n) 0 waits) (from-here (waiting-here waits))
       by-case (inl none-waits) (inr commits) =
           rw (eq-eqb (waiting ev n) 0 none-waits, ne-eqb (current ev n) 0 commits)
-          (met (current-here none-waits commits))
+          (from-here (current-here none-waits commits))
       by-case (inl none-waits) (inl none-current) =
           rw (eq-eqb (waiting ev n) 0 none-waits, eq-eqb (current ev n) 0 none-current)
           (crossed none-waits none-current)
@@ -231,4 +176,9 @@ module _ (ev : ℕ → Event) (n : ℕ) (w : World) (sim : Sim ev n w) (passes :
       (loaded .seen-are) (loaded .sources) (loaded .heads-same) (loaded .rest-same))
     where
       still : Still ev n
-      still = record { no-issue = rw kind-is refl; no-commit = rw kind-is refl; no-crash = no-crash }
+      still = record {
+        no-issue = rw kind-is refl;
+        no-commit = rw kind-is refl;
+        no-crash = no-crash;
+        no-signal = rw kind-is refl;
+      }

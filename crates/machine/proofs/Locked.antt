@@ -37,7 +37,8 @@ use Rattle.machine.proofs.RowLaws.{written-links, event-is}
 use Rattle.machine.proofs.RuleLaws.{load-is}
 use Rattle.machine.proofs.Keep.{limits-next, in-time, few-own, small-own, numbers-next, spares, counted-up}
 use Rattle.machine.proofs.Keep.{skip-stays, queues-with, commits-keep}
-use Rattle.machine.proofs.Loads.{Loaded, loaded}
+use Rattle.machine.proofs.Meeting.{Brought}
+use Rattle.machine.proofs.Loads.{loaded}
 use Rattle.machine.proofs.Commits.{Headed, chains-next}
 use Rattle.machine.proofs.Issues.{newest, newest-now, rows-next, links-next, newest-next, issue-counted, stored}
 
@@ -111,7 +112,7 @@ module _ (ev : ℕ → Event) (n : ℕ) (w : World) (sim : Sim ev n w) (passes :
     abbrev tables′ : List ℕ
     tables′ = exchangedTables loadedTables row t x (w .state .stretch)
 
-    its-load : Loaded ev n w sim passes loads loadedTables
+    its-load : Brought ev n w loadedTables
     its-load = loaded ev n w sim passes loads
 
     abbrev old : Thread
@@ -245,7 +246,7 @@ module _ (ev : ℕ → Event) (n : ℕ) (w : World) (sim : Sim ev n w) (passes :
       other-links = λ q from-one early other.
           set-elsewhere written row n begins n-small 14 (getD withStore (lastCell x) 0) q 14 (omega arith) (omega arith)
           from-one (omega arith) (λ same. omega arith)
-          ∙ (written-links row n begins n-small loadedTables t _ x _ _ loadedWork few q
+          ∙ (written-links row n begins n-small loadedTables t _ few x _ _ loadedWork q
           ∙ rw work-is (no-store-links row n begins n-small l q));
     }
 

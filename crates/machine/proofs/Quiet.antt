@@ -1,5 +1,5 @@
--- Events of which the work area holds only that they are no stores, and which end no stretch, keep `Sim`: then flushes,
--- fences and skips, which change nothing else but whether a thread is in a skip.
+-- Events of which the work area holds only that they are no stores and no signals, and which end no stretch, keep
+-- `Sim`: then flushes, fences and skips, which change nothing else but whether a thread is in a skip.
 use mathlib.Core.Path.{_≡_, refl, sym, _∙_}
 use mathlib.Core.Bool.{Bool, false}
 use mathlib.Core.List.{List}
@@ -7,7 +7,7 @@ use Prim.Native.Nat.{ℕ, suc, _<_}
 use native.Mathlib.Omega.{arith}
 use lib.ListN.{length}
 use Rattle.record.specs.declared.events.Event.{Event}
-use Rattle.model.specs.Trace.{thread, issue?, commit?, load?, crash?}
+use Rattle.model.specs.Trace.{thread, issue?, commit?, load?, crash?, signal?, wait?}
 use Rattle.model.specs.Machine.{skipping}
 use Rattle.model.specs.Rules.{refusal}
 use Rattle.model.proofs.Roles.{Quiet}
@@ -23,11 +23,12 @@ use Rattle.machine.proofs.Keep.{seen-keep, newest-keep, commits-keep, s
 use Rattle.machine.proofs.Keep.{links-keep}
 
 module _ (ev : ℕ → Event) (n : ℕ) where
-  -- the event is none of those that make, commit or drop stores
+  -- the event is none of those that make, commit or drop stores, and no signal
   pub record Still : Type 0 where
     pub no-issue : issue? ev n ≡ false
     pub no-commit : commit? ev n ≡ false
     pub no-crash : crash? ev n ≡ false
+    pub no-signal : signal? ev n ≡ false
 
 module _ (ev : ℕ → Event) (n : ℕ) (w : World) (sim : Sim ev n w) (passes : refusal ev n ≡ 0) where
   -- the threads' rows and the sources are right afterwards, and the other tables are as they were
@@ -55,8 +56,10 @@ module _ (ev : ℕ → Event) (n : ℕ) (w : World) (sim : Sim ev n w) (passes :
             chains-keep ev n (w .tables) tables (w .work) _ (still .no-commit)
             (no-store-links (w .state .row) n (sim .numbers .row-is) small (w .work)) last-same
             (λ i low high. rest-same i (omega arith) high) (sim .chains);
-        rows = rows-keep ev n (w .work) _ (sim .limits) (still .no-issue) no-store (sim .rows);
-        links = links-keep ev n (w .work) _ (sim .limits) (still .no-issue) no-store (sim .links);
+        rows =
+            rows-keep ev n (w .work) _ (sim .limits) (still .no-issue) (still .no-signal) no-store (sim .rows);
+        links =
+            links-keep ev n (w .work) _ (sim .limits) (still .no-issue) (still .no-signal) no-store (sim .links);
       }
 
   -- ---- flushes and fences
@@ -65,22 +68,28 @@ module _ (ev : ℕ → Event) (n : ℕ) (w : World) (sim : Sim ev n w) (passes :
   unfolding passW
   pass-next quiet =
       let still : Still ev n =
-      record { no-issue = quiet .no-issue; no-commit = quiet .no-commit; no-crash = quiet .no-crash }
+      record {
+        no-issue = quiet .no-issue;
+        no-commit = quiet .no-commit;
+        no-crash = quiet .no-crash;
+        no-signal = quiet .no-signal;
+      }
       in
       let tables = w .tables in
       still-next still tables (sim .size)
       (queues-keep ev n tables tables (quiet .no-crash) (quiet .no-issue) (quiet .no-commit) (quiet .no-skip-on)
       (quiet .no-skip-off) (λ t _ i _ _. refl) (sim .queues))
-      (seen-keep ev n tables tables (quiet .no-crash) (quiet .no-load) (λ t _ i _ _. refl) (sim .seen-are))
+      (seen-keep ev n tables tables (quiet .no-crash) (quiet .no-load) (quiet .no-wait) (λ t _ i _ _. refl)
+      (sim .seen-are))
       (sources-keep ev n tables tables (λ i _ _. refl) (sim .sources)) (λ i _ _. refl) (λ i _ _. refl)
 
   -- ---- skips
 
   pub skip-next :
-      (on : Bool) → Still ev n → load? ev n ≡ false → thread ev n < 8 → skipping ev (suc n) (thread ev n) ≡ on
-      → Sim ev (suc n) (skipW w (thread ev n) on)
+      (on : Bool) → Still ev n → load? ev n ≡ false → wait? ev n ≡ false → thread ev n < 8
+      → skipping ev (suc n) (thread ev n) ≡ on → Sim ev (suc n) (skipW w (thread ev n) on)
   unfolding skipW
-  skip-next on still no-load few is-on =
+  skip-next on still no-load no-wait few is-on =
       let t = thread ev n in
       let old = threadAt w t in
       let tables = putSkip (w .tables) t (skippedT old on) in
@@ -93,6 +102,6 @@ module _ (ev : ℕ → Event) (n : ℕ) (w : World) (sim : Sim ev n w) (passes :
       still-next still tables (replaced .size ∙ sim .size)
       (queues-with ev n (w .tables) tables (still .no-crash) (replaced .others) (rw (replaced .own) new-queue)
       (sim .queues))
-      (seen-keep ev n (w .tables) tables (still .no-crash) no-load (replaced .seen-same) (sim .seen-are))
+      (seen-keep ev n (w .tables) tables (still .no-crash) no-load no-wait (replaced .seen-same) (sim .seen-are))
       (sources-keep ev n (w .tables) tables (λ i from _. beyond i (omega arith)) (sim .sources))
       (λ i from _. beyond i from) (λ i from _. beyond i (omega arith))

@@ -9,18 +9,20 @@ use lib.Dec.{eqb, ltb, leb}
 use Rattle.record.specs.declared.events.Event.{Event}
 use Rattle.record.specs.declared.events.Event.the-variants.{Begin, Issue, Commit, Load, Clflush, Clwb}
 use Rattle.record.specs.declared.events.Event.the-variants.{Sfence, Mfence, Crash, SkipOn, SkipOff, Locked}
+use Rattle.record.specs.declared.events.Event.the-variants.{Signal, Wait}
 use Rattle.record.specs.Fields.{fieldsOf}
 use Rattle.record.specs.Table.{rowOf}
 use Rattle.record.specs.Tests.{_gives_else_}
 use Rattle.model.specs.Trace.{thread, location, source, threads, locations, stretch}
-use Rattle.model.specs.Machine.{sourceFits, skipping}
+use Rattle.model.specs.Machine.{sourceFits, signalled, skipping}
 use Rattle.model.specs.Rules.{answer, rules, refusal}
 use Rattle.model.proofs.Searching.{same-test}
 use Rattle.machine.specs.Arms.{byKind}
-use Rattle.machine.specs.Twin.{World, threadAt, fitsW}
+use Rattle.machine.specs.Twin.{World, threadAt, fitsW, signalledW}
 use Rattle.machine.specs.Turning.{empty, onThread, onPlace, refusalK, refusalW, beginRule, beginK, beginRefusal}
 use Rattle.machine.specs.Sim.{issued, done, Sim}
 use Rattle.machine.proofs.Searches.{none-oldest, fits-is}
+use Rattle.machine.proofs.HandOver.{signalled-found}
 
 or-off : (b : Bool) → (b || false) ≡ b
 or-off true = refl
@@ -116,6 +118,19 @@ module _ (ev : ℕ → Event) (n : ℕ) (begun : 0 < n) where
   unfolding rules answer rowOf
   refusal-mfence t is =
       rw (is, thread-of (Mfence t) is, not-first, lt-ltb 0 n begun, or-off) refl
+
+  refusal-signal :
+      (t : ℕ) → ev n ≡ Signal t
+      → refusal ev n ≡ threadRule t (cond (not (eqb (issued ev n t) (done ev n t))) 11 0)
+  unfolding rules answer rowOf
+  refusal-signal t is =
+      rw (is, thread-of (Signal t) is, not-first, lt-ltb 0 n begun, or-off) refl
+
+  refusal-wait :
+      (t s : ℕ) → ev n ≡ Wait t s → refusal ev n ≡ threadRule t (cond (not (signalled ev n)) 18 0)
+  unfolding rules answer rowOf
+  refusal-wait t s is =
+      rw (is, thread-of (Wait t s) is, not-first, lt-ltb 0 n begun, or-off) refl
 
   refusal-crash : ev n ≡ Crash → refusal ev n ≡ cond (ltb 2048 n || eqb (stretch ev n) 8) 13 0
   unfolding rules answer rowOf
@@ -221,6 +236,13 @@ module _ (ev : ℕ → Event) (n : ℕ) (w : World) (sim : Sim ev n w) where
       rw (t-is, x-is, s-is, fits-is ev n w sim (rw (← t-is) few-t) (rw (← x-is) few-x))
       (chosen (sourceFits ev n) 0 9 ∙ swapped (sourceFits ev n) 0 9)
 
+  wait-rule :
+      (e : Event) → ev n ≡ e
+      → _≡_ {A = ℕ} (signalledW w (fieldsOf e .source) gives 0 else 18) (cond (not (signalled ev n)) 18 0)
+  wait-rule e is =
+      let s-is : fieldsOf e .source ≡ source ev n = sym (ap (λ (f : Event). fieldsOf f .source) is) in
+      rw (s-is, signalled-found ev n w sim) (chosen (signalled ev n) 0 18 ∙ swapped (signalled ev n) 0 18)
+
   -- no store waits exactly if the queue is empty
   oldest-is :
       (t a r : ℕ) → t < 8
@@ -266,6 +288,10 @@ module _ (ev : ℕ → Event) (n : ℕ) (w : World) (sim : Sim ev n w) where
       ap (λ (k : ℕ). eqb (threadAt w t .oldest) 0 gives k else 11) (load-rule (Locked t x s) is few-t few-x)
       ∙ oldest-is t _ 11 few-t)
       ∙ sym (refusal-locked ev n begun t x s is)
+  refusal-is (Signal t) is =
+      on-thread t _ _ (λ few. oldest-is t 0 11 few) ∙ sym (refusal-signal ev n begun t is)
+  refusal-is (Wait t s) is =
+      on-thread t _ _ (λ _. wait-rule (Wait t s) is) ∙ sym (refusal-wait ev n begun t s is)
 
   -- THE MACHINE TURNS AWAY WHAT THE DEFINITIONS DO
   pub refusals : refusalW w (ev n) ≡ refusal ev n
@@ -309,6 +335,8 @@ module _ (ev : ℕ → Event) where
   first-is (SkipOn t) is = rw is
   first-is (SkipOff t) is = rw is
   first-is (Locked t x s) is = rw is
+  first-is (Signal t) is = rw is
+  first-is (Wait t s) is = rw is
 
   -- and so of the first event
   pub begin-refusals : beginRefusal (ev 0) ≡ refusal ev 0

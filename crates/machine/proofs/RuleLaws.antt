@@ -158,7 +158,7 @@ module _ (w : World) (t x s : ℕ) where
       unfolding byRule
       loaded passes-it = o-is ∙ (by-load-rule ∙ rw (number-is ∙ passes-it) refl)
 
--- a load changes the tables, and its own row says that it is no store
+-- a load changes the tables, and its own row says that it is no store and no signal
 pub load-is : (w : World) (t x s : ℕ) → loadW w t x s ≡ passWith w (loadW w t x s .tables)
 unfolding loadW crossW meetW
 load-is w t x s = by-test (crossingW w t x)

@@ -8,6 +8,7 @@ use native.Mathlib.Omega.{arith}
 use Rattle.record.specs.declared.events.Event.{Event}
 use Rattle.record.specs.declared.events.Event.the-variants.{Begin, Issue, Commit, Load, Clflush, Clwb}
 use Rattle.record.specs.declared.events.Event.the-variants.{Sfence, Mfence, Crash, SkipOn, SkipOff, Locked}
+use Rattle.record.specs.declared.events.Event.the-variants.{Signal, Wait}
 use Rattle.record.specs.Events.{kindOf}
 use Rattle.record.specs.Fields.{fieldsOf}
 use Rattle.record.specs.Table.{rowOf}
@@ -32,6 +33,7 @@ use Rattle.machine.proofs.Loads.{load-next}
 use Rattle.machine.proofs.Commits.{commit-next}
 use Rattle.machine.proofs.Issues.{issue-next}
 use Rattle.machine.proofs.Locked.{locked-next}
+use Rattle.machine.proofs.HandOver.{signal-next, wait-next}
 
 module _ (ev : ℕ → Event) (n : ℕ) (w : World) (sim : Sim ev n w) (passes : refusal ev n ≡ 0) where
   next-of-issue : kind ev n ≡ 2 → Sim ev (suc n) (stepK w 2 (fieldsOf (ev n)))
@@ -55,19 +57,39 @@ module _ (ev : ℕ → Event) (n : ℕ) (w : World) (sim : Sim ev n w) (passes :
   unfolding stepK byKind rowOf
   next-of-on kind-is =
       skip-next ev n w sim passes true
-      (record { no-issue = rw kind-is refl; no-commit = rw kind-is refl; no-crash = rw kind-is refl })
-      (rw kind-is refl) (few-own ev n (sim .limits) passes (rw kind-is refl)) (skipping-on ev n (rw kind-is refl))
+      (record {
+        no-issue = rw kind-is refl;
+        no-commit = rw kind-is refl;
+        no-crash = rw kind-is refl;
+        no-signal = rw kind-is refl;
+      })
+      (rw kind-is refl) (rw kind-is refl) (few-own ev n (sim .limits) passes (rw kind-is refl))
+      (skipping-on ev n (rw kind-is refl))
 
   next-of-off : kind ev n ≡ 11 → Sim ev (suc n) (stepK w 11 (fieldsOf (ev n)))
   unfolding stepK byKind rowOf
   next-of-off kind-is =
       skip-next ev n w sim passes false
-      (record { no-issue = rw kind-is refl; no-commit = rw kind-is refl; no-crash = rw kind-is refl })
-      (rw kind-is refl) (few-own ev n (sim .limits) passes (rw kind-is refl)) (skipping-off ev n (rw kind-is refl))
+      (record {
+        no-issue = rw kind-is refl;
+        no-commit = rw kind-is refl;
+        no-crash = rw kind-is refl;
+        no-signal = rw kind-is refl;
+      })
+      (rw kind-is refl) (rw kind-is refl) (few-own ev n (sim .limits) passes (rw kind-is refl))
+      (skipping-off ev n (rw kind-is refl))
 
   next-of-locked : kind ev n ≡ 12 → Sim ev (suc n) (stepK w 12 (fieldsOf (ev n)))
   unfolding stepK byKind
   next-of-locked = locked-next ev n w sim passes
+
+  next-of-signal : kind ev n ≡ 13 → Sim ev (suc n) (stepK w 13 (fieldsOf (ev n)))
+  unfolding stepK byKind
+  next-of-signal = signal-next ev n w sim passes
+
+  next-of-wait : kind ev n ≡ 14 → Sim ev (suc n) (stepK w 14 (fieldsOf (ev n)))
+  unfolding stepK byKind
+  next-of-wait = wait-next ev n w sim passes
 
   next-by-kind : (e : Event) → ev n ≡ e → Sim ev (suc n) (stepK w (kindOf e) (fieldsOf (ev n)))
   unfolding stepK byKind
@@ -92,6 +114,8 @@ module _ (ev : ℕ → Event) (n : ℕ) (w : World) (sim : Sim ev n w) (passes :
   next-by-kind (SkipOn t) is = next-of-on (ap kindOf is)
   next-by-kind (SkipOff t) is = next-of-off (ap kindOf is)
   next-by-kind (Locked t x s) is = next-of-locked (ap kindOf is)
+  next-by-kind (Signal t) is = next-of-signal (ap kindOf is)
+  next-by-kind (Wait t s) is = next-of-wait (ap kindOf is)
 
   -- AN EVENT THAT PASSES LEADS TO THE NEXT STATE
   pub step-next : Sim ev (suc n) (stepW w (ev n))

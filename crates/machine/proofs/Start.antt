@@ -9,7 +9,7 @@ use borrow.Author.Tests.{eqb-true, le-ltb}
 use lib.ListN.{length, getD, replicate, length-replicate}
 use Rattle.record.specs.declared.events.Event.{Event}
 use Rattle.model.specs.Search.{last}
-use Rattle.model.specs.Trace.{kind, issue?, commit?, load?, crash?, skipOn?, skipOff?, Issue, threads, locations}
+use Rattle.model.specs.Trace.{kind, issue?, commit?, crash?, skipOn?, skipOff?, Issue, threads, locations}
 use Rattle.model.specs.Trace.{stretch, count}
 use Rattle.model.specs.Machine.{switched, skipping}
 use Rattle.model.specs.Rules.{refusal, Accepted}
@@ -17,8 +17,8 @@ use Rattle.model.specs.Choice.{finished}
 use Rattle.model.specs.Stores.{newestAt, landed}
 use Rattle.model.proofs.Searching.{false-true}
 use Rattle.model.proofs.Counting.{stretch-else}
-use Rattle.model.proofs.ClockSteps.{seen-zero}
-use Rattle.model.proofs.Acceptance.{begins, store-not-0}
+use Rattle.model.proofs.ClockSteps.{meets-none, seen-zero}
+use Rattle.model.proofs.Acceptance.{begins, store-not-0, signal-not-0}
 use Rattle.model.proofs.Limits.{few-threads, few-locations}
 use Rattle.model.proofs.StorePlaces.{store-at-none}
 use Rattle.model.proofs.Unchanged.{live, live-away, skipping-away, newest-away, seen-away, landed-away}
@@ -104,7 +104,7 @@ module _ (ev : ℕ → Event) (passes : refusal ev 0 ≡ 0) where
     seen-start t u _ _ =
         clear (16 * t + u)
         ∙ sym
-        (seen-away ev 0 t u no-crash (λ loads. spares ev 0 (load? ev) (rw kind-is refl) t (loads .test))
+        (seen-away ev 0 t u no-crash (λ meets _. meets-none ev (rw kind-is refl) (rw kind-is refl) meets)
         ∙ seen-zero ev t u)
 
     newest-start : Newest ev 1 tables
@@ -150,6 +150,8 @@ module _ (ev : ℕ → Event) (passes : refusal ev 0 ≡ 0) where
         room = room;
         stores = λ p early store. absurd (no-store p early store);
         others = λ p from-one early _. absurd (omega arith);
+        signals = λ s early signal. absurd (signal-not-0 ev 1 accepted signal (omega arith));
+        no-signals = λ p from-one early _. absurd (omega arith);
       };
       links = λ p early store. absurd (no-store p early store);
     }

@@ -24,14 +24,16 @@ unfoldable pub clocked : ℕ → List ℕ → ℕ → ℕ → List ℕ → List 
 clocked zero tables t row l = l
 clocked (suc u) tables t row l = set (clocked u tables t row l) (row + u) (ofThread tables t u)
 
--- a store's row: its clock, which is what thread t has seen, with c for t itself; its thread, location and stretch; and
--- no next store
+-- a clock: what thread t has seen, with c for t itself
+unfoldable pub withClock : List ℕ → ℕ → ℕ → ℕ → List ℕ → List ℕ
+withClock tables t row c l = set (clocked 8 tables t row l) (row + t) c
+
+-- a store's row: its clock; its thread, location and stretch; that it is no signal; and no next store
 unfoldable pub withStore : List ℕ → ℕ → ℕ → ℕ → ℕ → ℕ → List ℕ → List ℕ
 withStore tables t row c x j l =
-    let with-clock = set (clocked 8 tables t row l) (row + t) c in
-    let with-thread = set with-clock (row + 8) t in
+    let with-thread = set (withClock tables t row c l) (row + 8) t in
     let with-location = set with-thread (row + 9) x in
-    set (set with-location (row + 10) j) (row + 11) 0
+    set (set (set with-location (row + 10) j) (row + 11) 0) (row + 12) 0
 
 -- ---- the steps
 
@@ -43,7 +45,7 @@ issuedTables tables row t x =
 unfoldable pub issuedWork : List ℕ → List ℕ → ℕ → ℕ → ℕ → ℕ → List ℕ
 issuedWork tables l row t x j =
     let old = threadOf tables t in
-    withStore tables t row (up (old .issued)) x j (putRow l (old .newest) 11 (eventAt row))
+    withStore tables t row (up (old .issued)) x j (putRow l (old .newest) 12 (eventAt row))
 
 unfoldable pub issueW : World → ℕ → ℕ → World
 issueW w t x =
@@ -64,7 +66,7 @@ unfoldable pub committedTables : List ℕ → List ℕ → ℕ → ℕ → List 
 committedTables tables l t j =
     let old = threadOf tables t in
     let x = oldestPlace tables l t in
-    putCommitted (headed tables (old .oldest) x j) t (committedT old (getRow l (old .oldest) 11))
+    putCommitted (headed tables (old .oldest) x j) t (committedT old (getRow l (old .oldest) 12))
 
 unfoldable pub committedWork : List ℕ → List ℕ → ℕ → ℕ → List ℕ
 committedWork tables l row t =
@@ -77,14 +79,25 @@ commitW w t =
     world (ticked st) (committedTables (w .tables) (w .work) t (st .stretch))
     (committedWork (w .tables) (w .work) (st .row) t)
 
--- an event that has no effect but that it is no store, with other tables
+-- after a signal of thread t in stretch j: its row has the clock that a store issued in its place would have, that
+-- store itself not counted
+unfoldable pub signalledWork : List ℕ → List ℕ → ℕ → ℕ → ℕ → List ℕ
+signalledWork tables l row t j =
+    set (set (withClock tables t row (threadOf tables t .issued) l) (row + 10) 0) (row + 11) j
+
+unfoldable pub signalW : World → ℕ → World
+signalW w t =
+    let st = w .state in
+    world (ticked st) (w .tables) (signalledWork (w .tables) (w .work) (st .row) t (st .stretch))
+
+-- an event that has no effect but that it is no store and no signal, with other tables
 abbrev pub passWith : World → List ℕ → World
 passWith w tables = world (ticked (w .state)) tables (noStore (w .work) (w .state .row))
 
 unfoldable pub passW : World → World
 passW w = passWith w (w .tables)
 
--- store s brings its clock to thread t
+-- event s, a store that is loaded from or a signal that is waited for, brings its clock to thread t
 unfoldable pub meetW : World → ℕ → ℕ → World
 meetW w t s = passWith w (joined 8 (w .work) s (threadCell t 0) (w .tables))
 
@@ -148,6 +161,8 @@ stepK w k f =
     (crashW w)
     (skipW w t (eqb k 10))
     (lockedW w t (f .location) (f .source))
+    (signalW w t)
+    (meetW w t (f .source))
     w
 
 -- the effect of an event that passes

@@ -10,9 +10,9 @@ use Rattle.machine.specs.declared.state.Step.{Step}
 use Rattle.machine.specs.Arms.{byKind}
 use Rattle.machine.specs.declared.state.Machine.{Machine}
 use Rattle.machine.specs.Twin.{State, World, world, threadAt, lastW, hereW, admitsW}
-use Rattle.machine.specs.Turning.{commitRule, loadRule, lockedRule, fenceRule, crashRule, skipRule}
-use Rattle.machine.specs.Turning.{onThread, onPlace, countedW}
-use Rattle.machine.specs.Effects.{issueW, commitW, passW, meetW, crossW, loadW, lockedW, crashW, skipW}
+use Rattle.machine.specs.Turning.{commitRule, loadRule, lockedRule, fenceRule, crashRule, skipRule, signalRule}
+use Rattle.machine.specs.Turning.{waitRule, onThread, onPlace, countedW}
+use Rattle.machine.specs.Effects.{issueW, commitW, passW, meetW, crossW, loadW, lockedW, crashW, skipW, signalW}
 
 pub record Outcome : Type 0 where
   pub refusal : ℕ
@@ -82,6 +82,12 @@ abbrev pub skipO : World → ℕ → ℕ → Outcome
 skipO w kind t =
     byRule (onThread (w .state) t (skipRule w kind t)) w false (skipW w t (eqb kind 10))
 
+abbrev pub signalO : World → ℕ → Outcome
+signalO w t = byRule (onThread (w .state) t (signalRule w t)) w false (signalW w t)
+
+abbrev pub waitO : World → ℕ → ℕ → Outcome
+waitO w t s = byRule (onThread (w .state) t (waitRule w s)) w false (meetW w t s)
+
 -- a later event: a begin, and what is no kind, is turned away by 5
 unfoldable pub stepO : World → ℕ → Fields → Outcome
 stepO w k f =
@@ -96,4 +102,6 @@ stepO w k f =
     (crashO w)
     (skipO w k t)
     (lockedO w t x (f .source))
+    (signalO w t)
+    (waitO w t (f .source))
     (turned 5 w)

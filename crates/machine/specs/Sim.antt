@@ -1,6 +1,6 @@
 -- What ties the machine's state, its tables and the work area, before event n, to the definitions: the numbers, what
 -- the first n events have passed, each thread's state and what it has seen, the tables of locations, and the rows of
--- stores.
+-- stores and signals.
 use Prim.Native.Nat.{ℕ, suc, _+_, _-_, _*_, _≤_, _<_}
 use mathlib.Core.Path.{_≡_}
 use mathlib.Core.Bool.{true}
@@ -98,7 +98,7 @@ module _ (ev : ℕ → Event) where
   -- the links from each store to the next of its thread in its stretch
   abbrev pub Links : ℕ → List ℕ → Type 0
   Links n l =
-      (p : ℕ) → p < n → Issue ev p → getRow l p 11 ≡ storeAt ev n (stretch ev p) (thread ev p) (suc (place ev p))
+      (p : ℕ) → p < n → Issue ev p → getRow l p 12 ≡ storeAt ev n (stretch ev p) (thread ev p) (suc (place ev p))
 
   -- THE STATE BEFORE EVENT n
   pub record Sim (n : ℕ) (w : World) : Type 0 where

@@ -10,7 +10,7 @@ use Rattle.record.specs.Fields.{fieldsOf}
 use Rattle.machine.specs.declared.threads.Thread.{Thread}
 use Rattle.machine.specs.declared.state.Machine.{Machine}
 use Rattle.machine.specs.Arms.{byKind}
-use Rattle.machine.specs.Twin.{State, World, threadAt, crossingW, fitsW}
+use Rattle.machine.specs.Twin.{State, World, threadAt, crossingW, fitsW, signalledW}
 
 -- what a step asks of its caller: the begin's numbers are in range, and `row` is where a row begins, or behind the last
 -- row of the work area, which has `size` numbers
@@ -43,6 +43,14 @@ fenceBy kind own = eqb kind 7 gives 0 else empty own gives 0 else 11
 
 abbrev pub fenceRule : World → ℕ → ℕ → ℕ
 fenceRule w kind t = fenceBy kind (threadAt w t)
+
+-- of a signal: no store may wait, which its thread's oldest store says too
+abbrev pub signalRule : World → ℕ → ℕ
+signalRule w t = eqb (threadAt w t .oldest) 0 gives 0 else 11
+
+-- of a wait for s
+abbrev pub waitRule : World → ℕ → ℕ
+waitRule w s = signalledW w s gives 0 else 18
 
 abbrev pub crashRule : State → ℕ
 crashRule st = leb 32768 (st .row) gives 13 else eqb (st .stretch) 8 gives 13 else 0
@@ -92,6 +100,8 @@ refusalK w k f =
     (crashRule st)
     (onThread st t (skipRule w k t))
     (onPlace st t x (lockedRule w t x (f .source)))
+    (onThread st t (signalRule w t))
+    (onThread st t (waitRule w (f .source)))
     5
 
 -- what turns the next event away, after the first

@@ -1,5 +1,5 @@
--- The machine's state, its tables and the work area together, and the searches of the load rule in them, as total
--- functions.
+-- The machine's state, its tables and the work area together, and the searches of the load rule and of the rule of
+-- waits in them, as total functions.
 use Prim.Native.Nat.{ℕ, _+_, _*_}
 use mathlib.Core.Bool.{Bool, true, false, _&&_, not}
 use mathlib.Core.List.{List}
@@ -90,6 +90,17 @@ admits j row tables l x s = eqb s (getD tables (sourceCell x) 0) gives true else
 -- and is noted then
 unfoldable pub admitted : ℕ → ℕ → List ℕ → List ℕ → ℕ → ℕ → List ℕ
 admitted j row tables l x s = admits j row tables l x s gives set tables (sourceCell x) s else tables
+
+-- ---- waits
+
+-- the source of a wait whose row begins at `row` is an earlier signal of the stretch j
+unfoldable pub signalledIn : ℕ → ℕ → List ℕ → ℕ → Bool
+signalledIn j row l s = eqb s 0 gives false else ltb row (16 * s) gives false else eqb (getRow l s 11) j
+
+-- ---- of a world
+
+abbrev pub signalledW : World → ℕ → Bool
+signalledW w s = signalledIn (w .state .stretch) (w .state .row) (w .work) s
 
 abbrev pub waitingW : World → ℕ → ℕ → ℕ
 waitingW w t x = waitingIn (w .tables) t x

@@ -6,7 +6,7 @@ ghost use lib.ListN.{length};
 ghost use Rattle.area.specs.Cells.{noStore, joined};
 ghost use Rattle.machine.specs.Tables.{threadCell};
 ghost use Rattle.machine.specs.Effects.{issuedTables, issuedWork, committedTables, committedWork};
-ghost use Rattle.machine.specs.Effects.{headed, exchangedTables, exchangedWork};
+ghost use Rattle.machine.specs.Effects.{headed, exchangedTables, exchangedWork, signalledWork};
 ghost use Rattle.machine.specs.Effects.{finishedThread, finished};
 use crate::clocks;
 use crate::tables;
@@ -24,7 +24,7 @@ pub(crate) fn issue(tables: &mut Tables, work: &mut [u16], row: usize, t: u16, x
     let store = area::event_at(row);
     let old = threads::thread_of(tables, t);
     let new = old.issue(store);
-    area::row_put(work, old.newest, 11, store);
+    area::row_put(work, old.newest, 12, store);
     clocks::write_row(tables, t, work, row, new.issued, x, j);
     threads::put_issued(tables, t, new);
     tables[tables::newest(x, t)] = store;
@@ -48,7 +48,7 @@ pub(crate) fn commit(tables: &mut Tables, work: &mut [u16], row: usize, t: u16, 
     let old = threads::thread_of(tables, t);
     let p = old.oldest;
     let x = area::row_get(work, p, 9) % 256;
-    let next = area::row_get(work, p, 11);
+    let next = area::row_get(work, p, 12);
     let new = old.commit(next);
     area::no_store(work, row);
     area::row_put(work, p, 14, tables[tables::last(x)]);
@@ -70,7 +70,19 @@ pub(crate) fn exchange(tables: &mut Tables, work: &mut [u16], row: usize, t: u16
     threads::put_committed(tables, t, own.commit(0));
 }
 
-// A load from store s of the stretch brings the store's clock to its thread.
+// A signal of thread t in stretch j: its row keeps the clock that a store issued in its place would have, that store
+// itself not counted.
+pub(crate) fn signal(tables: &Tables, work: &mut [u16], row: usize, t: u16, j: u16)
+    requires { ⌜ (t < 8) × (row + 16 ≤ length (now work)) ⌝ }
+    ensures { λ _. ⌜ now (work .exit) ≡ signalledWork (now (tables .entry)) (now (work .entry)) row t j ⌝ }
+{
+    let own = threads::thread_of(tables, t);
+    clocks::write_clock(tables, t, work, row, own.issued);
+    work[row + 10] = 0;
+    work[row + 11] = j;
+}
+
+// A load from store s of the stretch, or a wait for signal s, brings the clock of s to its thread.
 pub(crate) fn meet(tables: &mut Tables, work: &mut [u16], row: usize, t: u16, s: u16)
     requires { ⌜ (t < 8) × (row + 16 ≤ length (now work)) × (32768 ≤ length (now work)) ⌝ }
     ensures { λ _. ⌜ now (tables .exit) ≡ joined 8 (now (work .entry)) s (threadCell t 0) (now (tables .entry)) ⌝ }

@@ -1,10 +1,10 @@
-// What turns an event away, by document 01's numbers and in its order, and the searches of the load rule. First it is
-// asked whether an event passes, and only then by which number it does not: a rule that answers its number at once is
-// slower.
+// What turns an event away, by the documents' numbers and in their order, and the searches of the load rule and of the
+// rule of waits. First it is asked whether an event passes, and only then by which number it does not: a rule that
+// answers its number at once is slower.
 ghost use mathlib.Core.Path.{_≡_};
 ghost use mathlib.Core.Bool.{true};
 ghost use Prim.Native.Nat.{_<_};
-ghost use Rattle.machine.specs.Twin.{waitingIn, pastIn, acrossIn};
+ghost use Rattle.machine.specs.Twin.{waitingIn, pastIn, acrossIn, signalledIn};
 ghost use Rattle.machine.specs.Turning.{threadFits, placeFits, placeRefusal, fenceBy, skipBy, beginRule, beginK};
 use crate::state::Machine;
 use crate::tables;
@@ -113,6 +113,21 @@ pub(crate) fn fence_rule(kind: u16, own: Thread) -> u16
         return 0;
     }
     if own.issued == own.committed { 0 } else { 11 }
+}
+
+// ---- waits
+
+// The source of a wait whose row begins at `row` is an earlier signal of its stretch.
+pub(crate) fn signalled(m: Machine, row: usize, work: &[u16], s: u16) -> bool
+    ensures { λ r. ⌜ r ≡ signalledIn (m .stretch) row (now (work .entry)) s ⌝ }
+{
+    if s == 0 {
+        return false;
+    }
+    if row < 16 * (s as usize) {
+        return false;
+    }
+    area::row_get(work, s, 11) == m.stretch
 }
 
 // ---- skips

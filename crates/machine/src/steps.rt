@@ -8,7 +8,7 @@ ghost use lib.ListN.{length};
 ghost use Rattle.machine.specs.Twin.{stateOf, world, admits, admitted};
 ghost use Rattle.machine.specs.Turning.{Fits};
 ghost use Rattle.machine.specs.Outcomes.{outcome, issueO, commitO, onlyO, acrossO, memoryO, loadO, lockedO};
-ghost use Rattle.machine.specs.Outcomes.{flushO, fenceO, crashO, skipO, stepO};
+ghost use Rattle.machine.specs.Outcomes.{flushO, fenceO, crashO, skipO, signalO, waitO, stepO};
 use crate::effects;
 use crate::rules;
 use crate::state::Machine;
@@ -257,6 +257,39 @@ fn skip(m: Machine, row: usize, tables: &mut Tables, work: &mut [u16], kind: u16
     m.pass(false)
 }
 
+// 11: a signal with waiting stores.
+fn signal(m: Machine, row: usize, tables: &Tables, work: &mut [u16], t: u16) -> Step
+    requires { ⌜ Fits m row (length (now work)) ⌝ }
+    ensures { λ r. ⌜ (outcome m row r (now (tables .entry)) (now (work .exit))
+        ≡ signalO (world (stateOf m row) (now (tables .entry)) (now (work .entry))) t) ⌝ }
+{
+    if !rules::thread_fits(m, row, t) {
+        return m.refuse(rules::place_refusal(m, row, t));
+    }
+    let own = threads::thread_of(tables, t);
+    if own.oldest != 0 {
+        return m.refuse(11);
+    }
+    effects::signal(tables, work, row, t, m.stretch);
+    m.pass(false)
+}
+
+// 18: a wait whose source is no earlier signal of the same stretch.
+fn wait(m: Machine, row: usize, tables: &mut Tables, work: &mut [u16], t: u16, s: u16) -> Step
+    requires { ⌜ Fits m row (length (now work)) ⌝ }
+    ensures { λ r. ⌜ (outcome m row r (now (tables .exit)) (now (work .exit))
+        ≡ waitO (world (stateOf m row) (now (tables .entry)) (now (work .entry))) t s) ⌝ }
+{
+    if !rules::thread_fits(m, row, t) {
+        return m.refuse(rules::place_refusal(m, row, t));
+    }
+    if !rules::signalled(m, row, work, s) {
+        return m.refuse(18);
+    }
+    effects::meet(tables, work, row, t, s);
+    m.pass(false)
+}
+
 // A later event, by its kind and fields. 5: a begin.
 pub fn step(
     m: Machine,
@@ -280,6 +313,8 @@ pub fn step(
         9 => crash(m, row, tables, work),
         10..=11 => skip(m, row, tables, work, kind, t),
         12 => locked(m, row, tables, work, t, f.location, f.source),
+        13 => signal(m, row, tables, work, t),
+        14 => wait(m, row, tables, work, t, f.source),
         _ => m.refuse(5),
     }
 }

@@ -274,6 +274,8 @@ module _ (ev : ℕ → Event) where
     room = rows .room;
     stores = λ p early. rows .stores p (omega arith);
     others = λ p from-1 early. rows .others p from-1 (omega arith);
+    signals = λ s early. rows .signals s (omega arith);
+    no-signals = λ p from-1 early. rows .no-signals p from-1 (omega arith);
   }
 
   -- a load broke it

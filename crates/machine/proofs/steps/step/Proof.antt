@@ -25,6 +25,12 @@ crash-requires c κs = search needs
 locked-requires : tie.Need-locked-requires
 locked-requires c κs = search needs
 
+signal-requires : tie.Need-signal-requires
+signal-requires c κs = search needs
+
+wait-requires : tie.Need-wait-requires
+wait-requires c κs = search needs
+
 flush-requires : tie.Need-flush-requires
 flush-requires c κs = search needs
 
@@ -91,27 +97,21 @@ same-length-6 : tie.Need-same-length-6
 same-length-6 c = search needs
 
 returns-6 : tie.Need-returns-6
-unfolding stepO
+unfolding stepO byKind
 returns-6 c =
-    let at-flush = c .before .before in
-    let at-if2 = at-flush .before .before in
-    let at-if1 = at-if2 .before in
-    let at-match = at-if1 .before in
-    let others = at-match .match .rest .0 in
-    let low = behind-load _ (at-if1 .if1 .left) (others .0 .0 .0 .1) (others .0 .0 .1) (others .0 .1) in
-    at-flush .flush .ensures _ ∙ flush-arm _ _ _ _ _ _ _ _ _ _ low (le-of-suc-le-suc (at-if2 .if2 .taken))
+    let at-signal = c .before .before in
+    let at-match = at-signal .before .before .before in
+    rw (at-match .match .keys6) (at-signal .signal .ensures)
 
 same-length-7 : tie.Need-same-length-7
 same-length-7 c = search needs
 
 returns-7 : tie.Need-returns-7
-unfolding stepO
+unfolding stepO byKind
 returns-7 c =
-    let at-fence = c .before .before in
-    let at-if3 = at-fence .before .before .before in
-    let at-if2 = at-if3 .before in
-    at-fence .fence .ensures
-    ∙ fence-arm _ _ _ _ _ _ _ _ _ _ (omega (arith, at-if2 .if2 .left)) (omega (arith, at-if3 .if3 .taken))
+    let at-wait = c .before .before in
+    let at-match = at-wait .before .before .before in
+    rw (at-match .match .keys7) (at-wait .wait .ensures)
 
 same-length-8 : tie.Need-same-length-8
 same-length-8 c = search needs
@@ -119,21 +119,48 @@ same-length-8 c = search needs
 returns-8 : tie.Need-returns-8
 unfolding stepO
 returns-8 c =
-    let at-skip = c .before .before in
-    let at-if4 = at-skip .before .before .before in
-    let at-if3 = at-if4 .before in
-    let at-match = at-if3 .before .before .before in
-    let low = behind-crash _ (at-if3 .if3 .left) (at-match .match .rest .0 .1) in
-    at-skip .skip .ensures ∙ skip-arm _ _ _ _ _ _ _ _ _ _ low (le-of-suc-le-suc (at-if4 .if4 .taken))
+    let at-flush = c .before .before in
+    let at-if2 = at-flush .before .before in
+    let at-if1 = at-if2 .before in
+    let at-match = at-if1 .before in
+    let others = at-match .match .rest .0 .0 .0 in
+    let low = behind-load _ (at-if1 .if1 .left) (others .0 .0 .0 .1) (others .0 .0 .1) (others .0 .1) in
+    at-flush .flush .ensures _ ∙ flush-arm _ _ _ _ _ _ _ _ _ _ _ _ low (le-of-suc-le-suc (at-if2 .if2 .taken))
+
+same-length-9 : tie.Need-same-length-9
+same-length-9 c = search needs
 
 returns-9 : tie.Need-returns-9
 unfolding stepO
 returns-9 c =
-    let not-12 = c .before .before .match .rest .1 in
+    let at-fence = c .before .before in
+    let at-if3 = at-fence .before .before .before in
+    let at-if2 = at-if3 .before in
+    at-fence .fence .ensures
+    ∙ fence-arm _ _ _ _ _ _ _ _ _ _ _ _ (omega (arith, at-if2 .if2 .left)) (omega (arith, at-if3 .if3 .taken))
+
+same-length-10 : tie.Need-same-length-10
+same-length-10 c = search needs
+
+returns-10 : tie.Need-returns-10
+unfolding stepO
+returns-10 c =
+    let at-skip = c .before .before in
+    let at-if4 = at-skip .before .before .before in
+    let at-if3 = at-if4 .before in
+    let at-match = at-if3 .before .before .before in
+    let low = behind-crash _ (at-if3 .if3 .left) (at-match .match .rest .0 .0 .0 .1) in
+    at-skip .skip .ensures ∙ skip-arm _ _ _ _ _ _ _ _ _ _ _ _ low (le-of-suc-le-suc (at-if4 .if4 .taken))
+
+returns-11 : tie.Need-returns-11
+unfolding stepO
+returns-11 c =
+    let others = c .before .before .match .rest in
     rw (c .refuse .ensures)
-    (other-arm _ _ _ _ _ _ _ _ _ _
+    (other-arm _ _ _ _ _ _ _ _ _ _ _ _
     (λ low high.
-    ⊎-elim (λ under. omega (arith, under .taken)) (λ over. omega (arith, over .3 .left, not-12))
+    ⊎-elim (λ under. omega (arith, under .taken))
+    (λ over. omega (arith, over .3 .left, others .0 .0 .1, others .0 .1, others .1))
     (c .before .if1 .came)))
 
 pub step-spec : {M : Type 1} → statement M
@@ -145,6 +172,8 @@ step-spec =
     load-requires
     crash-requires
     locked-requires
+    signal-requires
+    wait-requires
     flush-requires
     fence-requires
     skip-requires
@@ -165,4 +194,8 @@ step-spec =
     returns-7
     same-length-8
     returns-8
-    returns-9)
+    same-length-9
+    returns-9
+    same-length-10
+    returns-10
+    returns-11)
