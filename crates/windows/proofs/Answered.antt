@@ -11,10 +11,10 @@ use lib.ListN.{replicate}
 use lib.Dec.{eqb}
 use borrow.Author.Tests.{eqb-true, eq-eqb, ne-eqb}
 use Rattle.record.specs.declared.events.Event.{Event}
-use Rattle.record.specs.Parts.{start, loadAt}
+use Rattle.record.specs.Parts.{start, sourceAt}
 use Rattle.record.specs.Tests.{_gives_else_}
 use Rattle.record.proofs.Starts.{read-next}
-use Rattle.record.proofs.Loads.{asLoad, load-past, load-at-read}
+use Rattle.record.proofs.Sources.{asSource, source-past, source-at-read}
 use Rattle.model.specs.declared.Kind.the-variants.{Flush}
 use Rattle.model.specs.Trace.{thread, issue?, Issue}
 use Rattle.model.specs.HappensBefore.{Before, AtOrBefore}
@@ -26,13 +26,10 @@ use Rattle.model.specs.Reading.{events, AcceptedWith}
 use Rattle.model.proofs.Searching.{both, parts, same?, second-fails, last-is, last-largest}
 use Rattle.model.proofs.Ordering.{before-lt, before-first, before-stretch, at-or-before-le}
 use Rattle.model.proofs.Clocks.{covers-exactly}
-use Rattle.model.proofs.Acceptance.{event-bound}
 use Rattle.model.proofs.WindowPlaces.{has-still, starts-has, has-starts, has-exactly, first-place, window-is}
 use Rattle.model.proofs.WindowPlaces.{window-unique}
 use Rattle.model.proofs.TurnedAway.{passed→, accepted-events}
-use Rattle.area.specs.Cells.{up}
 use Rattle.area.specs.Rows.{Rows}
-use Rattle.area.proofs.ReadBack.{up-is}
 use Rattle.windows.specs.Finding.{notedMissing, lookedFrom, looked, windowIn, windowsBy}
 use Rattle.windows.proofs.Shown.{lasts?, lastShown, firstShown, Shown, has→, →has, shown-first}
 use Rattle.windows.proofs.Noting.{shown-missing, shown-next}
@@ -54,38 +51,31 @@ module _
 
   -- ---- all records up to q
 
-  -- what the record layer says of a record's load is what its event says
-  load-there : (e : ℕ) → e < N → loadAt bytes (start bytes e) ≡ asLoad (ev e) (start bytes (suc e))
+  -- what the record layer says of a record's source is what its event says
+  source-there : (e : ℕ) → e < N → sourceAt bytes (start bytes e) ≡ asSource (ev e) (start bytes (suc e))
   unfolding events
-  load-there e inside =
+  source-there e inside =
       let it = passed→ bytes e (whole .all-pass e inside) in
       let past = read-next bytes e (it .x) (it .next) (it .is-read) in
-      rw (it .is-read, ← past) (load-at-read bytes (start bytes e) (it .x) (it .next) (it .is-read))
+      rw (it .is-read, ← past) (source-at-read bytes (start bytes e) (it .x) (it .next) (it .is-read))
 
   looked-shown :
-      (k e : ℕ) (found : List ℕ) → p < e → e + k ≡ suc q → Shown ev p q e e found
-      → Shown ev p q (suc q) (suc q) (lookedFrom bytes work p q k e (start bytes e) found)
+      (k e : ℕ) (found : List ℕ) → p ≤ e → e + k ≡ q → Shown ev p q (suc e) (suc e) found
+      → Shown ev p q (suc q) (suc q) (lookedFrom bytes work p q k e (start bytes (suc e)) found)
   unfolding lookedFrom
-  looked-shown zero e found later all shown = let at-end : e ≡ suc q = omega arith in rw at-end at shown
-  looked-shown (suc k) e found later all shown =
-      rw (
-        load-there e (omega arith),
-        load-past (ev e) (start bytes (suc e)),
-        up-is e (omega (arith, event-bound ev N accepted e (omega arith))),
-      )
+  looked-shown zero e found from-p all shown = let at-end : e ≡ q = omega arith in rw at-end at shown
+  looked-shown (suc k) e found from-p all shown =
+      rw (source-there (suc e) (omega arith), source-past (ev (suc e)) (start bytes (suc (suc e))))
       (looked-shown k (suc e) _ (omega arith) (omega arith)
-      (shown-next ev p q N accepted work rows p-store q-store (before-stretch ev before) q-early e later (omega arith)
-      shown (start bytes (suc e))))
+      (shown-next ev p q N accepted work rows p-store q-store (before-stretch ev before) q-early (suc e) (omega arith)
+      (omega arith) shown (start bytes (suc (suc e)))))
 
   all-shown : Shown ev p q (suc q) (suc q) (looked bytes work p q (notedMissing (replicate 16 0) (thread ev p) p))
   unfolding looked
   all-shown =
       let p-before-q = before-lt ev before in
-      let next : up p ≡ suc p = up-is p (omega (arith, event-bound ev N accepted p (omega arith))) in
-      let first-shown =
-      shown-missing ev p q N accepted work rows p-store q-store (before-stretch ev before) q-early (omega arith)
-      in
-      rw next (looked-shown (q - p) (suc p) _ (omega arith) (omega arith) (rw next at first-shown))
+      looked-shown (q - p) p _ (omega arith) (omega arith)
+      (shown-missing ev p q N accepted work rows p-store q-store (before-stretch ev before) q-early (omega arith))
 
   -- ---- a thread's window
 

@@ -1,42 +1,42 @@
 -- What is noted of a record is what it shows of its thread: behind the missing store p only its own thread has it
 -- (`shown-missing`), and each event up to the observed store q is shown by what is noted of it (`shown-next`): first as
--- a store (`shown-store`), which asks what the loads in front of it show, and then as a load (`shown-load`). A store is
--- asked of its row, a load of its source's.
--- In order: a number noted; up to p; one event more, as a store, as a load, as both.
+-- a store (`shown-store`), which asks what the events in front of it bring, and then as a load or wait
+-- (`shown-source`). A store is asked of its row, a load and a wait of its source's.
+-- In order: a number noted; up to p; one event more, as a store, as a load or wait, as both.
 use Prim.Native.Nat.{ℕ, suc, _+_, _≤_, _<_, _%_}
 use native.Mathlib.Omega.{arith}
 use native.Mathlib.Nat.{zero-add, mod-eq-of-lt}
 use mathlib.Core.Path.{_≡_, refl, sym, _∙_}
-use mathlib.Core.Bool.{Bool, true, false, cond, _&&_, and-true, and-false}
+use mathlib.Core.Bool.{Bool, true, false, cond, _&&_, _||_, and-true, and-false}
 use mathlib.Core.Logic.{_⊎_, inl, inr, _≢_, _↔_}
 use mathlib.Core.List.{List}
 use lib.ListN.{length, getD, set, replicate, length-set}
 use lib.Seq.{getD-set-same, getD-set-other}
 use lib.Dec.{eqb, leb}
-use borrow.Author.Tests.{eqb-true, eq-eqb, ne-eqb, le-leb, leb-true, not-true}
+use borrow.Author.Tests.{eq-eqb, ne-eqb, le-leb, leb-true, not-true}
 use Rattle.record.specs.declared.events.Event.{Event}
-use Rattle.record.proofs.Loads.{asLoad}
+use Rattle.record.proofs.Sources.{asSource, sourced-kinds}
+use Rattle.record.specs.Parts.{noSource}
 use Rattle.record.specs.Tests.{_gives_else_}
 use Rattle.model.specs.Search.{last}
-use Rattle.model.specs.Trace.{thread, source, issue?, load?, Issue, Load, stretch}
-use Rattle.model.specs.HappensBefore.{AtOrBefore}
+use Rattle.model.specs.Trace.{kind, thread, source, hasThread?, issue?, load?, wait?, Issue, Load, Wait, stretch}
 use Rattle.model.specs.Rules.{Accepted}
 use Rattle.model.specs.Clocks.{covers?}
-use Rattle.model.specs.Windows.{Brings, Has}
+use Rattle.model.specs.Windows.{ComesBy, by-load, by-wait, Brings, Has}
 use Rattle.model.specs.Windows as windows
-use Rattle.model.proofs.Searching.{test, both, parts, false-true, same?, eqb-same, second-fails, last-none}
+use Rattle.model.proofs.Searching.{test, both, parts, false-true, or-left, or-right, same?, eqb-same}
+use Rattle.model.proofs.Searching.{second-fails, last-none}
 use Rattle.model.proofs.Counting.{stretch-mono}
-use Rattle.model.proofs.Roles.{issue-or-not, load-or-not}
-use Rattle.model.proofs.Ordering.{at-or-before-le}
-use Rattle.model.proofs.Clocks.{covers-exactly}
-use Rattle.model.proofs.Acceptance.{event-bound, source-early, store-not-0}
-use Rattle.model.proofs.Ranges.{issue-has-thread, load-has-thread, thread-bound}
-use Rattle.model.proofs.WindowPlaces.{store-behind}
-use Rattle.area.specs.Cells.{getRow, coversW}
+use Rattle.model.proofs.Roles.{issue-or-not}
+use Rattle.model.proofs.ClockSteps.{Meets, loads-store, waits-signal}
+use Rattle.model.proofs.Acceptance.{event-bound, from-store, source-from, source-early, wait-signalled, store-not-0}
+use Rattle.model.proofs.Ranges.{issue-has-thread, load-has-thread, wait-has-thread, thread-bound}
+use Rattle.model.proofs.WindowPlaces.{comes→, →comes, comes-from, comes-early}
+use Rattle.area.specs.Cells.{getRow, clockCoversW}
 use Rattle.area.specs.Rows.{Rows}
-use Rattle.area.proofs.Covering.{covers-is, other-stretch}
+use Rattle.area.proofs.Covering.{covers-is, source-covers-is, other-stretch}
 use Rattle.area.proofs.ReadBack.{up-is, cleared-at}
-use Rattle.windows.specs.Finding.{notedMissing, endsW, notedStore, bringsW, notedLoad, noted}
+use Rattle.windows.specs.Finding.{notedMissing, endsW, notedStore, bringsW, notedSource, noted}
 use Rattle.windows.proofs.Shown.{has?, firstShown, lasts?, lastShown, Shown, →has, has-or-not, not-has}
 use Rattle.windows.proofs.Shown.{shown-first, shown-none, shown-some, first-keeps, first-comes}
 
@@ -109,11 +109,7 @@ module _
   not-before : (n t : ℕ) → n ≤ p → p < N → ¬ Has ev p t n
   not-before n t early inside (inl (is-own, late)) = omega arith
   not-before n t early inside (inr (other, (l, late, by-t, brings))) =
-      omega (
-        arith,
-        at-or-before-le ev p (source ev l) (brings .from),
-        source-early ev N accepted l (omega arith) (brings .loads),
-      )
+      omega (arith, comes-from ev (brings .comes), comes-early ev N accepted (omega arith) (brings .comes))
 
   -- right behind it only its own thread has it
   pub shown-missing : p < N → Shown ev p q (suc p) (suc p) (notedMissing (replicate 16 0) (thread ev p) p)
@@ -197,47 +193,54 @@ module _
         (Brings ev p n → Has ev p T n) → (t : ℕ) → firstShown ev p q (suc n) t ≡ firstShown ev p q n t
     firsts-keep had t = first-keeps ev p q p-store n t (λ own. later) (λ by-t brings. rw by-t at (had brings))
 
-    -- as a load
-    module _ (loads : Load ev n) where
-      s-early : s < N
-      s-early = omega (arith, source-early ev N accepted n (omega arith) loads)
+    -- as a load or a wait
+    module _ (sourced : Load ev n ⊎ Wait ev n) where
+      s-early : Load ev n ⊎ Wait ev n → s < n
+      s-early (inl loads) = source-early ev N accepted n (omega arith) loads
+      s-early (inr waits) = wait-signalled ev N accepted n (omega arith) waits .early
 
-      covers-source : Issue ev s → coversW work p s ≡ covers? ev p s
-      covers-source store = covers-is ev N accepted work rows p s (omega arith) p-store s-early store
+      T-has : Load ev n ⊎ Wait ev n → hasThread? ev n ≡ true
+      T-has (inl loads) = load-has-thread ev loads
+      T-has (inr waits) = wait-has-thread ev waits
 
-      -- what is asked of the source says whether the load brings p
+      -- a source that is not below p is a store, or a signal
+      meets-at : p ≤ s → Load ev n ⊎ Wait ev n → Meets ev n
+      meets-at late (inl loads) =
+          let some-p = store-not-0 ev N accepted p-store in
+          loads-store loads (from-store ev (source-from ev N accepted n (omega arith) loads (λ none. omega arith)))
+      meets-at late (inr waits) = waits-signal waits (wait-signalled ev N accepted n (omega arith) waits .signal)
+
+      -- and of p's stretch, so its clock says whether it covers p
+      covers-source : p ≤ s → Meets ev n → clockCoversW work p s ≡ covers? ev p s
+      covers-source late meets =
+          let early = s-early sourced in
+          source-covers-is ev N accepted work rows p n (omega arith) p-store meets (omega arith)
+          (omega (arith, stretch-mono ev p s late, stretch-mono ev s q (omega arith)))
+
+      -- what is asked of the source says whether the event brings p
       brings-exactly : (bringsW work p s ≡ true) ↔ Brings ev p n
       brings-exactly = (brings→, →brings)
         where
-          by-store : p ≤ s → coversW work p s ≡ true → Issue ev s ⊎ (issue? ev s ≡ false) → AtOrBefore ev p s
-          by-store late covered (inl store) =
-              covers-exactly ev p s p-store store .0 (sym (covers-source store) ∙ covered)
-          by-store late covered (inr no-store) =
-              let some-p = store-not-0 ev N accepted p-store in
-              let one-stretch = parts (eqb (getRow work p 10) (getRow work s 10)) _ covered .0 in
-              absurd
-              (other-stretch ev N accepted work rows s p (omega arith) s-early no-store (omega arith)
-              p-store (sym (eqb-true (getRow work p 10) (getRow work s 10) one-stretch)))
-
           brings→ : bringsW work p s ≡ true → Brings ev p n
           brings→ passes =
-              let (late, covered) = parts (leb p s) _ passes in
+              let (not-below, covered) = parts (leb p s) _ passes in
+              let late = leb-true _ _ not-below in
+              let meets = meets-at late sourced in
               record {
-                loads = loads;
                 in-stretch = omega (arith, stretch-mono ev p n (omega arith), stretch-mono ev n q within);
-                from = by-store (leb-true _ _ late) covered (issue-or-not ev s);
+                comes = comes→ ev p n p-store meets (sym (covers-source late meets) ∙ covered);
               }
 
           →brings : Brings ev p n → bringsW work p s ≡ true
           →brings brings =
-              let store = store-behind ev p-store (brings .from) in
-              both _ _ (le-leb _ _ (at-or-before-le ev p s (brings .from)))
-              (covers-source store ∙ covers-exactly ev p s p-store store .1 (brings .from))
+              let (meets, covered) = →comes ev p n p-store (brings .comes) in
+              let late = comes-from ev (brings .comes) in
+              both _ _ (le-leb _ _ late) (covers-source late meets ∙ covered)
 
-      pub shown-load :
-          {m : ℕ} {found : List ℕ} → Shown ev p q n m found → Shown ev p q (suc n) m (notedLoad work p found n T s)
-      unfolding notedLoad
-      shown-load {m} {found} shown =
+      pub shown-source :
+          {m : ℕ} {found : List ℕ} → Shown ev p q n m found → Shown ev p q (suc n) m (notedSource work p found n T s)
+      unfolding notedSource
+      shown-source {m} {found} shown =
           rw (
             mod-eq-of-lt T-below,
             up-is n (omega (arith, event-bound ev N accepted n (omega arith))),
@@ -247,7 +250,7 @@ module _
           (λ t. comes t (same? T t) (has-or-not ev p q p-store n T) (test (bringsW work p s))))
         where
           T-below : T < 8
-          T-below = thread-bound ev N accepted n (omega arith) (load-has-thread ev loads)
+          T-below = thread-bound ev N accepted n (omega arith) (T-has sourced)
 
           comes :
               (t : ℕ) → (T ≡ t) ⊎ (T ≢ t) → Has ev p T n ⊎ (¬ Has ev p T n)
@@ -271,15 +274,29 @@ module _
     -- ONE EVENT MORE IS SHOWN BY WHAT IS NOTED OF IT
     pub shown-next :
         {found : List ℕ} → Shown ev p q n n found → (past : ℕ)
-        → Shown ev p q (suc n) (suc n) (noted work p q found n (asLoad (ev n) past))
+        → Shown ev p q (suc n) (suc n) (noted work p q found n (asSource (ev n) past))
     unfolding noted
-    shown-next {found} shown past = by-load (load-or-not ev n)
+    shown-next {found} shown past =
+        rw (sourced-kinds (kind ev n)) (by-role (test (load? ev n)) (test (wait? ev n)))
       where
-        by-load :
-            Load ev n ⊎ (load? ev n ≡ false)
-            → Shown ev p q (suc n) (suc n) (noted work p q found n (asLoad (ev n) past))
-        by-load (inl loads) = rw (loads .test) (shown-load loads (shown-store shown))
-        by-load (inr no-loading) =
-            rw no-loading
+        none-comes : load? ev n ≡ false → wait? ev n ≡ false → ComesBy ev p n → Has ev p T n
+        none-comes no-load no-wait (by-load loads order) = false-true (sym no-load ∙ loads .test)
+        none-comes no-load no-wait (by-wait waits signal precedes) = false-true (sym no-wait ∙ waits .test)
+
+        by-role :
+            (load? ev n ≡ true) ⊎ (load? ev n ≡ false) → (wait? ev n ≡ true) ⊎ (wait? ev n ≡ false)
+            → Shown ev p q (suc n) (suc n)
+            (noted work p q found n
+            ((load? ev n || wait? ev n) gives
+            record { sourced = true; thread = T; source = s; next = past } else
+            noSource past))
+        by-role (inl loads) waits =
+            rw (or-left (load? ev n) (wait? ev n) loads)
+            (shown-source (inl (record { test = loads })) (shown-store shown))
+        by-role (inr other) (inl waits) =
+            rw (or-right (load? ev n) (wait? ev n) waits)
+            (shown-source (inr (record { test = waits })) (shown-store shown))
+        by-role (inr no-load) (inr no-wait) =
+            rw (no-load, no-wait)
             (first-noted ev p q (shown-store shown) 0 0 (omega arith) false
-            (firsts-keep (λ brings. false-true (sym no-loading ∙ brings .loads .test))))
+            (firsts-keep (λ brings. none-comes no-load no-wait (brings .comes))))

@@ -1,6 +1,6 @@
--- What the records have shown of each thread (`Shown`): the first place comes with the first load that brings the
--- missing store p, the last with each later store that is the observed one, q, or happens before it. The loads and the
--- stores are counted apart, for an event may be both.
+-- What the records have shown of each thread (`Shown`): the first place comes with the first event that brings the
+-- missing store p, the last with each later store that is the observed one, q, or happens before it. What brings stores
+-- and the stores are counted apart, for an event may be both.
 -- In order: what is shown; how the first places go on over event n.
 use Prim.Native.Nat.{ℕ, suc, _+_, _<_}
 use native.Mathlib.Omega.{arith}
@@ -39,7 +39,7 @@ module _ (ev : ℕ → Event) (p q : ℕ) where
   unfoldable pub lastShown : ℕ → ℕ → ℕ
   lastShown n t = last n (lasts? t)
 
-  -- the numbers found are what the loads before event n and the stores before event m show
+  -- the numbers found are what the events before event n bring and the stores before event m show
   pub record Shown (n m : ℕ) (found : List ℕ) : Type 0 where
     pub size : length found ≡ 16
     pub firsts : (t : ℕ) → t < 8 → getD found t 0 ≡ firstShown n t

@@ -6,12 +6,12 @@ use mathlib.Core.Bool.{Bool, not, _&&_}
 use mathlib.Core.List.{List}
 use lib.ListN.{getD, set, replicate}
 use lib.Dec.{eqb, leb}
-use Rattle.record.specs.declared.parts.LoadAt.{LoadAt}
-use Rattle.record.specs.Parts.{start, loadAt}
+use Rattle.record.specs.declared.parts.SourceAt.{SourceAt}
+use Rattle.record.specs.Parts.{start, sourceAt}
 use Rattle.record.specs.Tests.{_gives_else_}
 use Rattle.model.specs.declared.Window.{Window}
 use Rattle.model.specs.declared.Windows.{Windows}
-use Rattle.area.specs.Cells.{getRow, coversW, up}
+use Rattle.area.specs.Cells.{getRow, clockCoversW, coversW, up}
 
 -- ---- what is noted
 
@@ -30,35 +30,35 @@ notedStore work q found e =
     let i = getRow work e 8 % 8 in
     endsW work q found e i gives set found (8 + i) e else found
 
--- s is the missing store p or happens after it; no number below p is such a store
+-- s, a store or a signal of the stretch of the missing store p, is p or its clock covers p; no number below p is such
 abbrev pub bringsW : List ℕ → ℕ → ℕ → Bool
-bringsW work p s = leb p s && coversW work p s
+bringsW work p s = leb p s && clockCoversW work p s
 
--- load e of thread t from s
-unfoldable pub notedLoad : List ℕ → ℕ → List ℕ → ℕ → ℕ → ℕ → List ℕ
-notedLoad work p found e t s =
+-- event e of thread t, whose source is s
+unfoldable pub notedSource : List ℕ → ℕ → List ℕ → ℕ → ℕ → ℕ → List ℕ
+notedSource work p found e t s =
     (eqb (getD found (t % 8) 0) 0 && bringsW work p s) gives set found (t % 8) (up e) else found
 
--- event e, with what its record says if it loads: its store first, since the first place that its own load gives the
--- thread is behind it
-unfoldable pub noted : List ℕ → ℕ → ℕ → List ℕ → ℕ → LoadAt → List ℕ
-noted work p q found e l =
+-- event e, with what its record says if it has a source: its store first, since the first place that its own load
+-- gives the thread is behind it
+unfoldable pub noted : List ℕ → ℕ → ℕ → List ℕ → ℕ → SourceAt → List ℕ
+noted work p q found e said =
     let stored = notedStore work q found e in
-    (l .loads) gives notedLoad work p stored e (l .thread) (l .source) else stored
+    (said .sourced) gives notedSource work p stored e (said .thread) (said .source) else stored
 
 -- ---- the records
 
 module _ (bytes work : List ℕ) (p q : ℕ) where
-  -- the next n records, from event e at a position on
+  -- the next n records behind event e, from a position on
   unfoldable pub lookedFrom : ℕ → ℕ → ℕ → List ℕ → List ℕ
   lookedFrom zero e at found = found
   lookedFrom (suc n) e at found =
-      let l = loadAt bytes at in
-      lookedFrom n (up e) (l .next) (noted work p q found e l)
+      let said = sourceAt bytes at in
+      lookedFrom n (suc e) (said .next) (noted work p q found (suc e) said)
 
   -- the records behind p, up to q
   unfoldable pub looked : List ℕ → List ℕ
-  looked found = lookedFrom (q - p) (up p) (start bytes (up p)) found
+  looked found = lookedFrom (q - p) p (start bytes (suc p)) found
 
 -- ---- the windows
 

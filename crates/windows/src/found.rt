@@ -2,7 +2,7 @@
 // happens before it. A thread is found by a remainder, so every number has a place.
 ghost use mathlib.Core.Path.{_≡_};
 ghost use Prim.Native.Nat.{_+_, _<_, _%_};
-ghost use Rattle.windows.specs.Finding.{notedMissing, notedStore, notedLoad, windowIn, windowsIn};
+ghost use Rattle.windows.specs.Finding.{notedMissing, notedStore, notedSource, windowIn, windowsIn};
 use model::Window;
 use model::Windows;
 
@@ -37,10 +37,11 @@ pub(crate) fn note_store(found: &mut Found, work: &[u16], q: u16, e: u16)
     found[8 + i] = e;
 }
 
-// Event e of thread t loads from s. If s is the missing store p or happens after it, and nothing earlier brought p to
-// the thread, its first place is right behind e. No number below p is such a store.
-pub(crate) fn note_load(found: &mut Found, work: &[u16], p: u16, e: u16, t: u16, s: u16)
-    ensures { λ _. ⌜ now (found .exit) ≡ notedLoad (now (work .entry)) p (now (found .entry)) e t s ⌝ }
+// Event e of thread t loads from store s or waits for signal s, in the stretch of the missing store p. If s is p or its
+// clock covers p, and nothing earlier brought p to the thread, its first place is right behind e. No number below p is
+// such a store or signal; one that is not below it is of the stretch.
+pub(crate) fn note_source(found: &mut Found, work: &[u16], p: u16, e: u16, t: u16, s: u16)
+    ensures { λ _. ⌜ now (found .exit) ≡ notedSource (now (work .entry)) p (now (found .entry)) e t s ⌝ }
 {
     let i = slot(t);
     if found[i] != 0 {
@@ -49,7 +50,7 @@ pub(crate) fn note_load(found: &mut Found, work: &[u16], p: u16, e: u16, t: u16,
     if s < p {
         return;
     }
-    if !area::covers(work, p, s) {
+    if !area::clock_covers(work, p, s) {
         return;
     }
     found[i] = area::numbers::next_number(e);

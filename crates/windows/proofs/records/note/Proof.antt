@@ -12,19 +12,19 @@ returns : tie.Need-returns
 unfolding noted
 returns c =
     let at-store = c .before .before in
-    let loads = at-store .before .before .before .args .l .loads in
-    rw (not-true loads (c .if1 .taken)) (at-store .note-store .ensures)
+    let sourced = at-store .before .before .before .args .said .sourced in
+    rw (not-true sourced (c .if1 .taken)) (at-store .note-store .ensures)
 
-note-load-requires : tie.Need-note-load-requires
-note-load-requires c κs = search needs
+note-source-requires : tie.Need-note-source-requires
+note-source-requires c κs = search needs
 
 returns-2 : tie.Need-returns-2
 unfolding noted
 returns-2 c =
     let at-if1 = c .before .before in
     let at-store = at-if1 .before .before in
-    let loads = at-store .before .before .before .args .l .loads in
-    rw (not-false loads (at-if1 .if1 .left), ← at-store .note-store .ensures) (c .note-load .ensures)
+    let sourced = at-store .before .before .before .args .said .sourced in
+    rw (not-false sourced (at-if1 .if1 .left), ← at-store .note-store .ensures) (c .note-source .ensures)
 
 pub note-spec : {M : Type 1} → statement M
-note-spec = tie.close (tie.spec note-store-requires returns note-load-requires returns-2)
+note-spec = tie.close (tie.spec note-store-requires returns note-source-requires returns-2)

@@ -1,9 +1,9 @@
 -- The definition's tests, over what the calls answer.
 use borrow.Author.Tests.{eq-eqb, ne-eqb, le-leb, lt-leb, not-true, not-false}
-use Rattle.windows.specs.Finding.{notedLoad}
+use Rattle.windows.specs.Finding.{notedSource}
 use borrow.Author.Needs.{needs}
-use Rattle.windows.proofs.found.note_load.Statement.{statement}
-use Rattle.windows.proofs.found.note_load.Tie as tie
+use Rattle.windows.proofs.found.note_source.Statement.{statement}
+use Rattle.windows.proofs.found.note_source.Tie as tie
 
 slot-requires : tie.Need-slot-requires
 slot-requires c κs = search needs
@@ -15,13 +15,13 @@ element-copy-out-if1 : tie.Need-element-copy-out-if1
 element-copy-out-if1 c = search needs
 
 returns : tie.Need-returns
-unfolding notedLoad
+unfolding notedSource
 returns c =
     let at-slot = c .before .before in
     simp (← (at-slot .slot .ensures .0), ne-eqb _ _ (c .if1 .taken))
 
 returns-2 : tie.Need-returns-2
-unfolding notedLoad
+unfolding notedSource
 returns-2 c =
     let at-if1 = c .before in
     simp (
@@ -30,11 +30,11 @@ returns-2 c =
       lt-leb _ _ (c .if2 .taken),
     )
 
-covers-requires : tie.Need-covers-requires
-covers-requires c κs = search needs
+clock-covers-requires : tie.Need-clock-covers-requires
+clock-covers-requires c κs = search needs
 
 returns-3 : tie.Need-returns-3
-unfolding notedLoad
+unfolding notedSource
 returns-3 c =
     let at-if2 = c .before .before in
     let at-if1 = at-if2 .before in
@@ -42,8 +42,8 @@ returns-3 c =
       ← (at-if1 .before .before .slot .ensures .0),
       eq-eqb _ _ (at-if1 .if1 .left),
       le-leb _ _ (at-if2 .if2 .left),
-      ← c .before .covers .ensures,
-      not-true (c .before .covers .result) (c .if3 .taken),
+      ← c .before .clock-covers .ensures,
+      not-true (c .before .clock-covers .result) (c .if3 .taken),
     )
 
 next-number-requires : tie.Need-next-number-requires
@@ -56,7 +56,7 @@ element-write-found : tie.Need-element-write-found
 element-write-found c = search needs
 
 returns-4 : tie.Need-returns-4
-unfolding notedLoad
+unfolding notedSource
 returns-4 c =
     let at-if3 = c .before in
     let at-if2 = at-if3 .before .before in
@@ -65,13 +65,13 @@ returns-4 c =
       ← (at-if1 .before .before .slot .ensures .0),
       eq-eqb _ _ (at-if1 .if1 .left),
       le-leb _ _ (at-if2 .if2 .left),
-      ← at-if3 .before .covers .ensures,
-      not-false (at-if3 .before .covers .result) (at-if3 .if3 .left),
+      ← at-if3 .before .clock-covers .ensures,
+      not-false (at-if3 .before .clock-covers .result) (at-if3 .if3 .left),
       c .next-number .ensures,
     )
 
-pub note-load-spec : {M : Type 1} → statement M
-note-load-spec =
+pub note-source-spec : {M : Type 1} → statement M
+note-source-spec =
     tie.close
     (tie.spec
     slot-requires
@@ -79,7 +79,7 @@ note-load-spec =
     element-copy-out-if1
     returns
     returns-2
-    covers-requires
+    clock-covers-requires
     returns-3
     next-number-requires
     mul-found
