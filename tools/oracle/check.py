@@ -14,6 +14,8 @@ import oracle
 import sessions
 from oracle import Answer, Broken, Event, Machine, Refused, Robust, Window
 
+NAMED = {oracle.LOCKED: ", locked", oracle.SIGNAL: ", signal", oracle.WAIT: ", wait"}  # kinds counted apart
+
 
 def read_events(data: bytes) -> list[Event]:
     """The events of an accepted trace."""
@@ -26,24 +28,34 @@ def read_events(data: bytes) -> list[Event]:
     return events
 
 
-def without(events: list[Event], kinds: tuple[int, ...]) -> tuple[bytes, dict[int, int]]:
-    """The trace without the records of some kinds, its sources renumbered, and old number -> new number."""
-    kept = [number for number, event in enumerate(events) if event.kind not in kinds]
+def without(events: list[Event], dropped: set[int]) -> tuple[bytes, dict[int, int]]:
+    """The trace without some records, its sources renumbered, and old number -> new number."""
+    kept = [number for number in range(len(events)) if number not in dropped]
     new = {old: place for place, old in enumerate(kept)}
-    changed = []
-    for number in kept:
-        changed.append(renumbered(events[number], new))
-    return generate.encode_all(changed), new
+    return generate.encode_all([renumbered(events[number], new) for number in kept]), new
 
 
 def renumbered(event: Event, new: dict[int, int]) -> Event:
     """The event with the new number of its source, if its kind has one."""
-    return Event(event.kind, event.fields[:2] + (new[event.get("source")],)) if event.has("source") else event
+    return Event(event.kind, event.fields[:-1] + (new[event.get("source")],)) if event.has("source") else event
 
 
-def check_neutral(data: bytes, answer: Answer, kinds: tuple[int, ...]) -> None:
-    """ "in an accepted trace flush records never move a verdict, apart from shifting event numbers" """
-    shorter, new = without(read_events(data), kinds)
+def of_kinds(events: list[Event], kinds: tuple[int, ...]) -> set[int]:
+    """The numbers of the events of some kinds."""
+    return {number for number, event in enumerate(events) if event.kind in kinds}
+
+
+def idle(events: list[Event]) -> set[int]:
+    """The waits for a signal of their own thread, and the signals that no other thread waits for."""
+    waits = of_kinds(events, (oracle.WAIT,))
+    own = {wait for wait in waits if events[events[wait].get("source")].get("thread") == events[wait].get("thread")}
+    return own | of_kinds(events, (oracle.SIGNAL,)) - {events[wait].get("source") for wait in waits - own}
+
+
+def check_neutral(events: list[Event], answer: Answer, dropped: set[int]) -> None:
+    """ "in an accepted trace flush records never move a verdict, apart from shifting event numbers", nor do the other
+    records that are dropped here. """
+    shorter, new = without(events, dropped)
     other = oracle.judge(shorter)
     if isinstance(answer, Robust):
         assert other == Robust(max(new.values()), answer.cut, answer.share)
@@ -113,6 +125,48 @@ def replaced_windows(m: Machine, answer: Broken, chosen: list[int], of_load: dic
     return tuple(found)
 
 
+def stored(events: list[Event]) -> tuple[bytes, dict[int, int]]:
+    """The trace with "a store issued in the signal's place" for each signal, at a location of its own and committed at
+    once, and with a load from it for each wait; and old number -> new number, of a signal that of its store."""
+    signals = sorted(of_kinds(events, (oracle.SIGNAL,)))
+    version, threads, locations = events[0].fields
+    place = {signal: locations + k for k, signal in enumerate(signals)}
+    new = {number: number + sum(signal < number for signal in signals) for number in range(len(events))}
+    changed = [Event(oracle.BEGIN, (version, threads, locations + len(signals)))]
+    for number, event in enumerate(events[1:], start=1):
+        if event.kind == oracle.SIGNAL:
+            thread = event.get("thread")
+            changed += [Event(oracle.ISSUE, (thread, place[number])), Event(oracle.COMMIT, (thread,))]
+        elif event.kind == oracle.WAIT:
+            thread, signal = event.fields
+            changed.append(Event(oracle.LOAD, (thread, place[signal], new[signal])))
+        else:
+            changed.append(renumbered(event, new))
+    return generate.encode_all(changed), new
+
+
+def check_stored(events: list[Event], m: Machine, answer: Answer) -> None:
+    """Hand-overs as stores and loads order the other stores as before: the same verdict and evidence, the same first
+    places, and as many of the other stores in. The stores that were signals are stores, too, so a last place may be
+    later, and a thread may have a window more."""
+    longer, new = stored(events)
+    other, added = oracle.judge_closure(longer), {new[signal] for signal in m.signals}
+    if isinstance(answer, Robust):
+        assert isinstance(other, Robust)
+        longer_m = oracle.run(longer)
+        for stretch, thread in oracle.places(m):
+            at = 8 * (stretch - 1) + thread
+            inside = oracle.issued_at(longer_m, (stretch, thread))[:other.cut[at]]
+            assert answer.cut[at] == len(set(inside) - added)
+        return
+    assert isinstance(other, Broken) and (other.kind, other.primary) == (answer.kind, answer.primary)
+    assert [other.load, other.missing, other.observed] == [new[answer.load], new[answer.missing], new[answer.observed]]
+    for ends, others in zip(answer.windows, other.windows):
+        if ends is not None:
+            assert others is not None and others[0] == new[ends[0] - 1] + 1
+            assert others[1] == new[ends[1]] or (others[1] in added and others[1] > new[ends[1]])
+
+
 def check_prefixes(data: bytes, answer: Answer) -> None:
     """Records 0 to e are broken exactly from the named load on, and robust before."""
     for last in range(len(read_events(data))):
@@ -147,8 +201,18 @@ def check_windows(data: bytes, answer: Broken) -> None:
 
 
 def brings(data: bytes, event: Event, p: int) -> bool:
-    """The event is a load "whose source is p or happens after p"."""
+    """The event is a load "whose source is p or happens after p", or a wait "whose signal passes p on"."""
+    if event.kind == oracle.WAIT:
+        return passes_on(data, event.get("source"), p)
     return event.kind in oracle.LOADS and oracle.order(data, p, event.get("source")) in ("same", "before")
+
+
+def passes_on(data: bytes, signal: int, p: int) -> bool:
+    """p "would happen before a store issued in the signal's place": in the trace up to there, with that store in the
+    place of the signal, it does."""
+    thread = oracle.read_record(oracle.record_part(data, signal)).get("thread")
+    instead = oracle.prefix(data, signal - 1) + oracle.encode(Event(oracle.ISSUE, (thread, 0)))
+    return p < signal and oracle.order(instead, p, signal) == "before"
 
 
 def brought_by_observed(data: bytes, events: list[Event], p: int, q: int) -> bool:
@@ -213,7 +277,7 @@ def features(m: Machine, answer: Answer) -> list[str]:
     found += ["dropped store forbidden"] if any(oracle.forbids(m, load) & {s.event for s in dropped}
                                                 for load in counted) else []
     found += ["crossing load in a skip"] if any(load.crossing and not load.counted for load in m.loads) else []
-    return found + locked_features(m, answer) + [f"crashes {m.stretch - 1}"]
+    return found + locked_features(m, answer) + handed_features(m, answer) + [f"crashes {m.stretch - 1}"]
 
 
 def locked_features(m: Machine, answer: Answer) -> list[str]:
@@ -230,6 +294,31 @@ def locked_features(m: Machine, answer: Answer) -> list[str]:
     if isinstance(answer, Broken):
         shown |= {f"{name} of broken": numbers & {getattr(answer, name)} for name in ("load", "missing", "observed")}
     return [f"locked: {name}" for name, found in shown.items() if found]
+
+
+def handed_features(m: Machine, answer: Answer) -> list[str]:
+    """Names of what the signals and waits of an accepted trace show."""
+    signal_of = {wait: m.signals[wait.source] for wait in m.waits}
+    others = [wait for wait in m.waits if signal_of[wait].thread != wait.thread]
+    decided = generate.handed_over(m, answer)
+    shown = {
+        "a signal": m.signals,
+        "a wait for another thread's": others,
+        "a wait for the own thread's": len(others) < len(m.waits),
+        "two waits for one signal": len({wait.source for wait in m.waits}) < len(m.waits),
+        "in a later stretch": [wait for wait in others if wait.stretch > 1],
+        "a chain": [wait for wait in others for earlier in others if earlier.stretch == wait.stretch
+                    and earlier.thread == signal_of[wait].thread and earlier.event < wait.source],
+        "with waiting stores": [wait for wait in others for store in m.stores.values()
+                                if (store.thread, store.stretch) == (wait.thread, wait.stretch)
+                                and store.event < wait.event < (store.commit or m.events)],
+        "broken only by it": decided and isinstance(answer, Broken),
+        "cut only by it": decided and isinstance(answer, Robust),
+    }
+    if isinstance(answer, Broken):
+        first = {ends[0] - 1 for ends in answer.windows if ends is not None}
+        shown["first place of a window"] = first & {wait.event for wait in m.waits}
+    return [f"hand-over: {name}" for name, found in shown.items() if found]
 
 
 def window_features(m: Machine, answer: Broken) -> list[str]:
@@ -255,16 +344,20 @@ def check(data: bytes, answer: Answer, counts: Counter) -> None:
     assert oracle.judge_closure(data) == answer
     if isinstance(answer, Refused):
         last = oracle.read_record(oracle.record_part(data, answer.event))
-        locked = isinstance(last, Event) and last.kind == oracle.LOCKED
-        counts[f"refused {answer.number}" + (", locked" if locked else "")] += 1
+        kind = NAMED.get(last.kind, "") if isinstance(last, Event) else ""
+        counts[f"refused {answer.number}{kind}"] += 1
         check_refusal(data, answer)
         return
-    m = oracle.run(data)
+    events, m = read_events(data), oracle.run(data)
     counts[f"broken {answer.kind}" if isinstance(answer, Broken) else "robust"] += 1
     counts.update(features(m, answer))
-    check_neutral(data, answer, (oracle.CLFLUSH, oracle.CLFLUSHOPT))
-    check_neutral(data, answer, (oracle.CLFLUSH, oracle.CLFLUSHOPT, oracle.SFENCE, oracle.MFENCE))
+    flushes = of_kinds(events, (oracle.CLFLUSH, oracle.CLFLUSHOPT))
+    for dropped in (flushes, flushes | of_kinds(events, (oracle.SFENCE, oracle.MFENCE)), idle(events)):
+        check_neutral(events, answer, dropped)
     counts["traces with locked operations replaced"] += check_replaced(data, m, answer)
+    if m.signals and m.locations + len(m.signals) <= oracle.MAX_LOCATIONS:
+        counts["traces with hand-overs as stores and loads"] += 1
+        check_stored(events, m, answer)
     check_prefixes(data, answer)
     if isinstance(answer, Broken):
         check_windows(data, answer)

@@ -1,7 +1,7 @@
 """Wrong judges, and how many generated sessions tell each from the oracle: `python3 mutants.py SEED COUNT [switches]`.
 
-Each wrong judge replaces one or two functions of the oracle; judge_closure then runs with them. A wrong judge with
-count 0 would show that the generator misses an error.
+Each wrong judge replaces one or two functions of the oracle; judge_closure then runs with them. Those of hand-overs are
+in wrong_hand_overs.py. A wrong judge with count 0 would show that the generator misses an error.
 """
 
 from __future__ import annotations
@@ -13,12 +13,13 @@ from typing import Callable, Iterator, Optional
 
 import generate
 import oracle
-from oracle import Event, Load, Machine, Store
+from oracle import Event, Load, Machine, Refused, Store
+from wrong_hand_overs import HAND_OVERS, signals_before
 
 TRUE = {name: getattr(oracle, name) for name in ("directly_before", "happens_before", "forbids", "observes",
-                                                "legal_sources", "take_effect", "own_refusal", "smallest_pair",
-                                                "robust_answer", "broken_answer", "first_place", "last_place",
-                                                "window", "COMMITS")}
+                                                "legal_sources", "take_effect", "general_refusal", "own_refusal",
+                                                "smallest_pair", "robust_answer", "broken_answer", "first_place",
+                                                "last_place", "window", "order", "COMMITS")}
 
 
 def sources_up_to(m: Machine, q: Store, last: int) -> list[int]:
@@ -28,13 +29,13 @@ def sources_up_to(m: Machine, q: Store, last: int) -> list[int]:
 
 
 def no_loads(m: Machine, q: Store) -> set[int]:
-    """Only the order of issue in one thread."""
+    """Only the order of issue in one thread, and hand-overs."""
     return TRUE["directly_before"](m, q) - {p for p in m.stores if m.stores[p].thread != q.thread}
 
 
 def no_issue_order(m: Machine, q: Store) -> set[int]:
-    """Only the loads."""
-    return set(sources_up_to(m, q, q.event))
+    """Only the loads, and hand-overs."""
+    return set(sources_up_to(m, q, q.event)) | signals_before(m, q, q.event)
 
 
 def at_commit(m: Machine, q: Store) -> set[int]:
@@ -44,8 +45,8 @@ def at_commit(m: Machine, q: Store) -> set[int]:
 
 def one_crash_point(m: Machine, q: Store) -> set[int]:
     """ "one crash point by commit order" """
-    return {p.event for p in m.stores.values() if p.stretch == q.stretch and p.commit and q.commit
-            and p.commit < q.commit}
+    last = q.event if q.event in m.signals else q.commit or 0
+    return {p.event for p in m.stores.values() if p.stretch == q.stretch and p.commit and p.commit < last}
 
 
 def over_crashes(m: Machine, q: Store) -> set[int]:
@@ -66,8 +67,10 @@ def last_load_only(m: Machine, q: Store) -> set[int]:
 
 
 def no_chains(m: Machine) -> dict[int, set[int]]:
-    """Direct order only."""
-    return {q.event: oracle.directly_before(m, q) for q in m.stores.values()}
+    """Direct order only; a hand-over is one step."""
+    direct = {number: oracle.directly_before(m, q) for number, q in (m.stores | m.signals).items()}
+    return {number: {p for one in found for p in (direct[one] if one in m.signals else {one}) if p in m.stores}
+            for number, found in direct.items()}
 
 
 def middle_forgotten(m: Machine, load: Load, committed_only: bool = False) -> set[int]:
@@ -132,8 +135,7 @@ def observed_first(m: Machine, loads: list[Load], before: dict[int, set[int]], c
 def changed_effect(change: Callable[[Machine, Machine, Event], None]) -> Callable[[Machine, int, Event], None]:
     """take_effect, followed by a change that may look at what the machine was before."""
     def effect(m: Machine, number: int, event: Event) -> None:
-        old = Machine(m.threads, m.locations, m.events, m.stretch, [deque(q) for q in m.queues],
-                      {key: list(value) for key, value in m.memory.items()}, set(m.skips), m.stores, m.loads)
+        old = replace(m, queues=[deque(q) for q in m.queues], skips=set(m.skips))
         TRUE["take_effect"](m, number, event)
         change(m, old, event)
     return effect
@@ -169,9 +171,7 @@ def any_skip(m: Machine, old: Machine, event: Event) -> None:
 
 def own_queue_unseen(m: Machine, thread: int, location: int) -> tuple[list[int], bool]:
     """Loads look past the thread's own waiting stores."""
-    empty = Machine(m.threads, m.locations, m.events, m.stretch, [deque() for _ in m.queues], m.memory, m.skips,
-                    m.stores, m.loads)
-    return TRUE["legal_sources"](empty, thread, location)
+    return TRUE["legal_sources"](replace(m, queues=[deque() for _ in m.queues]), thread, location)
 
 
 def dropped_allowed(m: Machine, thread: int, location: int) -> tuple[list[int], bool]:
@@ -194,29 +194,27 @@ def first_at_missing(m: Machine, before: dict[int, set[int]], p: int, thread: in
 
 
 def first_at_load(m: Machine, before: dict[int, set[int]], p: int, thread: int) -> Optional[int]:
-    """The first place is the load that brings p, and not one past it."""
+    """The first place is the load or wait that brings p, and not one past it."""
     true = TRUE["first_place"](m, before, p, thread)
     return true if true is None or thread == m.stores[p].thread else true - 1
 
 
 def first_load(m: Machine, before: dict[int, set[int]], p: int, thread: int) -> Optional[int]:
-    """The first load of the stretch, whether it brings p or not."""
-    loads = [load.event for load in m.loads if load.thread == thread and load.stretch == m.stores[p].stretch]
-    return p + 1 if thread == m.stores[p].thread else min(loads) + 1 if loads else None
+    """Every load is taken for one that brings p."""
+    return TRUE["first_place"](replace(m, loads=[replace(load, source=p) for load in m.loads]), before, p, thread)
 
 
 def last_load(m: Machine, before: dict[int, set[int]], p: int, thread: int) -> Optional[int]:
-    """The last load that brings p, and not the first."""
-    loads = [load.event for load in m.loads if load.thread == thread and load.stretch == m.stores[p].stretch
-             and (load.source == p or p in before.get(load.source, set()))]
-    return p + 1 if thread == m.stores[p].thread else max(loads) + 1 if loads else None
+    """The last load or wait that brings p, and not the first."""
+    places = [TRUE["first_place"](replace(m, loads=loads, waits=waits), before, p, thread)
+              for loads, waits in [([load], []) for load in m.loads] + [([], [wait]) for wait in m.waits]]
+    own = TRUE["first_place"](replace(m, loads=[], waits=[]), before, p, thread)
+    return max((place for place in places if place is not None), default=own)
 
 
 def only_from_missing(m: Machine, before: dict[int, set[int]], p: int, thread: int) -> Optional[int]:
-    """Only a load from p itself brings it."""
-    loads = [load.event for load in m.loads if load.thread == thread and load.source == p
-             and load.stretch == m.stores[p].stretch]
-    return p + 1 if thread == m.stores[p].thread else min(loads) + 1 if loads else None
+    """Of the loads only one from p itself brings it."""
+    return TRUE["first_place"](replace(m, loads=[load for load in m.loads if load.source == p]), before, p, thread)
 
 
 def last_issue(m: Machine, before: dict[int, set[int]], q: int, thread: int) -> Optional[int]:
@@ -275,8 +273,7 @@ def locked_counted(m: Machine, old: Machine, event: Event) -> None:
 
 def load_after_issue(m: Machine, q: Store) -> set[int]:
     """A locked operation issues its store before it loads: its source does not happen before its store."""
-    return {p.event for p in m.stores.values() if p.thread == q.thread and p.stretch == q.stretch
-            and p.event < q.event} | set(sources_up_to(m, q, q.event - 1))
+    return TRUE["directly_before"](replace(m, loads=[load for load in m.loads if load.event < q.event]), q)
 
 
 def own_store_forbidden(m: Machine, load: Load, committed_only: bool = False) -> set[int]:
@@ -342,7 +339,7 @@ MUTANTS: dict[str, dict[str, object]] = {
     "locked: its own store forbidden": {"forbids": own_store_forbidden},
     "locked: first place inside": {"first_place": first_at_locked},
     "locked: brings nothing": {"first_place": locked_brings_nothing},
-}
+} | HAND_OVERS
 
 
 @contextmanager
@@ -358,12 +355,20 @@ def replaced(functions: dict[str, object]) -> Iterator[None]:
 
 
 def differs(data: bytes, answer: oracle.Answer, functions: dict[str, object]) -> bool:
-    """Whether the wrong judge gives another answer; one that stumbles counts too."""
+    """Whether the wrong judge gives another answer; one that stumbles counts too. One that is wrong in queries is asked
+    those that name a signal or a wait."""
     with replaced(functions):
         try:
-            return oracle.judge_closure(data) != answer
+            return oracle.judge_closure(data) != answer or ("order" in functions and queries_differ(data))
         except (AssertionError, KeyError, IndexError, ValueError):
             return True
+
+
+def queries_differ(data: bytes) -> bool:
+    """Whether a query that names a signal or a wait of an accepted trace gets another answer than 16."""
+    m = oracle.run(data)
+    numbers = [] if isinstance(m, Refused) else [*m.signals, *(wait.event for wait in m.waits)]
+    return any(oracle.order(data, number, number) != Refused(16, 0) for number in numbers)
 
 
 def main() -> None:

@@ -2,8 +2,8 @@
 
 Every function states one sentence of document 01 ("A judge of store order across crashes") and computes it in the
 most direct way: queues are queues, happens-before is a graph search, and the verdict comes from trying all choices.
-The windows of a flush fault are document 02's, job 1; locked operations, kind 12, are its job 2. Refusals 14 and 15
-(sizes of lent buffers) are not treated here.
+The windows of a flush fault are document 02's, job 1; locked operations, kind 12, are its job 2; signals and waits,
+kinds 13 and 14, its job 4. Refusals 14 and 15 (sizes of lent buffers) are not treated here.
 """
 
 from __future__ import annotations
@@ -13,10 +13,11 @@ from dataclasses import dataclass, field
 from itertools import product
 from typing import Iterator, Optional, Union
 
-from records import (BEGIN, CLFLUSH, CLFLUSHOPT, COMMIT, CRASH, ISSUE, KINDS, LOAD, LOCKED, MFENCE, SFENCE, SKIP_OFF,
-                     SKIP_ON, Event, Refused, decode, encode, frame_at, number_at, read_record, record_part,
-                     write_event)
+from records import (BEGIN, CLFLUSH, CLFLUSHOPT, COMMIT, CRASH, ISSUE, KINDS, LOAD, LOCKED, MFENCE, SFENCE, SIGNAL,
+                     SKIP_OFF, SKIP_ON, WAIT, Event, Refused, decode, encode, frame_at, number_at, read_record,
+                     record_part, write_event)
 
+NO_LOCATION = -1  # of the store that stands for a signal in happens-before
 MAX_EVENT, MAX_CRASHES, MAX_THREADS, MAX_LOCATIONS, CUT_NUMBERS, MAX_INPUT = 2048, 7, 8, 256, 56, 65535
 
 
@@ -79,6 +80,16 @@ class Load:
     counted: bool
 
 
+@dataclass(frozen=True)
+class Wait:
+    """An accepted wait; its source is the event number of a signal."""
+
+    event: int
+    thread: int
+    source: int
+    stretch: int
+
+
 @dataclass
 class Machine:
     """ "The trace starts with empty queues, no skips and no commits." Stretches are "numbered from 1". """
@@ -92,6 +103,8 @@ class Machine:
     skips: set[int] = field(default_factory=set)
     stores: dict[int, Store] = field(default_factory=dict)
     loads: list[Load] = field(default_factory=list)
+    signals: dict[int, Store] = field(default_factory=dict)  # signal -> "a store issued in the signal's place"
+    waits: list[Wait] = field(default_factory=list)
 
     def finished(self) -> range:
         """ "A stretch is the part between crashes, numbered from 1; a crash finishes it." """
@@ -134,10 +147,14 @@ def general_refusal(m: Machine, number: int, event: Event) -> int:
 
 
 def own_refusal(m: Machine, event: Event) -> int:
-    """The refusal of "the kind's own rule" (9 to 12), or 0. "11 also if kind 12's thread has a waiting store, before
-    9."; its own store is there to commit, so 10 is no matter of kind 12. """
-    if event.kind in (MFENCE, LOCKED) and m.queues[event.get("thread")]:
+    """The refusal of "the kind's own rule" (9 to 12, and 18), or 0. "11 also if kind 12's thread has a waiting store,
+    before 9."; its own store is there to commit, so 10 is no matter of kind 12. "11 for a signal with waiting stores;
+    18 for a wait whose source is no earlier signal of the same stretch". """
+    if event.kind in (MFENCE, LOCKED, SIGNAL) and m.queues[event.get("thread")]:
         return 11
+    if event.kind == WAIT:
+        signal = m.signals.get(event.get("source"))
+        return 0 if signal is not None and signal.stretch == m.stretch else 18
     if event.kind in LOADS:
         sources, _ = legal_sources(m, event.get("thread"), event.get("location"))
         return 0 if event.get("source") in sources else 9
@@ -194,11 +211,15 @@ def take_effect(m: Machine, number: int, event: Event) -> None:
         m.skips.add(event.get("thread"))
     elif event.kind == SKIP_OFF:
         m.skips.remove(event.get("thread"))
+    elif event.kind == SIGNAL:
+        m.signals[number] = Store(number, event.get("thread"), NO_LOCATION, m.stretch)
+    elif event.kind == WAIT:
+        m.waits.append(Wait(number, *event.fields, m.stretch))
 
 
 def run(data: bytes) -> Union[Machine, Refused]:
     """ "A record that can't be read ends the judging there with its refusal." "A trace is accepted if no refusal over
-    its records (1 to 13 here) applies." """
+    its records (1 to 13 here) applies", nor 18. """
     if not data:
         return Refused(1, 0)
     m, at, number = Machine(), 0, 0
@@ -228,19 +249,24 @@ def prefix(data: bytes, last: int) -> bytes:
 def directly_before(m: Machine, q: Store) -> set[int]:
     """ "Store p happens before q in the same stretch if p is issued earlier by the same thread, or q's thread, before
     issuing q, loaded from p in that stretch": all such p, without chains. A load with q's own number is that of a kind
-    12 record, which loads before it issues. """
+    12 record, which loads before it issues. Job 4: "Each store that would happen before a store issued in the signal's
+    place happens before all stores that the waiting thread issues, in that stretch, after a wait naming that signal":
+    the signals of waits before q are among what is given, each for the store in its place. """
     same_thread = {p.event for p in m.stores.values()
                    if p.thread == q.thread and p.stretch == q.stretch and p.event < q.event}
     loaded = {load.source for load in m.loads
               if load.thread == q.thread and load.stretch == q.stretch and load.event <= q.event}
-    return same_thread | {p for p in loaded if p in m.stores and m.stores[p].stretch == q.stretch}
+    signals = {wait.source for wait in m.waits
+               if wait.thread == q.thread and wait.stretch == q.stretch and wait.event < q.event}
+    return same_thread | {p for p in loaded if p in m.stores and m.stores[p].stretch == q.stretch} | signals
 
 
 def happens_before(m: Machine) -> dict[int, set[int]]:
-    """ "or by a chain of these": for each store q, all p that happen before it, by depth-first search. """
-    direct = {q.event: directly_before(m, q) for q in m.stores.values()}
+    """ "or by a chain of these": for each store q, all p that happen before it, by depth-first search over stores and
+    signals; and for each signal "each store that would happen before a store issued in the signal's place". """
+    direct = {number: directly_before(m, q) for number, q in (m.stores | m.signals).items()}
     result: dict[int, set[int]] = {}
-    for q in m.stores:
+    for q in direct:
         found: set[int] = set()
         to_visit = list(direct[q])
         while to_visit:
@@ -248,7 +274,7 @@ def happens_before(m: Machine) -> dict[int, set[int]]:
             if p not in found:
                 found.add(p)
                 to_visit.extend(direct[p])
-        result[q] = found
+        result[q] = found & m.stores.keys()
     return result
 
 
@@ -344,13 +370,14 @@ def explaining_choices(m: Machine, committed_only: bool = False) -> Iterator[Cho
 
 def first_place(m: Machine, before: dict[int, set[int]], p: int, thread: int) -> Optional[int]:
     """ "the first place is p + 1 in p's thread, elsewhere one past t's first load in that stretch whose source is p or
-    happens after p." """
+    happens after p." Job 4: "one past the first such load or the first wait whose signal passes p on, the earlier of
+    the two." """
     if thread == m.stores[p].thread:
         return p + 1
-    sources = {p} | {s for s in m.stores if p in before[s]}
-    loads = [load.event for load in m.loads if load.thread == thread and load.stretch == m.stores[p].stretch
-             and load.source in sources]
-    return min(loads) + 1 if loads else None
+    loads = [load for load in m.loads if load.source == p or p in before.get(load.source, set())]
+    waits = [wait for wait in m.waits if p in before[wait.source]]
+    return min((one.event + 1 for one in loads + waits
+                if one.thread == thread and one.stretch == m.stores[p].stretch), default=None)
 
 
 def last_place(m: Machine, before: dict[int, set[int]], q: int, thread: int) -> Optional[int]:
@@ -435,8 +462,11 @@ def judge_closure(data: bytes) -> Answer:
     """A second judge, for traces with too many choices to try. It is not document 01's wording: it takes as in exactly
     the observed stores and all that happens before them, and is broken at the first counted load with a pair. """
     m = run(data)
-    if isinstance(m, Refused):
-        return m
+    return m if isinstance(m, Refused) else closure_answer(m)
+
+
+def closure_answer(m: Machine) -> Union[Robust, Broken]:
+    """The answer of judge_closure for the machine behind an accepted trace."""
     before, counted = happens_before(m), [load for load in m.loads if load.counted]
     for many, load in enumerate(counted, start=1):
         pair = smallest_pair(m, counted[:many], before, False)
@@ -444,40 +474,3 @@ def judge_closure(data: bytes) -> Answer:
             return broken_answer(m, load.event, *pair)
     inside = {p for load in counted for q in observes(load) for p in before[q] | {q}}
     return robust_answer(m, tuple(sum(p in inside for p in issued_at(m, place)) for place in places(m)))
-
-
-def answer_lines(answer: Answer, finished: int, threads: int) -> list[str]:
-    """The lines of the program `verdict` for an answer: "one cut line per finished stretch: its number, then each
-    thread's count"; "`refused` gives number and event, and is then the only line". """
-    if isinstance(answer, Refused):
-        return [f"refused {answer.number} {answer.event}"]
-    if isinstance(answer, Broken):
-        return [f"events {answer.events}", "verdict broken", f"load {answer.load}", f"missing {answer.missing}",
-                f"observed {answer.observed}", f"kind {answer.kind}"]
-    cuts = [" ".join(["cut", str(j)] + [str(answer.cut[8 * (j - 1) + t]) for t in range(threads)])
-            for j in range(1, finished + 1)]
-    return [f"events {answer.events}", "verdict robust", *cuts, f"share {answer.share}"]
-
-
-def verdict_lines(data: bytes, judging=judge) -> list[str]:
-    """ "Reads a trace from standard input; over 65,535 bytes it prints `refused 13 0`." """
-    if len(data) > MAX_INPUT:
-        return ["refused 13 0"]
-    m = run(data)
-    finished, threads = (0, 0) if isinstance(m, Refused) else (m.stretch - 1, m.threads)
-    return answer_lines(judging(data), finished, threads)
-
-
-def window_lines(answer: Answer) -> list[str]:
-    """The lines of a flush fault's windows, as the program `sessions` prints them behind the verdict's: the primary
-    thread, and the first and the last place of each thread that has a window. """
-    if not isinstance(answer, Broken) or answer.primary is None:
-        return []
-    there = [(thread, *ends) for thread, ends in enumerate(answer.windows) if ends is not None]
-    return [f"primary {answer.primary}"] + [f"window {thread} {first} {last}" for thread, first, last in there]
-
-
-def lines_with_windows(data: bytes, judging=judge) -> list[str]:
-    """The lines of the program `verdict`, and behind them those of the windows."""
-    answer = judging(data)
-    return verdict_lines(data, lambda _: answer) + window_lines(answer)

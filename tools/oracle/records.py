@@ -5,7 +5,8 @@ from __future__ import annotations
 from dataclasses import dataclass
 from typing import Optional, Union
 
-BEGIN, ISSUE, COMMIT, LOAD, CLFLUSH, CLFLUSHOPT, SFENCE, MFENCE, CRASH, SKIP_ON, SKIP_OFF, LOCKED = range(1, 13)
+(BEGIN, ISSUE, COMMIT, LOAD, CLFLUSH, CLFLUSHOPT, SFENCE, MFENCE, CRASH, SKIP_ON, SKIP_OFF, LOCKED, SIGNAL,
+ WAIT) = range(1, 15)
 
 # "Kinds and their lengths are one fixed table": kind -> (length, names of the fields).
 KINDS: dict[int, tuple[int, tuple[str, ...]]] = {
@@ -21,6 +22,8 @@ KINDS: dict[int, tuple[int, tuple[str, ...]]] = {
     SKIP_ON: (4, ("thread",)),
     SKIP_OFF: (4, ("thread",)),
     LOCKED: (8, ("thread", "location", "source")),
+    SIGNAL: (4, ("thread",)),
+    WAIT: (6, ("thread", "source")),
 }
 
 
