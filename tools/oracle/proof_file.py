@@ -4,6 +4,7 @@ python3 proof_file.py cases > ../../crates/model/proofs/Cases.antt
 python3 proof_file.py trade > ../../crates/model/proofs/CasesOfTrade.antt
 python3 proof_file.py windows > ../../crates/model/proofs/CasesOfWindows.antt
 python3 proof_file.py locked > ../../crates/model/proofs/CasesOfLocked.antt
+python3 proof_file.py handed > ../../crates/model/proofs/CasesOfHandOver.antt
 python3 proof_file.py random SEED COUNT > ../../crates/model/proofs/RandomSessions.antt
 
 The expected answers of the random sessions come from the brute force of oracle.py; those of all others are the ones
@@ -19,16 +20,18 @@ from typing import Iterable
 
 import generate
 import oracle
+from lines import lines_with_windows
 from oracle import Event, Refused
-from sessions import CASES, ERRORS, LOCKED, WINDOWS
+from sessions import CASES, ERRORS, HANDED, LOCKED, WINDOWS
 
 CONSTRUCTORS = {oracle.BEGIN: "Begin", oracle.ISSUE: "Issue", oracle.COMMIT: "Commit", oracle.LOAD: "Load",
                 oracle.CLFLUSH: "Clflush", oracle.CLFLUSHOPT: "Clwb", oracle.SFENCE: "Sfence", oracle.MFENCE: "Mfence",
-                oracle.CRASH: "Crash", oracle.SKIP_ON: "SkipOn", oracle.SKIP_OFF: "SkipOff", oracle.LOCKED: "Locked"}
+                oracle.CRASH: "Crash", oracle.SKIP_ON: "SkipOn", oracle.SKIP_OFF: "SkipOff", oracle.LOCKED: "Locked",
+                oracle.SIGNAL: "Signal", oracle.WAIT: "Wait"}
 
-LISTS = {"cases": CASES, "trade": ERRORS, "windows": WINDOWS, "locked": LOCKED}
+LISTS = {"cases": CASES, "trade": ERRORS, "windows": WINDOWS, "locked": LOCKED, "handed": HANDED}
 THEOREMS = {"cases": "cases-1-to-11", "trade": "errors-of-the-trade", "windows": "windows-as-worked",
-            "locked": "locked-as-worked", "random": "random-sessions"}
+            "locked": "locked-as-worked", "handed": "handed-as-worked", "random": "random-sessions"}
 
 # What stands on top of the file, and behind it SHOWN.
 HEADERS = {
@@ -42,6 +45,9 @@ HEADERS = {
     "locked": """Document 02, job 2, "Locked operations in one record": a session for each thing that the load, the
         issue and the commit of such a record do, that turns it away, or that it does to a window. The definitions give
         their bytes the answers that follow from documents 01 and 02, and the cut buffers.""",
+    "handed": """Document 02, job 4, "Work handed over through ordinary memory": a session for each thing that a signal
+        passes on or not, that a wait hands over to or not, that turns either away, or that they do to a window. The
+        definitions give their bytes the answers that follow from documents 01 and 02, and the cut buffers.""",
     "random": """Random sessions: the definitions give their bytes the answers of an independent brute force over all
         choices (tools/oracle).""",
 }
@@ -202,7 +208,7 @@ def random_sessions(seed: int, count: int) -> list[tuple[str, bytes, list[str]]]
     """Sessions that can be read whole, with the brute force's lines."""
     drawn = generate.generate(seed, 4 * count, generate.Limits())
     whole = [(data, answer) for data, answer in drawn if readable(data)][:count]
-    return [(f"session {number}", data, oracle.lines_with_windows(data, lambda _: answer))
+    return [(f"session {number}", data, lines_with_windows(data, lambda _: answer))
             for number, (data, answer) in enumerate(whole, 1)]
 
 

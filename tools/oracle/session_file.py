@@ -14,8 +14,9 @@ from pathlib import Path
 
 import generate
 import oracle
+from lines import lines_with_windows
 from oracle import Refused
-from sessions import CASES, EDGES, ERRORS, LOCKED, LOOKUPS, MORE_REFUSALS, ORDERS, REFUSALS, WINDOWS
+from sessions import CASES, EDGES, ERRORS, HANDED, LOCKED, LOOKUPS, MORE_REFUSALS, ORDERS, REFUSALS, WINDOWS
 from sessions import show, without_windows
 
 LONGEST = 32767  # the program's room for a trace; the program `verdict` is run on longer input by tests/verdict
@@ -42,7 +43,7 @@ def listed() -> list[Pair]:
     for name, data, expected in CASES + REFUSALS + MORE_REFUSALS + EDGES + ERRORS:
         if len(data) <= LONGEST:
             pairs += judged("j", name, data, without_windows(expected))
-    for name, data, expected in WINDOWS + LOCKED + LOOKUPS:
+    for name, data, expected in WINDOWS + LOCKED + LOOKUPS + HANDED:
         pairs += judged("w", name, data, expected.split(" / "))
     for name, data, first, second, answer in ORDERS:
         pairs.append((f"# order: {name}", [f"# order: {name}"]))
@@ -84,7 +85,7 @@ def random_judged() -> list[Pair]:
     """Random sessions: robust, broken and refused."""
     pairs: list[Pair] = []
     for data, answer in generate.generate(SEED, RANDOM_JUDGED, generate.Limits()):
-        pairs += judged("w", show(data), data, oracle.lines_with_windows(data, lambda _, known=answer: known))
+        pairs += judged("w", show(data), data, lines_with_windows(data, lambda _, known=answer: known))
     return pairs
 
 

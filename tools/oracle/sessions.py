@@ -1,8 +1,9 @@
 """Sessions of documents 01 and 02 with their expected answers, written down by hand from these documents.
 
 Notation, separated by blanks (T thread, L location, S source):
-I0.1 issue, C0 commit, L0.1<3 load from 3, R0.1<3 locked operation (kind 12) from 3, F0.1 clflush, O0.1 clflushopt or
-clwb, SF0 sfence, MF0 mfence, X crash, SKIP0 skip on, UNSKIP0 skip off, B1.2.2 begin (version, threads, locations).
+I0.1 issue, C0 commit, L0.1<3 load from 3, R0.1<3 locked operation (kind 12) from 3, S0 signal (kind 13), W1<3 wait
+(kind 14) for signal 3, F0.1 clflush, O0.1 clflushopt or clwb, SF0 sfence, MF0 mfence, X crash, SKIP0 skip on, UNSKIP0
+skip off, B1.2.2 begin (version, threads, locations).
 
 `python3 sessions.py` compares the oracle with every expectation and prints 'N passed, 0 failed'.
 """
@@ -14,11 +15,12 @@ import sys
 from typing import Callable, Optional
 
 import oracle
+from lines import lines_with_windows
 from oracle import Event, Refused
 
 LETTERS = {"B": oracle.BEGIN, "I": oracle.ISSUE, "C": oracle.COMMIT, "L": oracle.LOAD, "F": oracle.CLFLUSH,
            "O": oracle.CLFLUSHOPT, "SF": oracle.SFENCE, "MF": oracle.MFENCE, "X": oracle.CRASH,
-           "SKIP": oracle.SKIP_ON, "UNSKIP": oracle.SKIP_OFF, "R": oracle.LOCKED}
+           "SKIP": oracle.SKIP_ON, "UNSKIP": oracle.SKIP_OFF, "R": oracle.LOCKED, "S": oracle.SIGNAL, "W": oracle.WAIT}
 NAMES = {kind: letters for letters, kind in LETTERS.items()}
 
 
@@ -30,8 +32,9 @@ def parse_event(word: str) -> Event:
 
 def show_event(event: Event) -> str:
     """One word of the notation for an event."""
-    text = ".".join(str(value) for value in event.fields[:3 if event.kind == oracle.BEGIN else 2])
-    return NAMES[event.kind] + text + (f"<{event.get('source')}" if event.has("source") else "")
+    numbers = [str(value) for value in event.fields]
+    source = "<" + numbers.pop() if event.has("source") else ""
+    return NAMES[event.kind] + ".".join(numbers) + source
 
 
 def show(data: bytes) -> str:
@@ -121,9 +124,14 @@ MORE_REFUSALS: list[tuple[str, bytes, str]] = [
     ("bytes missing before unknown kind", raw("08 00 63 00"), "refused 2 0"),
     ("unknown kind before wrong length", B + raw("03 00 63 00 00"), "refused 3 1"),
     ("kind 0", B + raw("02 00 00 00"), "refused 3 1"),
-    ("kind 13", B + raw("02 00 0d 00"), "refused 3 1"),
+    ("kind 15", B + raw("02 00 0f 00"), "refused 3 1"),
     ("kind 12 with the length of a crash", B + raw("02 00 0c 00"), "refused 4 1"),
     ("bytes end inside kind 12", B + raw("08 00 0c 00 00 00 00 00 00"), "refused 2 1"),
+    ("a signal with the length of a wait", B + raw("06 00 0d 00 00 00 00 00"), "refused 4 1"),
+    ("a signal with the length of a crash", B + raw("02 00 0d 00"), "refused 4 1"),
+    ("a wait with the length of a signal", B + raw("04 00 0e 00 00 00"), "refused 4 1"),
+    ("a wait with the length of a load", B + raw("08 00 0e 00 00 00 00 00 00 00"), "refused 4 1"),
+    ("bytes end inside a wait", B + raw("06 00 0e 00 00 00 00"), "refused 2 1"),
     ("kind 256 + 9", B + raw("02 00 09 01"), "refused 3 1"),
     ("odd length for the kind", B + raw("03 00 09 00 00"), "refused 4 1"),
     ("wrong length before no begin", raw("04 00 09 00 00 00"), "refused 4 0"),
@@ -154,6 +162,7 @@ MORE_REFUSALS: list[tuple[str, bytes, str]] = [
     ("load from the commit before the last", B + body("I0.0 C0 I0.0 C0 L0.0<1"), "refused 9 5"),
     ("load from another location", B + body("I0.0 C0 X L0.1<1"), "refused 9 4"),
     ("load from a commit's number", B + body("I0.0 C0 L0.0<2"), "refused 9 3"),
+    ("load from a signal's number", B + body("I0.0 C0 S0 X L0.0<3"), "refused 9 5"),
     ("load in a skip is checked", B + body("SKIP0 L0.0<1"), "refused 9 2"),
     ("a refusal outranks broken", session("I0.0 C0 X L0.0<1 L0.0<0 C0"), "refused 10 6"),
     ("locked operation: the own waiting store is no source", B + body("I0.0 R0.0<1"), "refused 11 2"),
@@ -162,6 +171,14 @@ MORE_REFUSALS: list[tuple[str, bytes, str]] = [
     ("locked operation beside another's waiting store", session("I0.0 R1.0<0"),
      "events 2 / verdict robust / share 100"),
     ("locked operation after its thread's waiting store was dropped", B + body("I0.0 X R0.0<0"),
+     "events 3 / verdict robust / cut 1 0 / share 100"),
+    ("a wait for a wait", session("S0 W1<1 W0<2"), "refused 18 3"),
+    ("a wait for 257, whose low byte is a signal's number", session("S0 W1<257"), "refused 18 2"),
+    ("a wait in a skip is checked", session("SKIP0 W0<1"), "refused 18 2"),
+    ("a signal in a skip is checked", session("SKIP0 I0.0 S0"), "refused 11 3"),
+    ("signal beside another's waiting store", session("I0.0 S1"), "events 2 / verdict robust / share 100"),
+    ("signal behind a locked operation", B + body("R0.0<0 S0"), "events 2 / verdict robust / share 100"),
+    ("signal after its thread's waiting store was dropped", B + body("I0.0 X S0"),
      "events 3 / verdict robust / cut 1 0 / share 100"),
     ("own waiting store before another's commit", session("I0.0 I1.0 C1 L0.0<1"),
      "events 4 / verdict robust / share 100"),
@@ -180,6 +197,8 @@ EDGES: list[tuple[str, bytes, str]] = [
      "events 2048 / verdict broken / load 2048 / missing 1 / observed 1 / kind contradiction"),
     ("locked operation at 2,048", B + body("SF0 " * 2047 + "R0.0<0"), "events 2048 / verdict robust / share 100"),
     ("its three records from 2,048 on", B + body("SF0 " * 2047 + "L0.0<0 I0.0 C0"), "refused 13 2049"),
+    ("wait at 2,048", B + body("SF0 " * 2046 + "S0 W0<2047"), "events 2048 / verdict robust / share 100"),
+    ("event 2,049 is a wait for no signal", B + body("SF0 " * 2048 + "W0<0"), "refused 13 2049"),
     ("7 crashes", B + body("X " * 7), "events 7 / verdict robust / cut 1 0 / cut 2 0 / cut 3 0 / cut 4 0 / cut 5 0"
      " / cut 6 0 / cut 7 0 / share 100"),
     ("8 crashes", B + body("X " * 8), "refused 13 8"),
@@ -402,6 +421,56 @@ LOOKUPS: list[tuple[str, bytes, str]] = [
      "events 8 / verdict broken / load 8 / missing 3 / observed 3 / kind contradiction"),
 ]
 
+# Document 02, job 4, "Work handed over through ordinary memory": what the session shows, trace, lines as above.
+HANDED: list[tuple[str, bytes, str]] = [
+    ("1 is issued before the signal 3, and 5 after the wait for it: 1 happens before 5, with no load between them",
+     session("I0.0 C0 S0 W1<3 I1.1 C1 X L0.0<0 L0.1<5"),
+     "events 9 / verdict broken / load 9 / missing 1 / observed 5 / kind flush / primary 0 / window 1 5 5"),
+    ("the same without the wait: a signal alone orders nothing",
+     session("I0.0 C0 S0 I1.1 C1 X L0.0<0 L0.1<4"), "events 8 / verdict robust / cut 1 0 1 / share 50"),
+    ("a signal is turned away while a store of its thread waits", session("I0.0 S0"), "refused 11 2"),
+    ("a wait for an issue", session("I0.0 C0 W1<1"), "refused 18 3"),
+    ("a wait for a signal of an earlier stretch", session("S0 X W1<1"), "refused 18 3"),
+    ("a wait for 0", session("S0 W1<0"), "refused 18 2"),
+    ("a wait for itself", session("S0 W1<2"), "refused 18 2"),
+    ("a wait for a later signal", session("W1<2 S0"), "refused 18 1"),
+    ("no such thread goes before a source that is no signal", session("S0 W1<2", threads=1), "refused 7 2"),
+    ("a thread that waits behind its signal hands on what it had at the signal: 3 does not pass 1 on",
+     session("I0.0 C0 S1 S0 W1<4 W2<3 I2.8 C2 X L0.0<0 L0.8<7", locations=9),
+     "events 11 / verdict robust / cut 1 0 0 1 / share 50"),
+    ("a wait for a signal of its own thread passes, and hands nothing over to another thread",
+     session("I0.0 C0 S0 W0<3 I1.8 C1 X L0.0<0 L0.8<5", locations=9),
+     "events 9 / verdict robust / cut 1 0 1 / share 50"),
+    ("a wait needs no empty queue; 4, issued before it and committed after it, may be in without 1, and 6 may not",
+     session("I0.0 C0 S0 I1.1 W1<3 I1.8 C1 C1 X L0.0<0 L0.1<4 L0.8<6", locations=9),
+     "events 12 / verdict broken / load 12 / missing 1 / observed 6 / kind flush / primary 0 / window 1 6 6"),
+    ("the signal 3 hands 1 over; 4, issued after it, is not handed over: the wait names 3, and not the later signal 6",
+     session("I0.1 C0 S0 I0.0 C0 S0 W1<3 I1.8 C1 X L0.0<0 L0.8<8", locations=9),
+     "events 12 / verdict robust / cut 1 1 1 / share 66"),
+    ("a signal passes on what came by a load; its thread, which stores nothing, has no last place",
+     session("I0.0 C0 L1.0<1 S1 W2<4 I2.8 C2 X L0.0<0 L0.8<6", locations=9),
+     "events 10 / verdict broken / load 10 / missing 1 / observed 6 / kind flush / primary 0 / window 2 6 6"),
+    ("a signal passes on what came by an earlier wait, which stands in a skip: a chain over three threads",
+     session("I0.0 C0 S0 SKIP1 W1<3 S1 W2<6 I2.8 C2 X L0.0<0 L0.8<8", locations=9),
+     "events 12 / verdict broken / load 12 / missing 1 / observed 8 / kind flush / primary 0 / window 2 8 8"),
+    ("two waits for one signal: it hands over to both threads, and 5 does not happen before 8",
+     session("I0.0 C0 S0 W1<3 I1.1 C1 W2<3 I2.8 C2 X L0.0<0 L0.8<8", locations=9),
+     "events 12 / verdict broken / load 12 / missing 1 / observed 8 / kind flush / primary 0 / window 2 8 8"),
+    ("of two waits the second one's signal passes 2 on; it is earlier than the load from 2, and the first place is 8",
+     session("S0 I0.0 C0 S0 W1<1 SF1 W1<4 L1.0<2 I1.8 C1 X L0.0<0 L0.8<9", locations=9),
+     "events 13 / verdict broken / load 13 / missing 2 / observed 9 / kind flush / primary 0 / window 1 8 9"),
+    ("the load from 1 is earlier than the wait that hands it over: the first place is one past the load",
+     session("I0.0 C0 S0 L1.0<1 W1<3 I1.8 C1 X L0.0<0 L0.8<6", locations=9),
+     "events 10 / verdict broken / load 10 / missing 1 / observed 6 / kind flush / primary 0 / window 1 5 6"),
+    ("a second hand-over brings 5 before 10, and a wait for the own signal 3 behind it adds nothing: both have windows",
+     session("I0.0 C0 S0 W1<3 I1.1 C1 S1 W0<7 W0<3 I0.8 C0 X L0.0<0 L0.8<10", locations=9),
+     "events 14 / verdict broken / load 14 / missing 1 / observed 10 / kind flush / primary 0 / window 0 2 10"
+     " / window 1 5 5"),
+    ("a hand-over in stretch 2: the signal 6 passes 4 on, and nothing of stretch 1",
+     session("I0.0 C0 X I0.1 C0 S0 W1<6 I1.8 C1 X L0.0<0 L0.8<8", locations=9),
+     "events 12 / verdict robust / cut 1 0 0 / cut 2 1 1 / share 66"),
+]
+
 # Order queries: name, trace, first, second, expected answer.
 ORDERS: list[tuple[str, bytes, int, int, object]] = [
     ("query 0", B, 0, 0, Refused(16, 0)),
@@ -421,6 +490,23 @@ ORDERS: list[tuple[str, bytes, int, int, object]] = [
     ("by a locked operation to a later store", session("I0.0 C0 R1.0<1 I1.1"), 1, 4, "before"),
     ("an earlier store of its thread and its source", session("I1.1 C1 I0.0 C0 R1.0<3"), 1, 3, "neither"),
     ("a crossing locked operation adds nothing", session("I0.0 C0 X R1.0<1"), 1, 4, "neither"),
+    ("query of a signal", session("I0.0 C0 S0 W1<3"), 1, 3, Refused(16, 0)),
+    ("query of a wait", session("I0.0 C0 S0 W1<3"), 4, 1, Refused(16, 0)),
+    ("query of a signal twice", session("S0"), 1, 1, Refused(16, 0)),
+    ("by a hand-over", session("I0.0 C0 S0 W1<3 I1.1"), 1, 5, "before"),
+    ("by a hand-over, the other way", session("I0.0 C0 S0 W1<3 I1.1"), 5, 1, "after"),
+    ("by a hand-over to a store two further on", session("I0.0 C0 S0 W1<3 I1.1 I1.0"), 1, 6, "before"),
+    ("issued before the wait", session("I0.0 C0 S0 I1.1 W1<3 C1"), 1, 4, "neither"),
+    ("issued after the signal", session("S0 I0.0 C0 W1<1 I1.1"), 2, 5, "neither"),
+    ("loaded after the signal", session("I2.0 C2 S0 L0.0<1 W1<3 I1.1"), 1, 6, "neither"),
+    ("of two signals the one named", session("S0 I0.0 C0 S0 W1<1 I1.1"), 2, 6, "neither"),
+    ("a wait of a third thread", session("I0.0 C0 S0 W1<3 I2.1"), 1, 5, "neither"),
+    ("a wait hands nothing back", session("S0 I1.1 C1 W1<1 I0.0"), 2, 5, "neither"),
+    ("the first of two waits", session("I0.0 C0 S0 S1 W2<3 W2<4 I2.1"), 1, 7, "before"),
+    ("a hand-over in skips", session("I0.0 C0 SKIP0 S0 SKIP1 W1<4 I1.1"), 1, 7, "before"),
+    ("a hand-over to a locked operation", session("I0.0 C0 S0 W1<3 R1.1<0"), 1, 5, "before"),
+    ("a hand-over, then a load", session("I0.0 C0 S0 W1<3 I1.1 C1 L2.1<5 I2.0"), 1, 8, "before"),
+    ("a hand-over before a crash orders nothing behind it", session("I0.0 C0 S0 W1<3 X I0.0 I1.1"), 6, 7, "neither"),
 ]
 
 
@@ -428,12 +514,18 @@ def record_checks() -> list[tuple[str, bool]]:
     """The record layer: reading one record, framing, writing, refusal 17."""
     crash, output = Event(oracle.CRASH), bytearray(b"\xaa" * 6)
     large, locked = Event(oracle.LOAD, (65535, 65535, 65535)), raw("08 00 0c 00 01 00 02 00 03 00")
+    signal, wait = raw("04 00 0d 00 01 00"), raw("06 00 0e 00 01 00 03 00")
     return [
         ("read: no bytes", oracle.read_record(b"") == Refused(1, 0)),
         ("read: ignores what follows", oracle.read_record(body("C0") + b"\0\0") == Event(oracle.COMMIT, (0,))),
         ("read: ranges are the judge's matter", oracle.read_record(oracle.encode(large)) == large),
         ("read: locked operation", oracle.read_record(locked) == Event(oracle.LOCKED, (1, 2, 3))),
         ("write: locked operation", body("R1.2<3") == locked),
+        ("read: signal", oracle.read_record(signal) == Event(oracle.SIGNAL, (1,))),
+        ("write: signal", body("S1") == signal),
+        ("read: wait", oracle.read_record(wait) == Event(oracle.WAIT, (1, 3))),
+        ("write: wait", body("W1<3") == wait),
+        ("show: every kind with a source", show(body("L0.1<2 R0.1<3 S1 W1<3")) == "L0.1<2 R0.1<3 S1 W1<3"),
         ("write: crash into 3 bytes", oracle.write_event(crash, bytearray(3)) == Refused(17, 0)),
         ("write: crash into 6 bytes", oracle.write_event(crash, output) is None),
         ("write: no other bytes", bytes(output) == raw("02 00 09 00 aa aa")),
@@ -455,9 +547,9 @@ def self_test() -> list[tuple[str, bool]]:
     """All comparisons: a name and whether it holds."""
     results: list[tuple[str, bool]] = []
     judges: list[tuple[str, Callable]] = [("judge", oracle.judge), ("judge_closure", oracle.judge_closure)]
-    for name, data, expected in CASES + REFUSALS + MORE_REFUSALS + EDGES + ERRORS + WINDOWS + LOCKED + LOOKUPS:
+    for name, data, expected in CASES + REFUSALS + MORE_REFUSALS + EDGES + ERRORS + WINDOWS + LOCKED + LOOKUPS + HANDED:
         for label, judging in judges:
-            results.append((f"{name} ({label})", " / ".join(oracle.lines_with_windows(data, judging)) == expected))
+            results.append((f"{name} ({label})", " / ".join(lines_with_windows(data, judging)) == expected))
     for name, data, first, second, answer in ORDERS:
         results.append((f"order: {name}", oracle.order(data, first, second) == answer))
     return results + record_checks()
