@@ -4,8 +4,10 @@
 mod damage;
 mod draft;
 mod mistakes;
+mod settings;
 
-use draft::{Draft, Settings};
+use draft::Draft;
+use settings::Settings;
 use std::cell::Cell;
 
 /// The largest number of a kind.

@@ -1,6 +1,7 @@
 //! Traces with a record that some rule turns away, and random records.
 
-use super::draft::{Draft, Settings};
+use super::draft::Draft;
+use super::settings::Settings;
 use super::{Random, KINDS};
 
 /// A trace that is allowed up to a record which breaks a drawn rule, and perhaps others besides. Records may follow.
