@@ -52,8 +52,14 @@ pub struct Counts {
     pub missing_locked: u64,
     /// Broken traces whose observed store is a locked operation's.
     pub observed_locked: u64,
+    /// Accepted traces with a wait.
+    pub waits: u64,
+    /// Broken traces that are robust with an sfence in place of each wait.
+    pub broken_by_waits: u64,
+    /// Traces judged broken by a missing flush with a window that a wait opens.
+    pub opened_by_waits: u64,
     /// Refused traces, by the number of the refusal.
-    pub refused: [u64; 14],
+    pub refused: [u64; 19],
     /// Accepted traces that were also judged by trying all choices.
     pub all_choices: u64,
     /// Broken traces among those.
@@ -107,11 +113,13 @@ impl Comparison {
         let accepted = reference::accept(trace);
         let expected = accepted.as_ref().map(Accepted::verdict).map_err(|refusal| *refusal);
         self.count(&expected);
-        if let Ok(verdict) = &expected {
-            self.count_locked(&locked_operations(trace), verdict);
-        }
         self.check_judge(trace, &expected, random)?;
         same("fast judge", self.fast.judge(trace), expected)?;
+        if let Ok(verdict) = &expected {
+            let events = events_of(trace);
+            self.count_locked(&events, verdict);
+            self.count_waits(&events, verdict);
+        }
         if random.once_in(2) {
             self.check_all_choices(trace, &expected)?;
         }
@@ -152,15 +160,34 @@ impl Comparison {
     }
 
     /// Counts what a verdict says of the locked operations of its trace.
-    fn count_locked(&mut self, operations: &[(u16, u16)], verdict: &Verdict) {
-        self.counts.locked += u64::from(!operations.is_empty());
+    fn count_locked(&mut self, events: &[Event], verdict: &Verdict) {
+        self.counts.locked += u64::from(events.iter().any(|event| matches!(event, Event::Locked { .. })));
         let &Verdict::Broken { load, missing, observed, kind, .. } = verdict else { return };
-        let thread_of = |number| operations.iter().find(|(event, _)| *event == number).map(|(_, thread)| *thread);
+        let thread_of = |number: u16| match events[usize::from(number)] {
+            Event::Locked { thread, .. } => Some(thread),
+            _ => None,
+        };
         self.counts.load_locked += u64::from(thread_of(load).is_some());
         self.counts.missing_locked += u64::from(thread_of(missing).is_some());
         self.counts.observed_locked += u64::from(thread_of(observed).is_some());
         if let (Some(thread), Kind::Flush(windows)) = (thread_of(observed), kind) {
             self.counts.observing_without_window += u64::from(windows.threads[usize::from(thread)].is_none());
+        }
+    }
+
+    /// Counts what a verdict owes to the waits of its trace.
+    fn count_waits(&mut self, events: &[Event], verdict: &Verdict) {
+        let is_wait = |event: &Event| matches!(event, Event::Wait { .. });
+        if !events.iter().any(is_wait) {
+            return;
+        }
+        self.counts.waits += 1;
+        let &Verdict::Broken { kind, .. } = verdict else { return };
+        let without = self.fast.judge(&without_waits(events));
+        self.counts.broken_by_waits += u64::from(matches!(without, Ok(Verdict::Robust { .. })));
+        if let Kind::Flush(windows) = kind {
+            let opens = |window: &Window| is_wait(&events[usize::from(window.first) - 1]);
+            self.counts.opened_by_waits += u64::from(windows.threads.iter().flatten().any(opens));
         }
     }
 
@@ -217,7 +244,7 @@ impl Comparison {
         }
     }
 
-    /// Order queries on an accepted trace: all pairs if it is small, else one.
+    /// Order queries on an accepted trace: all pairs if it is small, else one, which may be that of the evidence.
     fn check_orders(
         &mut self,
         trace: &[u8],
@@ -234,7 +261,10 @@ impl Comparison {
                 }
             }
         } else if random.once_in(2) {
-            let [first, second] = [0, 1].map(|_| random.between(0, events + 1));
+            let [first, second] = match *expected {
+                Ok(Verdict::Broken { missing, observed, .. }) if random.once_in(4) => [missing, observed],
+                _ => [0, 1].map(|_| random.between(0, events + 1)),
+            };
             self.check_order(trace, first, second, accepted.order(first, second), random)?;
         }
         Ok(())
@@ -345,18 +375,30 @@ fn check_frame(trace: &[u8], e: usize) -> Result<(), String> {
     same("library, position of a frame", library.map(<[u8]>::as_ptr), expected.map(<[u8]>::as_ptr))
 }
 
-/// The event number and the thread of each locked operation of an accepted trace.
-fn locked_operations(trace: &[u8]) -> Vec<(u16, u16)> {
+/// The events of an accepted trace, each at its number.
+fn events_of(trace: &[u8]) -> Vec<Event> {
     let mut at = 0;
-    let mut operations = Vec::new();
-    for number in 0.. {
-        let Ok((event, next)) = reference::read_at(trace, at) else { break };
-        if let Event::Locked { thread, .. } = event {
-            operations.push((number, thread));
-        }
+    let mut events = Vec::new();
+    while let Ok((event, next)) = reference::read_at(trace, at) {
+        events.push(event);
         at = next;
     }
-    operations
+    events
+}
+
+/// The trace of some events with an sfence in place of each wait.
+fn without_waits(events: &[Event]) -> Vec<u8> {
+    let mut trace = Vec::new();
+    for event in events {
+        let event = match *event {
+            Event::Wait { thread, .. } => Event::Sfence { thread },
+            other => other,
+        };
+        let mut record = [0; LARGEST_RECORD];
+        let size = reference::write(&event, &mut record).expect("the largest record has room");
+        trace.extend_from_slice(&record[..size]);
+    }
+    trace
 }
 
 /// All numbers of the library's answer; the windows thread by thread, so that a difference names the thread.

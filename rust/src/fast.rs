@@ -5,7 +5,7 @@
 //! from 1 over the whole trace. A clock gives for each thread the number of its last store that happens before; a
 //! number of an earlier stretch says that there is none in this one. A crash moves each thread's commits up to its
 //! last issue: so a store waits exactly if its name is above the last committed one of its thread. With that a crash
-//! leaves clocks and locations as they are.
+//! leaves clocks and locations as they are. A signal stands in the table of stores with the clock that it hands over.
 
 use crate::types::{Kind, Refusal, Verdict, Window, Windows, CUT, THREADS};
 
@@ -23,7 +23,7 @@ const NO_KIND: u32 = 1 << 16;
 
 /// The header of each kind's record as one number: the kind above its length.
 const HEADERS: [u32; 16] = {
-    let lengths = [0, 8, 6, 4, 8, 6, 6, 4, 4, 2, 4, 4, 8];
+    let lengths = [0, 8, 6, 4, 8, 6, 6, 4, 4, 2, 4, 4, 8, 4, 6];
     let mut headers = [NO_KIND; 16];
     let mut kind = 1;
     while kind < lengths.len() {
@@ -39,12 +39,13 @@ type Clock = [i16; THREADS];
 /// The event number of a store, 0 for none, or t - 8 for the place before the first store of thread t.
 type Name = i16;
 
-/// A store, in the table at its name.
+/// A store, in the table at its name; or a signal, at its event number.
 #[derive(Clone, Copy, Default)]
 struct Store {
-    /// The last store of each thread that happens before this one; of its own thread, this one.
+    /// The last store of each thread that happens before this one; of its own thread, this one. Of a signal, the last
+    /// store of each thread that it hands over.
     clock: Clock,
-    /// The call in which it was committed. Another number is a leftover.
+    /// The call in which it was committed; of a signal, one more than its call. Another number is a leftover.
     call: u32,
     location: u16,
     /// The next store of the same thread, if there is one.
@@ -126,6 +127,7 @@ pub struct Fast {
     /// The number of stores committed in finished stretches.
     committed: u32,
     evidence: Option<Evidence>,
+    /// The number of the call, which is even.
     call: u32,
 }
 
@@ -157,7 +159,7 @@ impl Fast {
     ///
     /// # Errors
     ///
-    /// The refusal (1 to 13) if the trace is not accepted.
+    /// The refusal (1 to 13 or 18) if the trace is not accepted.
     pub fn judge(&mut self, trace: &[u8]) -> Result<Verdict, Refusal> {
         let events = self.run(trace)?;
         Ok(self.verdict(trace, events))
@@ -203,12 +205,12 @@ impl Fast {
         Ok(&trace[10..])
     }
 
-    /// Gives the call a number that no store in the table has.
+    /// Gives the call a number that no store or signal in the table has.
     fn next_call(&mut self) {
-        self.call = self.call.wrapping_add(1);
+        self.call = self.call.wrapping_add(2);
         if self.call == 0 {
             self.stores.iter_mut().for_each(|store| store.call = 0);
-            self.call = 1;
+            self.call = 2;
         }
     }
 
@@ -245,6 +247,8 @@ impl Fast {
             9 => self.crash().map(|()| &rest[4..]),
             10 | 11 => self.skip(self.thread(record)?, kind == 10).map(|()| &rest[6..]),
             12 => self.locked(event, self.thread(record)?, field(record, 6), field(record, 8)).map(|()| &rest[10..]),
+            13 => self.signal(event, self.thread(record)?).map(|()| &rest[6..]),
+            14 => self.wait(self.thread(record)?, field(record, 6)).map(|()| &rest[8..]),
             _ => Err(5),
         }
     }
@@ -379,6 +383,32 @@ impl Fast {
         Ok(())
     }
 
+    /// Keeps the clock that a store issued here would have, but for that store itself.
+    #[inline(always)]
+    fn signal(&mut self, event: Name, thread: usize) -> Result<(), u16> {
+        self.check_empty_queue(thread)?;
+        let giver = &self.threads[thread];
+        let signal = &mut self.stores[at(event)];
+        signal.clock = giver.clock;
+        signal.clock[thread] = giver.number;
+        signal.call = self.call + 1;
+        signal.place = self.stretch << 3 | thread as u8;
+        Ok(())
+    }
+
+    /// What the signal hands over happens before what the thread issues next. On its own, so that other records save no
+    /// registers.
+    #[inline(never)]
+    fn wait(&mut self, thread: usize, source: u16) -> Result<(), u16> {
+        let signal = self.stores.get(usize::from(source)).ok_or(18_u16)?;
+        if signal.call != self.call + 1 || signal.stretch() != self.stretch.into() {
+            return Err(18);
+        }
+        let taker = &mut self.threads[thread];
+        taker.clock = larger(&taker.clock, &signal.clock);
+        Ok(())
+    }
+
     /// Marks the stores to a location from the last back to the source. Gives whether one of them must be in.
     fn forbid(&mut self, location: u16, source: u16) -> bool {
         let place = &self.locations[usize::from(location)];
@@ -476,10 +506,11 @@ impl Fast {
         Ok(())
     }
 
-    /// The windows of a flush fault, by a pass over the records behind the missing store up to the observed one, which are
-    /// of one stretch. A store whose clock, for the missing store's thread, is not below that store's own happens after
-    /// it. A window opens behind the thread's first load of such a store, and ends at its last issue that the observed
-    /// store's clock reaches. A locked operation that opens a window is in front of it, so it does not end it.
+    /// The windows of a flush fault, by a pass over the records behind the missing store up to the observed one, which
+    /// are of one stretch. A store whose clock, for the missing store's thread, is not below that store's own happens
+    /// after it, and a signal with such a clock hands it over. A window opens behind the thread's first load of such a
+    /// store or wait for such a signal, and ends at its last issue that the observed store's clock reaches. A locked
+    /// operation that opens a window is in front of it, so it does not end it.
     #[cold]
     fn windows(&self, trace: &[u8], missing: Name, observed: Name) -> Windows {
         let [p, q] = [missing, observed].map(|name| &self.stores[at(name)]);
@@ -494,12 +525,13 @@ impl Fast {
             let thread = usize::from(record[4]) & (THREADS - 1);
             let first = open[thread];
             let reached = || self.stores[at(event)].clock[thread] <= q.clock[thread];
-            let brings = || self.stores[at(field(record, 8) as Name)].clock[primary] >= p.clock[primary];
+            let brings = |source: u16| self.stores[at(source as Name)].clock[primary] >= p.clock[primary];
             match record[2] {
                 2 | 12 if first != 0 && reached() => {
                     threads[thread] = Some(Window { first: first as u16, last: event as u16 });
                 }
-                4 | 12 if first == 0 && brings() => open[thread] = event + 1,
+                4 | 12 if first == 0 && brings(field(record, 8)) => open[thread] = event + 1,
+                14 if first == 0 && brings(field(record, 6)) => open[thread] = event + 1,
                 _ => {}
             }
             rest = behind(rest);
@@ -633,14 +665,24 @@ mod tests {
     }
 
     #[test]
+    fn leftovers_of_earlier_calls_are_no_signals() {
+        let mut fast = Fast::new();
+        let [signal, fence, wait] = [&[4, 0, 13, 0, 0, 0][..], &[4, 0, 7, 0, 0, 0], &[6, 0, 14, 0, 0, 0, 1, 0]];
+        let robust = fast.judge(&[&TRACE[..10], signal, wait].concat());
+        assert!(matches!(robust, Ok(Verdict::Robust { events: 2, share: 100, .. })));
+        let without_signal = [&TRACE[..10], fence, wait].concat();
+        assert_eq!(fast.judge(&without_signal), Err(Refusal { number: 18, event: 2 }));
+    }
+
+    #[test]
     fn the_number_of_the_call_wraps_around() {
         let mut fast = Fast::new();
         let robust = fast.judge(&TRACE);
-        fast.call = u32::MAX - 1;
+        fast.call = u32::MAX - 3;
         for _ in 0..4 {
             assert_eq!(fast.judge(&TRACE), robust);
         }
-        assert_eq!(fast.call, 3);
+        assert_eq!(fast.call, 6);
     }
 
     #[test]
@@ -650,7 +692,7 @@ mod tests {
             let record = [2, 0, low, high];
             let expected = match kind {
                 9 => None,
-                1..=12 => Some(4),
+                1..=14 => Some(4),
                 _ => Some(3),
             };
             assert_eq!(unreadable(&record), expected);

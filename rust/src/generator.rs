@@ -11,7 +11,7 @@ use settings::Settings;
 use std::cell::Cell;
 
 /// The largest number of a kind.
-const KINDS: u16 = 12;
+const KINDS: u16 = 14;
 
 /// A small pseudorandom generator (splitmix64).
 #[derive(Clone, Debug)]
@@ -128,13 +128,19 @@ impl Generator {
         }
     }
 
-    /// An accepted trace of few events.
+    /// An accepted trace of few events. Each third one has many hand-overs by signals, which take more events.
     fn small(&mut self, random: &Random) {
         let events = match random.below(20) {
             0 => random.between(40, 120),
             1..=2 => random.between(0, 17),
             _ => random.between(18, 44),
         };
+        if random.once_in(3) {
+            self.draft.begin_several(random);
+            let settings = Settings::draw_hand_overs(random);
+            self.draft.grow(events + 16, &settings, random);
+            return;
+        }
         self.draft.begin_some(random);
         let settings = Settings::draw(random);
         self.draft.grow(events, &settings, random);
@@ -184,7 +190,7 @@ fn many_events(draft: &mut Draft, mut settings: Settings, random: &Random) {
     settings.crash = 2_000;
     draft.grow(random.pick(&[2_047, 2_048, 2_048, 2_048, 2_049, 2_050]), &settings, random);
     if random.once_in(2) {
-        let rule = random.pick(&[2, 3, 4, 5, 5, 5, 7, 8, 9, 12]);
+        let rule = random.pick(&[2, 3, 4, 5, 5, 5, 7, 8, 9, 12, 18]);
         mistakes::make_mistake(draft, rule, &settings, random);
     }
 }

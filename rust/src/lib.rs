@@ -36,5 +36,6 @@ pub mod reference;
 mod types;
 mod wrapper;
 
-pub use types::{Event, Kind, Order, Refusal, Verdict, Window, Windows, CUT, LARGEST_RECORD, THREADS, WORK};
+pub use types::{Event, Kind, Order, Refusal, Verdict, Window, Windows};
+pub use types::{CUT, LARGEST_RECORD, REFUSALS, THREADS, WORK};
 pub use wrapper::{frame, judge, judge_with, order, order_with, read_at, write, Judge};

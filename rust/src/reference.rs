@@ -22,14 +22,14 @@ pub use records::{frame, read_at, write};
 /// "at most 2,048"
 const EVENTS: u16 = 2_048;
 
-/// An accepted trace: what the machine saw, and which stores happen directly before which.
+/// An accepted trace: what the machine saw, and which stores happen before which.
 pub struct Accepted {
     machine: Machine,
     precedence: Precedence,
     events: u16,
 }
 
-/// "A trace is accepted if no refusal over its records (1 to 13 here) applies."
+/// "A trace is accepted if no refusal over its records (1 to 13 here) applies." Document 02, job 4, adds 18.
 ///
 /// # Errors
 ///
@@ -52,7 +52,7 @@ pub fn accept(trace: &[u8]) -> Result<Accepted, Refusal> {
 ///
 /// # Errors
 ///
-/// The refusal (1 to 13) if the trace is not accepted.
+/// The refusal (1 to 13 or 18) if the trace is not accepted.
 pub fn judge(trace: &[u8]) -> Result<Verdict, Refusal> {
     Ok(accept(trace)?.verdict())
 }
@@ -61,7 +61,7 @@ pub fn judge(trace: &[u8]) -> Result<Verdict, Refusal> {
 ///
 /// # Errors
 ///
-/// The refusal (1 to 13) if the trace is not accepted, "then 16": "query number is no issue".
+/// The refusal (1 to 13 or 18) if the trace is not accepted, "then 16": "query number is no issue".
 pub fn order(trace: &[u8], first: u16, second: u16) -> Result<Order, Refusal> {
     accept(trace)?.order(first, second)
 }

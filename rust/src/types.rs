@@ -12,6 +12,9 @@ pub const THREADS: usize = 8;
 /// The number of bytes of the largest record, its length bytes included.
 pub const LARGEST_RECORD: usize = 10;
 
+/// The numbers of the refusals over the records of a trace.
+pub const REFUSALS: [u16; 14] = [1, 2, 3, 4, 5, 6, 7, 8, 9, 10, 11, 12, 13, 18];
+
 /// What the judge says of an accepted trace.
 #[derive(Clone, Copy, Debug, PartialEq, Eq)]
 pub enum Verdict {
@@ -69,7 +72,7 @@ pub struct Window {
 /// Why a trace, a call or a record is turned away.
 #[derive(Clone, Copy, Debug, PartialEq, Eq)]
 pub struct Refusal {
-    /// The number of the refusal, 1 to 17.
+    /// The number of the refusal, 1 to 18.
     pub number: u16,
     /// The number of the event that is turned away; 0 for the refusals 14 to 17.
     pub event: u16,
@@ -165,6 +168,18 @@ pub enum Event {
         /// The location that is loaded and stored to.
         location: u16,
         /// The source of the load: the event number of the issue of the store that was read, or 0.
+        source: u16,
+    },
+    /// Kind 13: the thread hands over what it has stored and seen, to each thread that waits for this signal.
+    Signal {
+        /// The thread that signals, which has no waiting store.
+        thread: u16,
+    },
+    /// Kind 14: what a signal hands over happens before all stores that the thread issues from here on in the stretch.
+    Wait {
+        /// The thread that waits.
+        thread: u16,
+        /// The event number of the signal, which is earlier in the same stretch.
         source: u16,
     },
 }

@@ -7,7 +7,7 @@ use crate::types::{Event, Kind, Order, Refusal, Verdict, Window, Windows, CUT, T
 ///
 /// # Errors
 ///
-/// The refusal (1 to 13) if the trace is not accepted.
+/// The refusal (1 to 13 or 18) if the trace is not accepted.
 pub fn judge(trace: &[u8]) -> Result<Verdict, Refusal> {
     Judge::new().judge(trace)
 }
@@ -17,7 +17,7 @@ pub fn judge(trace: &[u8]) -> Result<Verdict, Refusal> {
 ///
 /// # Errors
 ///
-/// The refusal (1 to 13) if the trace is not accepted, or 16 if one of the numbers is no issue's (kind 2 or 12).
+/// The refusal (1 to 13 or 18) if the trace is not accepted, or 16 if one of the numbers is no issue's (kind 2 or 12).
 pub fn order(trace: &[u8], first: u16, second: u16) -> Result<Order, Refusal> {
     Judge::new().order(trace, first, second)
 }
@@ -46,7 +46,7 @@ impl Judge {
     ///
     /// # Errors
     ///
-    /// The refusal (1 to 13) if the trace is not accepted.
+    /// The refusal (1 to 13 or 18) if the trace is not accepted.
     pub fn judge(&mut self, trace: &[u8]) -> Result<Verdict, Refusal> {
         judge_with(trace, &mut self.work, &mut self.cut)
     }
@@ -55,7 +55,8 @@ impl Judge {
     ///
     /// # Errors
     ///
-    /// The refusal (1 to 13) if the trace is not accepted, or 16 if one of the numbers is no issue's (kind 2 or 12).
+    /// The refusal (1 to 13 or 18) if the trace is not accepted, or 16 if one of the numbers is no issue's (kind 2 or
+    /// 12).
     pub fn order(&mut self, trace: &[u8], first: u16, second: u16) -> Result<Order, Refusal> {
         order_with(trace, &mut self.work, first, second)
     }
@@ -67,7 +68,7 @@ impl Judge {
 /// # Errors
 ///
 /// 14 if the work area is smaller than [`WORK`] numbers, 15 if the cut buffer is not [`CUT`] numbers (both change
-/// nothing), or the refusal (1 to 13) if the trace is not accepted.
+/// nothing), or the refusal (1 to 13 or 18) if the trace is not accepted.
 pub fn judge_with(trace: &[u8], work: &mut [u16], cut: &mut [u16]) -> Result<Verdict, Refusal> {
     let [refusal, event, verdict, events, share, load, missing, observed, kind, primary, places @ ..] =
         ffi::judge(trace, work, cut);
@@ -89,8 +90,8 @@ pub fn judge_with(trace: &[u8], work: &mut [u16], cut: &mut [u16]) -> Result<Ver
 ///
 /// # Errors
 ///
-/// 14 if the work area is smaller than [`WORK`] numbers (it stays as it was then), the refusal (1 to 13) if the trace
-/// is not accepted, or 16 if one of the numbers is no issue's (kind 2 or 12).
+/// 14 if the work area is smaller than [`WORK`] numbers (it stays as it was then), the refusal (1 to 13 or 18) if the
+/// trace is not accepted, or 16 if one of the numbers is no issue's (kind 2 or 12).
 pub fn order_with(trace: &[u8], work: &mut [u16], first: u16, second: u16) -> Result<Order, Refusal> {
     match ffi::order(trace, work, first, second) {
         [0, _, 1] => Ok(Order::Before),
@@ -155,7 +156,7 @@ fn window_of(first: u16, last: u16) -> Option<Window> {
     (first != 0 || last != 0).then_some(Window { first, last })
 }
 
-/// The event of a record's numbers; `None` if the kind is no number from 1 to 12.
+/// The event of a record's numbers; `None` if the kind is no number from 1 to 14.
 fn event_of(record: &[u16; ffi::RECORD]) -> Option<Event> {
     let [_, kind, version, threads, locations, thread, location, source] = *record;
     Some(match kind {
@@ -171,6 +172,8 @@ fn event_of(record: &[u16; ffi::RECORD]) -> Option<Event> {
         10 => Event::SkipOn { thread },
         11 => Event::SkipOff { thread },
         12 => Event::Locked { thread, location, source },
+        13 => Event::Signal { thread },
+        14 => Event::Wait { thread, source },
         _ => return None,
     })
 }
@@ -190,5 +193,7 @@ pub(crate) fn record_of(event: &Event) -> [u16; ffi::RECORD] {
         Event::SkipOn { thread } => [0, 10, 0, 0, 0, thread, 0, 0],
         Event::SkipOff { thread } => [0, 11, 0, 0, 0, thread, 0, 0],
         Event::Locked { thread, location, source } => [0, 12, 0, 0, 0, thread, location, source],
+        Event::Signal { thread } => [0, 13, 0, 0, 0, thread, 0, 0],
+        Event::Wait { thread, source } => [0, 14, 0, 0, 0, thread, 0, source],
     }
 }

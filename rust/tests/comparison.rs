@@ -2,7 +2,7 @@
 
 use gorbuzte::comparison::Comparison;
 use gorbuzte::generator::{Family, Generator, Random, FAMILIES};
-use gorbuzte::{Judge, Kind, Refusal, Verdict};
+use gorbuzte::{Judge, Kind, Refusal, Verdict, REFUSALS};
 use std::collections::BTreeSet;
 
 const SEED: u64 = 2_026;
@@ -21,10 +21,11 @@ fn the_judges_agree() {
     assert_eq!(counts.traces, TRACES);
     assert!(counts.robust > TRACES / 5 && counts.contradiction + counts.flush > TRACES / 5);
     assert!(counts.robust_with_stores > TRACES / 20 && counts.contradiction > 0 && counts.flush > 0);
-    assert!(counts.refused[1..].iter().all(|&number| number > 0), "{:?}", counts.refused);
+    assert!(REFUSALS.iter().all(|&number| counts.refused[usize::from(number)] > 0), "{:?}", counts.refused);
     assert!(counts.primary_without_window > TRACES / 200 && counts.several_windows > TRACES / 200);
     assert!(counts.locked > TRACES / 5 && counts.observing_without_window > TRACES / 400);
     assert!([counts.load_locked, counts.missing_locked, counts.observed_locked].iter().all(|&met| met > TRACES / 50));
+    assert!(counts.waits > TRACES / 5 && counts.broken_by_waits > TRACES / 50 && counts.opened_by_waits > TRACES / 50);
     assert!(counts.all_choices > TRACES / 5 && counts.all_choices_broken > 0);
     assert!(counts.all_pairs > 0 && counts.queries > 0 && counts.wrong_buffers > 0 && counts.records > 0);
 }

@@ -3,12 +3,8 @@
 
 mod common;
 
-use common::{lines, session, windows};
-use gorbuzte::fast::Fast;
-use gorbuzte::{reference, Judge, Order, Refusal, Verdict};
-
-/// Why, a trace, and the lines of `verdict`, joined by ' / '.
-type Row = (&'static str, &'static str, &'static str);
+use common::{Expected, OrderRow, Row};
+use gorbuzte::{Order, Refusal};
 
 /// "11 also if kind 12's thread has a waiting store, before 9", and the rules that every record has.
 const REFUSALS: &[Row] = &[
@@ -169,7 +165,7 @@ const WINDOWS: &[Row] = &[
 ];
 
 /// "its event number names its store": trace, the two numbers, the answer.
-const ORDERS: &[(&str, u16, u16, Result<Order, Refusal>)] = &[
+const ORDERS: &[OrderRow] = &[
     ("B1.1.2 R0.0<0", 1, 1, Ok(Order::Same)),
     ("B1.1.2 R0.0<0 I0.1", 1, 2, Ok(Order::Before)),
     ("B1.2.2 I0.0 C0 R1.0<1", 1, 3, Ok(Order::Before)),
@@ -181,33 +177,14 @@ const ORDERS: &[(&str, u16, u16, Result<Order, Refusal>)] = &[
     ("B1.2.2 R0.0<0 L1.0<1", 1, 2, Err(Refusal { number: 16, event: 0 })),
 ];
 
-/// Judges each trace with one judge.
-fn check(name: &str, mut judging: impl FnMut(&[u8]) -> Result<Verdict, Refusal>) {
-    for (why, text, expected) in REFUSALS.iter().chain(VERDICTS) {
-        let trace = session(text);
-        assert_eq!(lines(&trace, &judging(&trace)), *expected, "{name}, {why}");
-    }
-    for (why, text, expected) in WINDOWS {
-        assert_eq!(windows(&judging(&session(text))), *expected, "{name}, {why}");
-    }
-}
+const EXPECTED: Expected = Expected { verdicts: &[REFUSALS, VERDICTS], windows: WINDOWS, orders: ORDERS };
 
 #[test]
 fn the_library_judges_locked_operations() {
-    let mut judge = Judge::new();
-    check("library", |trace| judge.judge(trace));
-    for &(text, first, second, expected) in ORDERS {
-        assert_eq!(judge.order(&session(text), first, second), expected, "library, {text}");
-    }
+    EXPECTED.check_library();
 }
 
 #[test]
 fn the_other_judges_judge_locked_operations() {
-    let mut fast = Fast::new();
-    check("fast judge", |trace| fast.judge(trace));
-    check("reference", reference::judge);
-    check("by all choices", |trace| reference::judge_by_all_choices(trace, 100_000).unwrap());
-    for &(text, first, second, expected) in ORDERS {
-        assert_eq!(reference::order(&session(text), first, second), expected, "reference, {text}");
-    }
+    EXPECTED.check_others();
 }

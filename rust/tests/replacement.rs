@@ -23,6 +23,8 @@ struct Replaced {
     as_store: Vec<u16>,
     /// The numbers of the locked operations in the old trace.
     locked: Vec<u16>,
+    /// The number of waits whose signal has another number than in the old trace.
+    moved_waits: u32,
     /// The number of records, the begin included.
     records: u16,
 }
@@ -51,13 +53,23 @@ impl Replaced {
                 self.put(Event::Issue { thread, location });
                 self.put(Event::Commit { thread });
             }
+            Event::Wait { thread, source } => {
+                let signal = self.carried_source(source);
+                self.moved_waits += u32::from(signal != source);
+                self.put(Event::Wait { thread, source: signal });
+            }
             _ => self.put(event),
         }
     }
 
     /// Appends a load whose source is that of the old trace.
     fn put_load(&mut self, thread: u16, location: u16, source: u16) {
-        self.put(Event::Load { thread, location, source: self.as_store[usize::from(source)] });
+        self.put(Event::Load { thread, location, source: self.carried_source(source) });
+    }
+
+    /// A source with its number carried over: that of a store or of a signal.
+    fn carried_source(&self, source: u16) -> u16 {
+        self.as_store[usize::from(source)]
     }
 
     fn put(&mut self, event: Event) {
@@ -82,7 +94,7 @@ impl Replaced {
         }
     }
 
-    /// The window of a thread with its places carried over: one past the missing store or a load, and an issue.
+    /// The window of a thread with its places carried over: one past the missing store, a load or a wait, and an issue.
     fn carried_window(&self, window: Window, primary: bool) -> Window {
         let numbers = if primary { &self.as_store } else { &self.as_load };
         let (first, last) = (usize::from(window.first), usize::from(window.last));
@@ -106,6 +118,7 @@ struct Met {
     missing: u32,
     observed: u32,
     windows_inside: u32,
+    moved_waits: u32,
     pairs: u32,
 }
 
@@ -173,6 +186,7 @@ fn load_issue_and_commit_give_the_same() {
         let what = format!("trace {number} of seed {SEED}");
         let new = reference::accept(&replaced.bytes).expect(&what);
         met.verdict(&old.verdict(), &replaced.locked);
+        met.moved_waits += replaced.moved_waits;
         let (verdict, windows) = without_windows(replaced.carried(old.verdict()));
         let (new_verdict, new_windows) = without_windows(new.verdict());
         assert_eq!(verdict, new_verdict, "{what}");
@@ -183,8 +197,8 @@ fn load_issue_and_commit_give_the_same() {
             met.orders(&old, &new, &replaced, &what);
         }
     }
-    let Met { robust, contradiction, flush, load, missing, observed, windows_inside, pairs } = met;
+    let Met { robust, contradiction, flush, load, missing, observed, windows_inside, moved_waits, pairs } = met;
     assert!(robust + contradiction + flush > 2_000, "{met:?}");
-    let all = [robust, contradiction, flush, load, missing, observed, windows_inside, pairs];
+    let all = [robust, contradiction, flush, load, missing, observed, windows_inside, moved_waits, pairs];
     assert!(all.iter().all(|&number| number > 0), "{met:?}");
 }

@@ -3,13 +3,9 @@
 
 mod common;
 
-use common::{session, windows};
-use gorbuzte::fast::Fast;
-use gorbuzte::{reference, Judge, Refusal, Verdict};
+use common::{Expected, Row};
 
-/// Why, a trace, and the missing and the observed store, the primary thread and each thread's window.
-type Row = (&'static str, &'static str, &'static str);
-
+/// Expected are the missing and the observed store, the primary thread and each thread's window.
 const WINDOWS: &[Row] = &[
     (
         "thread 0's last store before 4 is 1, in front of its first place 2",
@@ -86,23 +82,14 @@ const WINDOWS: &[Row] = &[
     ("a refused trace has none", "B1.1.2 I0.0 C0 I0.1 C0 X L0.0<0 L0.1<3 C0", "none"),
 ];
 
-/// Judges each trace with one judge.
-fn check(name: &str, mut judging: impl FnMut(&[u8]) -> Result<Verdict, Refusal>) {
-    for (why, text, expected) in WINDOWS {
-        assert_eq!(windows(&judging(&session(text))), *expected, "{name}, {why}");
-    }
-}
+const EXPECTED: Expected = Expected { verdicts: &[], windows: WINDOWS, orders: &[] };
 
 #[test]
 fn the_library_answers_windows() {
-    let mut judge = Judge::new();
-    check("library", |trace| judge.judge(trace));
+    EXPECTED.check_library();
 }
 
 #[test]
 fn the_other_judges_answer_windows() {
-    let mut fast = Fast::new();
-    check("fast judge", |trace| fast.judge(trace));
-    check("reference", reference::judge);
-    check("by all choices", |trace| reference::judge_by_all_choices(trace, 100_000).unwrap());
+    EXPECTED.check_others();
 }

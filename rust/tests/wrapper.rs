@@ -137,7 +137,7 @@ fn writing() {
 
 #[test]
 fn each_kind_reads_back() {
-    let words = "B1.2.3 I4.5 C6 L7.8<9 F10.11 O12.13 SF14 MF15 X SKIP16 UNSKIP17 R18.19<20";
+    let words = "B1.2.3 I4.5 C6 L7.8<9 F10.11 O12.13 SF14 MF15 X SKIP16 UNSKIP17 R18.19<20 S21 W22<23";
     let trace = session(words);
     let mut at = 0;
     for number in 0..words.split(' ').count() {
@@ -168,7 +168,7 @@ fn framing() {
 
 #[test]
 fn the_interface_refuses_an_unknown_kind() {
-    for kind in [0, 13, 265, u16::MAX] {
+    for kind in [0, 15, 265, u16::MAX] {
         let mut record = [0, kind, 1, 2, 3, 4, 5, 6];
         let mut output = [0xaa; LARGEST_RECORD];
         assert_eq!(ffi::write(&mut record, &mut output), 0);

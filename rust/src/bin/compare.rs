@@ -2,6 +2,7 @@
 
 use gorbuzte::comparison::{Comparison, Counts};
 use gorbuzte::generator::{Family, Generator, Random, FAMILIES};
+use gorbuzte::REFUSALS;
 use std::process::ExitCode;
 use std::time::Instant;
 
@@ -52,8 +53,10 @@ fn print_counts(counts: &Counts, made: &[u64]) {
         "broken, with a locked operation as load: {}, as missing: {}, as observed: {}",
         counts.load_locked, counts.missing_locked, counts.observed_locked
     );
-    for (refusal, number) in counts.refused.iter().enumerate().skip(1) {
-        println!("refused {refusal}: {number}");
+    println!("accepted, with a wait: {}, of them broken by waits alone: {}", counts.waits, counts.broken_by_waits);
+    println!("broken, flush, with a window that a wait opens: {}", counts.opened_by_waits);
+    for refusal in REFUSALS {
+        println!("refused {refusal}: {}", counts.refused[usize::from(refusal)]);
     }
     println!("checked by all choices: {}, of them broken: {}", counts.all_choices, counts.all_choices_broken);
     println!("order queries: {}, traces queried in all pairs: {}", counts.queries, counts.all_pairs);

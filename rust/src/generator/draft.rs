@@ -4,8 +4,11 @@ use super::settings::{Memory, Settings};
 use super::Random;
 use std::collections::VecDeque;
 
-/// The events of a hand-over.
-const HAND_OVER: u16 = 3;
+/// The events by which a store is handed on by a load.
+const HAND_ON: u16 = 3;
+
+/// The most events of a hand-over by a signal.
+const HAND_OVER: u16 = 11;
 
 /// The most events of a compare-and-swap chain.
 const SWAP_CHAIN: u16 = 6;
@@ -32,6 +35,12 @@ pub struct Draft {
     landed: Vec<(u16, u16)>,
     /// The store that stayed at each location, or 0.
     memory: Vec<u16>,
+    /// The signals of this stretch.
+    pub signals: Vec<u16>,
+    /// The signals of earlier stretches.
+    pub ended: Vec<u16>,
+    /// The thread that waited for a signal last.
+    waited: Option<u16>,
 }
 
 impl Draft {
@@ -50,6 +59,9 @@ impl Draft {
             commits: Vec::new(),
             landed: Vec::new(),
             memory: vec![0; 257],
+            signals: Vec::new(),
+            ended: Vec::new(),
+            waited: None,
         }
     }
 
@@ -69,6 +81,9 @@ impl Draft {
         self.commits.clear();
         self.landed.clear();
         self.memory.fill(0);
+        self.signals.clear();
+        self.ended.clear();
+        self.waited = None;
     }
 
     /// Starts a trace of few threads and few used locations.
@@ -77,6 +92,13 @@ impl Draft {
         let locations = random.pick(&[1, 2, 3, 3, 4, 4, 5, 9, 256]);
         self.begin(threads, locations);
         let used = random.pick(&[1, 2, 3, 3, 4, 5]).min(locations);
+        self.use_some(used, random);
+    }
+
+    /// Starts a trace of several threads and several used locations.
+    pub fn begin_several(&mut self, random: &Random) {
+        let used = random.between(3, 6);
+        self.begin(random.pick(&[2, 2, 3, 3, 4, 8]), used + random.between(0, 3));
         self.use_some(used, random);
     }
 
@@ -104,6 +126,11 @@ impl Draft {
     /// Some thread of the trace.
     pub fn some_thread(&self, random: &Random) -> u16 {
         random.between(0, self.threads - 1)
+    }
+
+    /// Some other thread than the one given, if there is another.
+    fn another_thread(&self, thread: u16, random: &Random) -> u16 {
+        (thread + random.between(1, self.threads.max(2) - 1)) % self.threads
     }
 
     /// Some location of those in use.
@@ -138,10 +165,12 @@ impl Draft {
         }
     }
 
-    /// Appends a hand-over or a compare-and-swap chain, if one is drawn and there is room for it, else one event.
+    /// Appends one of the patterns, if one is drawn and there is room for it, else one event.
     fn pattern_or_step(&mut self, room: u16, settings: &Settings, random: &Random) {
-        let handed_over = room >= HAND_OVER && self.hand_over(settings, random);
-        if !handed_over && (room < SWAP_CHAIN || !self.swap_chain(settings, random)) {
+        let drawn = room >= HAND_ON && self.hand_on(settings, random)
+            || room >= HAND_OVER && self.hand_over(settings, random)
+            || room >= SWAP_CHAIN && self.swap_chain(settings, random);
+        if !drawn {
             self.step(settings, random);
         }
     }
@@ -153,8 +182,8 @@ impl Draft {
 
     /// Appends an allowed event that is no crash.
     fn step(&mut self, settings: &Settings, random: &Random) {
-        let Settings { issue, commit, load, flush, fence, skip, locked, .. } = *settings;
-        let weights = [issue, commit, load, flush, fence, skip, locked];
+        let Settings { issue, commit, load, flush, fence, skip, locked, signal, wait, .. } = *settings;
+        let weights = [issue, commit, load, flush, fence, skip, locked, signal, wait];
         let mut drawn = random.below(weights.iter().sum());
         let mut action = 0;
         while drawn >= weights[action] {
@@ -174,8 +203,10 @@ impl Draft {
             4 if self.queues[usize::from(thread)].is_empty() => self.put(random.between(7, 8), &[thread]),
             4 => self.sfence(thread),
             5 => self.skip(thread),
+            8 if !self.signals.is_empty() => self.wait(thread, random.pick(&self.signals)),
             _ => match self.thread_with_queue(true, random) {
-                Some(thread) => self.locked(thread, location, settings, random),
+                Some(thread) if action == 6 => self.locked(thread, location, settings, random),
+                Some(thread) => self.signal(thread),
                 None => self.commit(thread),
             },
         }
@@ -183,16 +214,59 @@ impl Draft {
 
     /// Now and then, another thread loads the store that was committed last, and a store of its own takes effect. Gives
     /// whether that was so. Several in a row are a chain of happens-before over several threads.
-    fn hand_over(&mut self, settings: &Settings, random: &Random) -> bool {
-        if random.below(100) >= settings.hand_over || self.threads == 1 {
+    fn hand_on(&mut self, settings: &Settings, random: &Random) -> bool {
+        if random.below(100) >= settings.hand_on || self.threads == 1 {
             return false;
         }
         let Some(&(_, location, giver)) = self.commits.last() else { return false };
-        let taker = (giver + random.between(1, self.threads - 1)) % self.threads;
+        let taker = self.another_thread(giver, random);
         self.load(taker, location, settings, random);
-        self.issue(taker, self.some_location(random));
-        self.commit(taker);
+        self.store(taker, random);
         true
+    }
+
+    /// Now and then, a thread signals, and one or two threads wait for it, of which most store then; one of them may be
+    /// the thread itself. Before they wait, it may store or load, which is not handed over. Gives whether that was so.
+    /// Several in a row are a chain, in which a thread may pass on what came to it by waits or loads alone.
+    fn hand_over(&mut self, settings: &Settings, random: &Random) -> bool {
+        if random.below(100) >= settings.hand_over {
+            return false;
+        }
+        let Some(giver) = self.giver(random) else { return false };
+        match (random.below(4), self.commits.last()) {
+            (0 | 1, _) => self.store(giver, random),
+            (2, Some(&(_, location, _))) => self.load(giver, location, settings, random),
+            _ => {}
+        }
+        self.signal(giver);
+        let signal = self.events;
+        match random.below(4) {
+            0 => self.store(giver, random),
+            1 => self.load(giver, self.some_location(random), settings, random),
+            _ => {}
+        }
+        for _ in 0..random.pick(&[1, 1, 2]) {
+            let taker = if random.once_in(8) { giver } else { self.another_thread(giver, random) };
+            self.wait(taker, signal);
+            if !random.once_in(3) {
+                self.store(taker, random);
+            }
+        }
+        true
+    }
+
+    /// A thread that may signal: most often the one that waited or committed last.
+    fn giver(&self, random: &Random) -> Option<u16> {
+        let committed = self.commits.last().map(|&(_, _, thread)| thread);
+        let drawn = random.pick(&[self.waited, committed, None]);
+        let drained = |thread: &u16| self.queues[usize::from(*thread)].is_empty();
+        drawn.filter(drained).or_else(|| self.thread_with_queue(true, random))
+    }
+
+    /// Issues a store to some location and commits the thread's oldest one.
+    fn store(&mut self, thread: u16, random: &Random) {
+        self.issue(thread, self.some_location(random));
+        self.commit(thread);
     }
 
     /// Now and then, threads with an empty queue take turns in compare-and-swaps at one location, each of which loads
@@ -206,8 +280,7 @@ impl Draft {
         let end = self.events + random.between(1, SWAP_CHAIN);
         while self.events < end {
             if random.once_in(publishes) && self.events + 2 < end {
-                self.issue(thread, self.some_location(random));
-                self.commit(thread);
+                self.store(thread, random);
             }
             self.locked(thread, location, settings, random);
             thread = self.thread_with_queue(true, random).unwrap_or(thread);
@@ -238,6 +311,18 @@ impl Draft {
     /// Fences, which every thread may at any time.
     pub fn sfence(&mut self, thread: u16) {
         self.put(7, &[thread]);
+    }
+
+    /// A signal of a thread that has no waiting store.
+    pub fn signal(&mut self, thread: u16) {
+        self.put(13, &[thread]);
+        self.signals.push(self.events);
+    }
+
+    /// Waits for a signal of this stretch.
+    pub fn wait(&mut self, thread: u16, signal: u16) {
+        self.put(14, &[thread, signal]);
+        self.waited = Some(thread);
     }
 
     /// Whether a skip of the thread is on.
@@ -302,19 +387,25 @@ impl Draft {
         self.queues.iter_mut().for_each(VecDeque::clear);
         self.current.fill(0);
         self.skips = 0;
+        self.ended.append(&mut self.signals);
+        self.waited = None;
     }
 
     /// Draws what stays of the stretch's stores.
     fn keep(&mut self, memory: Memory, random: &Random) {
         let mut points = [0; 9];
         let all = self.commits.len();
+        let most = if matches!(memory, Memory::LastThread) { all / 2 } else { all };
         for point in &mut points {
-            *point = random.pick(&[0, random.below(all + 1), random.below(all + 1), all]);
+            *point = random.pick(&[0, random.below(most + 1), random.below(most + 1), most]);
+        }
+        if let (Memory::LastThread, Some(&(_, _, thread))) = (memory, self.commits.last()) {
+            points[usize::from(thread)] = all;
         }
         for (place, &(store, location, thread)) in self.commits.iter().enumerate() {
             let point = match memory {
                 Memory::InOrder => points[0],
-                Memory::ByThread => points[usize::from(thread)],
+                Memory::ByThread | Memory::LastThread => points[usize::from(thread)],
                 Memory::ByLocation => points[usize::from(location) % points.len()],
             };
             if place < point {

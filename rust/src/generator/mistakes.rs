@@ -3,11 +3,12 @@
 use super::draft::Draft;
 use super::settings::Settings;
 use super::{Random, KINDS};
+use crate::types::REFUSALS;
 
 /// A trace that is allowed up to a record which breaks a drawn rule, and perhaps others besides. Records may follow.
 pub fn near_miss(draft: &mut Draft, random: &Random) {
     let settings = Settings::draw(random);
-    let rule = random.between(1, 13);
+    let rule = random.pick(&REFUSALS);
     match rule {
         1 => return no_begin(draft, random),
         6 => return bad_begin(draft, random),
@@ -71,6 +72,7 @@ pub fn make_mistake(draft: &mut Draft, rule: u16, settings: &Settings, random: &
             let thread = draft.some_thread(random);
             draft.put(if draft.skips(thread) { 10 } else { 11 }, &[thread]);
         }
+        18 => wrong_signal(draft, random),
         _ if draft.events >= 2_048 => any_record(draft, random),
         _ => draft.put(9, &[]),
     }
@@ -87,6 +89,7 @@ fn prepare(draft: &mut Draft, rule: u16, settings: &Settings, random: &Random) {
         }
         13 if random.once_in(200) => (draft.events..2_048).for_each(|_| draft.sfence(0)),
         13 => (draft.crashes..7).for_each(|_| draft.crash(settings, random)),
+        18 => prepare_signal(draft, settings, random),
         _ => {}
     }
 }
@@ -98,6 +101,17 @@ fn prepare_empty_queue(draft: &mut Draft, settings: &Settings, random: &Random) 
     }
     while draft.thread_with_queue(true, random).is_none() {
         draft.commit(0);
+    }
+}
+
+/// Sees to it that there is a signal and a wait for it, if some thread has an empty queue. A crash may come behind.
+fn prepare_signal(draft: &mut Draft, settings: &Settings, random: &Random) {
+    if let Some(thread) = draft.thread_with_queue(true, random) {
+        draft.signal(thread);
+        draft.wait(draft.some_thread(random), draft.events);
+    }
+    if draft.crashes < 7 && random.once_in(2) {
+        draft.crash(settings, random);
     }
 }
 
@@ -156,14 +170,34 @@ fn wrong_source(draft: &mut Draft, random: &Random) {
     draft.put(kind, &[thread, location, source]);
 }
 
-/// Appends an mfence or a locked operation of a thread that has a waiting store. The source is one that the load rule
-/// allows, or any.
+/// Appends a wait whose source is no signal of its stretch, if one is found in a few draws: one of the last events, the
+/// wait itself, a later number, a signal of an earlier stretch, a number that agrees with a signal's in twelve bits, or
+/// any.
+fn wrong_signal(draft: &mut Draft, random: &Random) {
+    let thread = draft.some_thread(random);
+    let some = |signals: &[u16]| signals.get(random.below(signals.len().max(1))).copied();
+    let mut source = 0;
+    for _ in 0..8 {
+        let near = (draft.events + random.between(0, 6)).saturating_sub(4);
+        let ended = some(&draft.ended).unwrap_or(near);
+        let alike = 4_096 + some(&draft.signals).unwrap_or(near);
+        source = random.pick(&[near, near, ended, ended, alike, any_number(draft, random)]);
+        if !draft.signals.contains(&source) {
+            break;
+        }
+    }
+    draft.put(14, &[thread, source]);
+}
+
+/// Appends an mfence, a signal or a locked operation of a thread that has a waiting store. The source is one that the
+/// load rule allows, or any.
 fn waiting_store(draft: &mut Draft, settings: &Settings, random: &Random) {
     let thread = draft.thread_with_queue(false, random).unwrap_or(0);
     let location = draft.some_location(random);
-    match random.below(3) {
+    match random.below(4) {
         0 => draft.put(8, &[thread]),
-        1 => draft.put(12, &[thread, location, draft.source(thread, location, settings, random)]),
+        1 => draft.put(13, &[thread]),
+        2 => draft.put(12, &[thread, location, draft.source(thread, location, settings, random)]),
         _ => draft.put(12, &[thread, location, any_number(draft, random)]),
     }
 }
@@ -177,7 +211,7 @@ fn any_number(draft: &Draft, random: &Random) -> u16 {
 fn wrong_thread(draft: &mut Draft, random: &Random) {
     let thread = random.pick(&[draft.threads, draft.threads + 1, 8, 9, 256, u16::MAX]).max(draft.threads);
     let location = if random.once_in(2) { draft.locations } else { draft.some_location(random) };
-    let kind = random.pick(&[2, 3, 4, 5, 6, 7, 8, 10, 11, 12]);
+    let kind = random.pick(&[2, 3, 4, 5, 6, 7, 8, 10, 11, 12, 13, 14]);
     put_located(draft, kind, thread, location, random.between(0, draft.events + 1));
 }
 
@@ -190,8 +224,8 @@ fn wrong_location(draft: &mut Draft, random: &Random) {
 
 /// Appends a record of any kind, with the fields that it has.
 fn put_located(draft: &mut Draft, kind: u16, thread: u16, location: u16, source: u16) {
-    let fields = [thread, location, source];
-    let count = [0, 3, 2, 1, 3, 2, 2, 1, 1, 0, 1, 1, 3][usize::from(kind)];
+    let fields = if kind == 14 { [thread, source, 0] } else { [thread, location, source] };
+    let count = [0, 3, 2, 1, 3, 2, 2, 1, 1, 0, 1, 1, 3, 1, 2][usize::from(kind)];
     draft.put(kind, &fields[..count]);
 }
 

@@ -11,7 +11,11 @@ pub struct Settings {
     pub fence: usize,
     pub skip: usize,
     pub locked: usize,
-    /// Of 100 steps, how many are hand-overs.
+    pub signal: usize,
+    pub wait: usize,
+    /// Of 100 steps, how many hand a store on by a load.
+    pub hand_on: usize,
+    /// Of 100 steps, how many are hand-overs by a signal.
     pub hand_over: usize,
     /// Of 100 steps, how many are compare-and-swap chains.
     pub swap_chain: usize,
@@ -36,6 +40,9 @@ pub enum Memory {
     InOrder,
     /// The first stores of each thread.
     ByThread,
+    /// All stores of the thread that committed last, and the first ones of each other thread: a trace in which that
+    /// thread stored what others handed on is often broken.
+    LastThread,
     /// The first stores of each location: such a trace is often broken.
     ByLocation,
 }
@@ -51,7 +58,10 @@ impl Settings {
             fence: random.below(2),
             skip: random.pick(&[0, 0, 0, 1, 2]),
             locked: random.pick(&[0, 0, 1, 4]),
-            hand_over: random.pick(&[0, 0, 15, 40]),
+            signal: random.pick(&[0, 0, 0, 1]),
+            wait: random.pick(&[0, 0, 0, 1]),
+            hand_on: random.pick(&[0, 0, 15, 40]),
+            hand_over: random.pick(&[0, 0, 0, 20]),
             swap_chain: random.pick(&[0, 0, 5, 25]),
             crash: random.pick(&[1_000, 5_000, 9_000, 9_000]),
             commits: random.pick(&[0, 2, 4, 4, 5, 5, 5, 6, 6, 6]),
@@ -59,6 +69,29 @@ impl Settings {
             locked_after_crash: random.pick(&[0, 0, 10, 40]),
             memory: random.pick(&[Memory::InOrder, Memory::ByThread, Memory::ByLocation, Memory::ByLocation]),
             any_source: random.pick(&[0, 300, 600, 1_000]),
+        }
+    }
+
+    /// Some settings for a trace of few events with many hand-overs by signals, few other orders between threads, and a
+    /// memory that keeps the order of each thread alone: if the trace is broken, that is most often by the hand-overs.
+    pub fn draw_hand_overs(random: &Random) -> Self {
+        Settings {
+            issue: 2,
+            load: 1,
+            skip: 0,
+            locked: random.pick(&[0, 0, 1]),
+            signal: 1,
+            wait: 1,
+            hand_on: random.pick(&[0, 0, 10]),
+            hand_over: random.pick(&[40, 70]),
+            swap_chain: 0,
+            crash: 9_000,
+            commits: random.pick(&[3, 4, 5, 6]),
+            loads_after_crash: 24,
+            locked_after_crash: 0,
+            memory: random.pick(&[Memory::ByThread, Memory::LastThread, Memory::LastThread, Memory::LastThread]),
+            any_source: 0,
+            ..Settings::draw(random)
         }
     }
 

@@ -25,7 +25,23 @@ pub struct Load {
     pub counted: bool,
 }
 
-/// The state of the machine and what it has seen. Stores stand in the order of their event numbers, and so do loads.
+/// A signal that the machine accepted.
+pub struct Signal {
+    pub event: u16,
+    pub thread: u16,
+    pub stretch: u16,
+}
+
+/// A wait that the machine accepted. Its source is the event number of a signal.
+pub struct Wait {
+    pub event: u16,
+    pub thread: u16,
+    pub source: u16,
+    pub stretch: u16,
+}
+
+/// The state of the machine and what it has seen. Stores stand in the order of their event numbers, and so do loads,
+/// signals and waits.
 pub struct Machine {
     pub threads: u16,
     locations: u16,
@@ -36,6 +52,8 @@ pub struct Machine {
     commits: usize,
     pub stores: Vec<Store>,
     pub loads: Vec<Load>,
+    pub signals: Vec<Signal>,
+    pub waits: Vec<Wait>,
 }
 
 impl Machine {
@@ -50,12 +68,19 @@ impl Machine {
             commits: 0,
             stores: Vec::new(),
             loads: Vec::new(),
+            signals: Vec::new(),
+            waits: Vec::new(),
         }
     }
 
     /// The number of the store that an event issued.
     pub fn store_of(&self, event: u16) -> Option<usize> {
         self.stores.binary_search_by_key(&event, |store| store.event).ok()
+    }
+
+    /// The number of the signal that an event is.
+    pub fn signal_of(&self, event: u16) -> Option<usize> {
+        self.signals.binary_search_by_key(&event, |signal| signal.event).ok()
     }
 
     /// Takes the record with an event number, or gives the refusal: "1, 5, 13, 6, 7, 8, and the kind's own rule".
@@ -72,6 +97,8 @@ impl Machine {
             Event::SkipOn { thread } => self.skip(thread, true)?,
             Event::SkipOff { thread } => self.skip(thread, false)?,
             Event::Locked { thread, location, source } => self.locked(number, thread, location, source)?,
+            Event::Signal { thread } => self.signal(number, thread)?,
+            Event::Wait { thread, source } => self.wait(number, thread, source)?,
         }
         Ok(())
     }
@@ -164,8 +191,25 @@ impl Machine {
         self.commit(thread)
     }
 
+    /// Document 02, job 4: "Signals are written when visible, so the queue is empty by then."
+    fn signal(&mut self, event: u16, thread: u16) -> Result<(), u16> {
+        self.empty_queue(thread)?;
+        self.signals.push(Signal { event, thread, stretch: self.stretch });
+        Ok(())
+    }
+
+    /// Document 02, job 4: "18 for a wait whose source is no earlier signal of the same stretch, after 7."
+    fn wait(&mut self, event: u16, thread: u16, source: u16) -> Result<(), u16> {
+        let named = self.signal_of(source).map(|signal| &self.signals[signal]);
+        if named.is_none_or(|signal| signal.stretch != self.stretch) {
+            return Err(18);
+        }
+        self.waits.push(Wait { event, thread, source, stretch: self.stretch });
+        Ok(())
+    }
+
     /// "mfence needs an empty queue." Refusal 11: "mfence, queue not empty"; "11 also if kind 12's thread has a waiting
-    /// store".
+    /// store"; "11 for a signal with waiting stores".
     fn empty_queue(&self, thread: u16) -> Result<(), u16> {
         if self.queues[usize::from(thread)].is_empty() {
             Ok(())
@@ -214,7 +258,9 @@ fn places_of(event: &Event) -> (Option<u16>, Option<u16>) {
         | Event::Sfence { thread }
         | Event::Mfence { thread }
         | Event::SkipOn { thread }
-        | Event::SkipOff { thread } => (Some(thread), None),
+        | Event::SkipOff { thread }
+        | Event::Signal { thread }
+        | Event::Wait { thread, .. } => (Some(thread), None),
         Event::Begin { .. } | Event::Crash => (None, None),
     }
 }

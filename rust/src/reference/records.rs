@@ -3,7 +3,7 @@
 use crate::types::{Event, Refusal};
 
 /// "Kinds and their lengths are one fixed table": the length of kind k stands at k - 1.
-const LENGTHS: [u16; 12] = [8, 6, 4, 8, 6, 6, 4, 4, 2, 4, 4, 8];
+const LENGTHS: [u16; 14] = [8, 6, 4, 8, 6, 6, 4, 4, 2, 4, 4, 8, 4, 6];
 
 /// "Little-endian." The two-byte number at a position.
 fn number(bytes: &[u8], at: usize) -> u16 {
@@ -45,7 +45,9 @@ fn decoded(record: &[u8]) -> Result<Event, u16> {
         9 => Event::Crash,
         10 => Event::SkipOn { thread: field(0) },
         11 => Event::SkipOff { thread: field(0) },
-        _ => Event::Locked { thread: field(0), location: field(1), source: field(2) },
+        12 => Event::Locked { thread: field(0), location: field(1), source: field(2) },
+        13 => Event::Signal { thread: field(0) },
+        _ => Event::Wait { thread: field(0), source: field(1) },
     })
 }
 
@@ -112,6 +114,8 @@ fn fields_of(event: &Event) -> (u16, [u16; 3]) {
         Event::SkipOn { thread } => (10, [thread, 0, 0]),
         Event::SkipOff { thread } => (11, [thread, 0, 0]),
         Event::Locked { thread, location, source } => (12, [thread, location, source]),
+        Event::Signal { thread } => (13, [thread, 0, 0]),
+        Event::Wait { thread, source } => (14, [thread, source, 0]),
     }
 }
 

@@ -1,12 +1,64 @@
-//! A notation for sessions, the lines that the program `verdict` prints for an answer, and what it says of windows.
+//! A notation for sessions, the lines that the program `verdict` prints for an answer, what it says of windows, and
+//! lists of sessions that are given to every way of judging.
 //!
 //! Words are separated by blanks: B1.2.2 begin (version, threads, locations), I0.1 issue (thread, location), C0
 //! commit, L0.1<3 load from 3, F0.1 clflush, O0.1 clflushopt or clwb, SF0 sfence, MF0 mfence, X crash, SKIP0 skip on,
-//! UNSKIP0 skip off, R0.1<3 locked operation that loads from 3, x0800 bytes in hexadecimal, 8*X a word eight times.
+//! UNSKIP0 skip off, R0.1<3 locked operation that loads from 3, S0 signal, W1<3 wait for signal 3, x0800 bytes in
+//! hexadecimal, 8*X a word eight times.
 
 #![allow(dead_code)]
 
-use gorbuzte::{reference, Event, Kind, Refusal, Verdict};
+use gorbuzte::fast::Fast;
+use gorbuzte::{reference, Event, Judge, Kind, Order, Refusal, Verdict};
+
+/// Why, a session, and what is expected of it.
+pub type Row = (&'static str, &'static str, &'static str);
+
+/// A session, two event numbers, and how their stores stand.
+pub type OrderRow = (&'static str, u16, u16, Result<Order, Refusal>);
+
+/// Sessions with the answers that follow from the documents.
+pub struct Expected {
+    /// The lines of `verdict`, joined by ' / '.
+    pub verdicts: &'static [&'static [Row]],
+    /// What the answer says of windows.
+    pub windows: &'static [Row],
+    pub orders: &'static [OrderRow],
+}
+
+impl Expected {
+    /// Gives all sessions to the library.
+    pub fn check_library(&self) {
+        let mut judge = Judge::new();
+        self.check("library", |trace| judge.judge(trace));
+        self.check_orders("library", |trace, first, second| judge.order(trace, first, second));
+    }
+
+    /// Gives all sessions to the judges in Rust.
+    pub fn check_others(&self) {
+        let mut fast = Fast::new();
+        self.check("fast judge", |trace| fast.judge(trace));
+        self.check("reference", reference::judge);
+        self.check("by all choices", |trace| reference::judge_by_all_choices(trace, 100_000).unwrap());
+        self.check_orders("reference", reference::order);
+    }
+
+    fn check(&self, name: &str, mut judging: impl FnMut(&[u8]) -> Result<Verdict, Refusal>) {
+        for (why, text, expected) in self.verdicts.iter().copied().flatten() {
+            let trace = session(text);
+            assert_eq!(lines(&trace, &judging(&trace)), *expected, "{name}, {why}");
+        }
+        for (why, text, expected) in self.windows {
+            assert_eq!(windows(&judging(&session(text))), *expected, "{name}, {why}");
+        }
+    }
+
+    fn check_orders(&self, name: &str, mut ordering: impl FnMut(&[u8], u16, u16) -> Result<Order, Refusal>) {
+        for &(text, first, second, expected) in self.orders {
+            assert_eq!(ordering(&session(text), first, second), expected, "{name}, {text}");
+        }
+    }
+}
 
 /// The bytes of a session.
 pub fn session(text: &str) -> Vec<u8> {
@@ -50,6 +102,8 @@ fn event(word: &str) -> Event {
         ("SKIP", &[thread]) => Event::SkipOn { thread },
         ("UNSKIP", &[thread]) => Event::SkipOff { thread },
         ("R", &[thread, location, source]) => Event::Locked { thread, location, source },
+        ("S", &[thread]) => Event::Signal { thread },
+        ("W", &[thread, source]) => Event::Wait { thread, source },
         _ => panic!("no such word: {word}"),
     }
 }
