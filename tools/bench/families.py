@@ -2,7 +2,7 @@
 
 `python3 families.py FAMILY EVENTS` writes a trace with that many events after its begin to standard output. Every
 trace is accepted, and but for the last two families robust: a broken trace ends the judging of loads early. The first
-six are families of everyday programs, the last four are made to be dear.
+seven are families of everyday programs, the last four are made to be dear.
 """
 
 from __future__ import annotations
@@ -154,6 +154,26 @@ def locked(events: int) -> Trace:
     return trace
 
 
+def hand_over(events: int) -> Trace:
+    """Nodes handed on in chains before each of seven crashes: of eight threads in turn each stores and signals, and the
+    next one waits for that. Loads after the last crash."""
+    trace = Trace(8, 8)
+
+    def step() -> None:
+        turn = trace.events // 4
+        thread = turn % 8
+        if trace.events % 4 == 0:
+            trace.issue(thread, thread)
+        elif trace.events % 4 == 1:
+            trace.commit(thread)
+        elif trace.events % 4 == 2:
+            trace.add(13, thread)
+        else:
+            trace.add(14, (thread + 1) % 8, trace.events)
+
+    return eight_stretches(trace, events, step)
+
+
 def deep_walks(events: int) -> Trace:
     """Stores at one location, then a load of the value before the trace in each later stretch: a walk, and six repeats."""
     trace = Trace(1, 1)
@@ -212,8 +232,8 @@ def wide_windows(events: int) -> Trace:
 
 FAMILIES: Dict[str, Callable[[int], Trace]] = {
     "mixed": mixed, "one_location": one_location, "long_queue": long_queue, "seven_crashes": seven_crashes,
-    "eight_threads": eight_threads, "locked": locked, "deep_walks": deep_walks, "many_crossings": many_crossings,
-    "late_break": late_break, "wide_windows": wide_windows}
+    "eight_threads": eight_threads, "locked": locked, "hand_over": hand_over, "deep_walks": deep_walks,
+    "many_crossings": many_crossings, "late_break": late_break, "wide_windows": wide_windows}
 
 if __name__ == "__main__":
     made = FAMILIES[sys.argv[1]](int(sys.argv[2]))
