@@ -21,7 +21,7 @@ extern "C" {
 
 /* The numbers of an answer to gorbuzte_judge. What a verdict does not have is 0. */
 enum gorbuzte_answer {
-    GORBUZTE_REFUSAL,  /* the refusal's number, 1 to 15, or 0 */
+    GORBUZTE_REFUSAL,  /* the refusal's number, 1 to 15 or 18, or 0 */
     GORBUZTE_EVENT,    /* the refusal's event number */
     GORBUZTE_VERDICT,  /* one of gorbuzte_verdict */
     GORBUZTE_EVENTS,   /* events after the begin */
@@ -40,7 +40,8 @@ enum gorbuzte_answer {
  * answer[GORBUZTE_WINDOWS + 2 * t] to answer[GORBUZTE_WINDOWS + 2 * t + 1]; both are 0 if it has no window. The thread
  * of the missing store, which is primary, may have none. The thread of the observed store has one, with one exception:
  * it is not the primary thread, and the record of the observed store is a locked operation (kind 12) whose load is the
- * thread's first, in the stretch of the two stores, of the missing store or of a store that happens after it.
+ * first event, in the stretch of the two stores, that brings the missing store to the thread: a load of the missing
+ * store, or of a store that happens after it, does so, and a wait (kind 14) whose signal passes the missing store on.
  */
 
 enum gorbuzte_verdict { GORBUZTE_REFUSED = 0, GORBUZTE_ROBUST = 1, GORBUZTE_BROKEN = 2 };
@@ -55,7 +56,7 @@ enum gorbuzte_kind { GORBUZTE_CONTRADICTION = 1, GORBUZTE_FLUSH = 2 };
 void gorbuzte_judge(const uint8_t *trace, size_t trace_len, uint16_t *work, size_t work_len, uint16_t *cut,
                     size_t cut_len, uint16_t answer[GORBUZTE_ANSWER_SIZE]);
 
-/* The numbers of an answer to gorbuzte_order: the refusal's number (1 to 14, 16) or 0, its event number, and this. */
+/* The numbers of an answer to gorbuzte_order: the refusal's number (1 to 14, 16 or 18) or 0, its event number, this. */
 enum gorbuzte_standing {
     GORBUZTE_BEFORE = 1,
     GORBUZTE_AFTER = 2,
@@ -70,7 +71,7 @@ void gorbuzte_order(const uint8_t *trace, size_t trace_len, uint16_t *work, size
 /* The numbers of a record. What its kind does not have is 0. */
 enum gorbuzte_record {
     GORBUZTE_RECORD_REFUSAL, /* the refusal's number or 0 */
-    GORBUZTE_RECORD_KIND,    /* 1 to 12 */
+    GORBUZTE_RECORD_KIND,    /* 1 to 14 */
     GORBUZTE_VERSION,
     GORBUZTE_THREADS,
     GORBUZTE_LOCATIONS,
