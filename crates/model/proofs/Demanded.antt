@@ -1,20 +1,20 @@
--- Demand 3 of the computed answer, and document 02's windows: for every accepted trace, with any buffers that refusals
+-- Demand 3 of the computed answer, and document 02's kinds and windows: for every accepted trace, with any buffers that refusals
 -- 14 and 15 let pass, what `judgeOf` answers and `cutAfter` leaves in the cut buffer make the claim of
 -- specs/Demand.antt. And demand 1: a trace that is turned away is refused, and a refusal leaves the cut buffer as lent.
 use Prim.Native.Nat.{ℕ, suc, _≤_}
 use native.Mathlib.Omega.{arith}
 use mathlib.Core.Path.{_≡_, refl, _∙_}
 use mathlib.Core.Bool.{Bool, true, false}
-use mathlib.Core.Logic.{inl, inr, _≢_}
+use mathlib.Core.Logic.{_⊎_, inl, inr, _≢_}
 use mathlib.Core.List.{List}
 use lib.ListN.{length, getD}
 use borrow.Author.Tests.{eq-eqb, ne-eqb, le-ltb}
 use Rattle.record.specs.declared.events.Event.{Event}
 use Rattle.record.specs.Tests.{_gives_else_}
-use Rattle.model.specs.Trace.{thread}
+use Rattle.model.specs.Trace.{thread, line}
 use Rattle.model.specs.HappensBefore.{Before, AtOrBefore}
 use Rattle.model.specs.Rules.{Accepted}
-use Rattle.model.specs.Choice.{Ruling, robust, broken, Broken, Exact}
+use Rattle.model.specs.Choice.{Ruling, robust, broken, Pair, Broken, Exact}
 use Rattle.model.specs.Windows.{none, windowOf}
 use Rattle.model.specs.Verdict.{rulingOf}
 use Rattle.model.specs.Reading.{events, Reading, accepted, turnedAway, readingOf}
@@ -22,13 +22,15 @@ use Rattle.model.specs.Reading.{AcceptedWith, TurnedAwayWith}
 use Rattle.model.specs.Answers.{refused, tabulate, faultOf}
 use Rattle.model.specs.Judge.{smallWork, wrongCut, ruledAnswer, ruledCut, readingAnswer, readingCut}
 use Rattle.model.specs.Judge.{judgeOf, cutAfter}
-use Rattle.model.specs.Demand.{FlushClaims, FaultClaims, Claims}
+use Rattle.model.specs.Demand.{FlushClaims, ImpossibleClaims, FaultClaims, Claims}
+use Rattle.model.proofs.Searching.{same?}
 use Rattle.model.proofs.Tabulating.{tabulate-length, tabulate-at}
 use Rattle.model.proofs.Ordering.{before-lt}
 use Rattle.model.proofs.Ranges.{issue-has-thread, thread-bound}
-use Rattle.model.proofs.Closure.{CommittedEarlier}
+use Rattle.model.proofs.Closure.{CommittedEarlier, observed-is-committed}
+use Rattle.model.proofs.CacheLines.{committed-first, no-memory}
 use Rattle.model.proofs.WindowPlaces.{window-is, brings-itself-none, observed-has-window}
-use Rattle.model.proofs.Exactness.{exact, named-missing, named-observed}
+use Rattle.model.proofs.Exactness.{exact, wider-pair, named-missing, named-observed}
 use Rattle.model.proofs.TurnedAway.{accepted-exactly, turned-away-exactly, accepted-events}
 
 -- the kind that is computed, with its windows, claims what is demanded
@@ -36,9 +38,13 @@ module _ (ev : ℕ → Event) (N : ℕ) (accepted : Accepted ev N) {load p q : �
   observed-settled : CommittedEarlier ev (suc load) q
   observed-settled = named-observed ev accepted it
 
-  flush-is : Before ev p q → FlushClaims ev p q (thread ev p) (tabulate 8 (windowOf ev p q))
-  flush-is before = record {
-    differ = λ same. omega (arith, before-lt ev before);
+  differs : Before ev p q → p ≢ q
+  differs before = λ same. omega (arith, before-lt ev before)
+
+  flush-is : Before ev p q → line ev p ≢ line ev q → FlushClaims ev p q (thread ev p) (tabulate 8 (windowOf ev p q))
+  flush-is before two-lines = record {
+    differ = differs before;
+    two-lines = two-lines;
     primary-is = refl;
     threads-0-to-7 = tabulate-length 8 (windowOf ev p q);
     each = λ t below.
@@ -58,15 +64,31 @@ module _ (ev : ℕ → Event) (N : ℕ) (accepted : Accepted ev N) {load p q : �
           (thread-bound ev N accepted q (omega (arith, observed-settled .early))
           (issue-has-thread ev (observed-settled .store)))
 
-  pub fault-is : FaultClaims ev p q (faultOf ev p q)
+  impossible-is : Before ev p q → line ev p ≡ line ev q → ImpossibleClaims ev N p q
+  impossible-is before one-line =
+      let pair : Pair ev N p q = wider-pair ev (suc load) N p q (it .inside) (it .pair) in
+      let settled = observed-is-committed ev N accepted q (pair .observed) in
+      let first = committed-first ev N accepted p q before (settled .committed) in
+      record {
+        differ = differs before;
+        one-line = one-line;
+        committed-first = first;
+        no-memory = no-memory ev N p q pair one-line first;
+      }
+
+  pub fault-is : FaultClaims ev N p q (faultOf ev p q)
   unfolding faultOf
   fault-is = by-order (it .pair .order)
     where
-      by-order : AtOrBefore ev p q → FaultClaims ev p q (faultOf ev p q)
+      by-line : Before ev p q → (line ev p ≡ line ev q) ⊎ (line ev p ≢ line ev q) → FaultClaims ev N p q (faultOf ev p q)
+      by-line before (inl one-line) =
+          rw (ne-eqb p q (differs before), eq-eqb (line ev p) (line ev q) one-line) (impossible-is before one-line)
+      by-line before (inr two-lines) =
+          rw (ne-eqb p q (differs before), ne-eqb (line ev p) (line ev q) two-lines) (flush-is before two-lines)
+
+      by-order : AtOrBefore ev p q → FaultClaims ev N p q (faultOf ev p q)
       by-order (inl same) = rw (eq-eqb p q same) same
-      by-order (inr before) =
-          let differ : p ≢ q = λ same. omega (arith, before-lt ev before) in
-          rw (ne-eqb p q differ) (flush-is before)
+      by-order (inr before) = by-line before (same? (line ev p) (line ev q))
 
 module _ (bytes : List ℕ) (N : ℕ) (accepted : AcceptedWith bytes N) where
   ruling-claims :

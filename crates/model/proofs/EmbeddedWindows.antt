@@ -7,16 +7,17 @@
 use Prim.Native.Nat.{ℕ, suc, _-_}
 use native.Mathlib.Omega.{arith}
 use mathlib.Core.Path.{_≡_, refl, sym, _∙_}
-use mathlib.Core.Bool.{Bool, true, false, cond}
+use mathlib.Core.Bool.{Bool, true, false}
 use mathlib.Core.List.{List, map}
 use lib.Dec.{eqb}
 use Rattle.record.specs.declared.events.Event.{Event}
-use Rattle.model.specs.Trace.{thread, source, load?, Issue, Load, Signal, Wait}
+use Rattle.record.specs.Tests.{_gives_else_}
+use Rattle.model.specs.Trace.{thread, location, source, line, load?, Issue, Load, Signal, Wait}
 use Rattle.model.specs.HappensBefore.{Precedes, AtOrBefore}
 use Rattle.model.specs.Windows.{Places, none, between, ComesBy, by-load, by-wait, Brings, FirstBrings}
 use Rattle.model.specs.Windows.{FirstPlace, LastPlace, Window, WindowIs, windowOf}
 use Rattle.model.specs.Windows as windows
-use Rattle.model.specs.Answers.{tabulate, contradiction, flush, faultOf}
+use Rattle.model.specs.Answers.{tabulate, contradiction, flush, impossible, faultOf}
 use Rattle.model.specs.Embedding.{Numbering, everything, Role, Embedding}
 use Rattle.model.specs.Flushes.{shiftedPlaces, shiftedFault}
 use Rattle.model.proofs.Searching.{excluded}
@@ -60,6 +61,9 @@ module _
 
   store-thread : {p : ℕ} → Issue part p → thread whole (there p) ≡ thread part p
   store-thread {p} store = via .issuing .thread-same p (store .test)
+
+  store-location : {p : ℕ} → Issue part p → location whole (there p) ≡ location part p
+  store-location {p} store = via .store-location p (store .test)
 
   order-kept : {p q : ℕ} → AtOrBefore whole (there p) (there q) → AtOrBefore part p q
   order-kept {p} {q} order =
@@ -235,7 +239,15 @@ module _
     -- GAPS MOVE NO FAULT, APART FROM EVENT NUMBERS
     pub fault-at : faultOf whole (there p) (there q) ≡ shiftedFault there (faultOf part p q)
     unfolding faultOf
-    fault-at = rw (number-eqb (via .stores) p q, store-thread p-store, each-thread) (by-test (eqb p q))
+    fault-at =
+        rw (
+          number-eqb (via .stores) p q,
+          store-thread p-store,
+          store-location p-store,
+          store-location q-store,
+          each-thread,
+        )
+        (by-tests (eqb p q) (eqb (line part p) (line part q)))
       where
         here : List Places
         here = tabulate 8 (windowOf part p q)
@@ -245,9 +257,12 @@ module _
             tabulate-same 8 _ _ (λ t below. windowOf-at t)
             ∙ sym (tabulate-map (shiftedPlaces there) 8 (windowOf part p q))
 
-        by-test :
-            (same : Bool)
-            → cond same contradiction (flush (thread part p) (map (shiftedPlaces there) here))
-            ≡ shiftedFault there (cond same contradiction (flush (thread part p) here))
-        by-test true = refl
-        by-test false = refl
+        by-tests :
+            (same one-line : Bool)
+            → (same gives contradiction else one-line gives impossible else
+            flush (thread part p) (map (shiftedPlaces there) here))
+            ≡ shiftedFault there
+            (same gives contradiction else one-line gives impossible else flush (thread part p) here)
+        by-tests true one-line = refl
+        by-tests false true = refl
+        by-tests false false = refl

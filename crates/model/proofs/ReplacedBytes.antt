@@ -5,18 +5,19 @@
 use Prim.Native.Nat.{ℕ, _+_, _-_, _*_, _≤_, _<_}
 use native.Mathlib.Omega.{arith}
 use mathlib.Core.Path.{_≡_, refl, sym, _∙_, ap}
-use mathlib.Core.Bool.{Bool, true, false, cond}
+use mathlib.Core.Bool.{Bool, true, false}
 use mathlib.Core.List.{List}
 use lib.ListN.{length}
 use lib.Dec.{eqb}
 use Rattle.record.specs.declared.events.Event.{Event}
 use Rattle.record.specs.declared.events.Event.the-variants.{Crash}
+use Rattle.record.specs.Tests.{_gives_else_}
 use Rattle.record.proofs.RoundTrips.{AllBytes}
-use Rattle.model.specs.Trace.{traceOf, Issue}
+use Rattle.model.specs.Trace.{traceOf, line, Issue}
 use Rattle.model.specs.Rules.{Accepted}
 use Rattle.model.specs.Choice.{Ruling, robust, broken, Exact}
 use Rattle.model.specs.Windows.{Places}
-use Rattle.model.specs.Answers.{contradiction, flush, faultOf}
+use Rattle.model.specs.Answers.{contradiction, flush, impossible, faultOf}
 use Rattle.model.specs.Reading.{events, firstEvents, encode, AcceptedWith}
 use Rattle.model.specs.Judge.{ruledAnswer, judgeOf, cutAfter}
 use Rattle.model.specs.Flushes.{carryBy, shiftedBy}
@@ -24,7 +25,7 @@ use Rattle.model.specs.Locked.{locked?, asLoad, asStore, replaced, unloc
 use Rattle.model.specs.Locked.{unlockedStore, bareFault, bare, SameBareVerdict}
 use Rattle.model.proofs.Numberings.{injective-eqb}
 use Rattle.model.proofs.Tabulating.{tabulate-length, tabulate-at}
-use Rattle.model.proofs.Exactness.{named-missing}
+use Rattle.model.proofs.Exactness.{named-missing, named-observed}
 use Rattle.model.proofs.Encoding.{AllTwoByte, encoded-accepted}
 use Rattle.model.proofs.AcceptedBytes.{accepted-encoded, accepted-two-byte, accepted-list}
 use Rattle.model.proofs.Carrying.{carried-share, carried-answer, carried-cut}
@@ -36,17 +37,25 @@ use Rattle.model.proofs.Unlocked.{length-unlocked, all-replaced}
 
 module _ {f g : ℕ → ℕ} {short long : List Event} (by : Replacement f g short long) where
   fault-same :
-      (p q : ℕ) → Issue (traceOf short) p
+      (p q : ℕ) → Issue (traceOf short) p → Issue (traceOf short) q
       → bareFault (faultOf (traceOf long) (g p) (g q)) ≡ bareFault (faultOf (traceOf short) p q)
   unfolding faultOf
-  fault-same p q store =
-      rw (injective-eqb g (by .numbers-differ) p q, by .thread-there store) (by-test (eqb p q) _ _ _)
+  fault-same p q p-store q-store =
+      rw (
+        injective-eqb g (by .numbers-differ) p q,
+        by .thread-there p-store,
+        by .location-there p-store,
+        by .location-there q-store,
+      )
+      (by-tests (eqb p q) (eqb (line (traceOf short) p) (line (traceOf short) q)) _ _ _)
     where
-      by-test :
-          (equal : Bool) (t : ℕ) (ws vs : List Places)
-          → bareFault (cond equal contradiction (flush t ws)) ≡ bareFault (cond equal contradiction (flush t vs))
-      by-test true t ws vs = refl
-      by-test false t ws vs = refl
+      by-tests :
+          (equal one-line : Bool) (t : ℕ) (ws vs : List Places)
+          → bareFault (equal gives contradiction else one-line gives impossible else flush t ws)
+          ≡ bareFault (equal gives contradiction else one-line gives impossible else flush t vs)
+      by-tests true one-line t ws vs = refl
+      by-tests false true t ws vs = refl
+      by-tests false false t ws vs = refl
 
   module _ (n : ℕ) (longer : length long ≡ length short + n) where
     -- "Events after begin"
@@ -59,7 +68,8 @@ module _ {f g : ℕ → ℕ} {short long : List Event} (by : Replacement f g sho
         ≡ shiftedBy f g bareFault n (ruledAnswer (traceOf short) (length short) v)
     ruled-bare (robust c) least = rw (more-events, carried-share (by .same) c)
     ruled-bare (broken load missing observed) it =
-        rw (more-events, fault-same missing observed (named-missing (traceOf short) it))
+        let settled = named-observed (traceOf short) (by .same .short-accepted) it in
+        rw (more-events, fault-same missing observed (named-missing (traceOf short) it) (settled .store))
 
 -- ---- bytes
 

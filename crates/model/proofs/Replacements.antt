@@ -10,7 +10,7 @@ use mathlib.Core.List.{List}
 use mathlib.Core.Logic.{_↔_}
 use lib.ListN.{length}
 use Rattle.record.specs.declared.events.Event.{Event}
-use Rattle.model.specs.Trace.{traceOf, thread, Issue}
+use Rattle.model.specs.Trace.{traceOf, thread, location, Issue}
 use Rattle.model.specs.Rules.{Accepted}
 use Rattle.model.specs.Choice.{Choice, Ruling, robust, broken, finished, Exact}
 use Rattle.model.specs.Verdict.{rulingOf}
@@ -29,12 +29,14 @@ use Rattle.model.proofs.ReplacedRules.{replaced-accepted, replaced-two-
 
 -- ---- what is carried over
 
--- what answers rest on: the ruling, and of the stores, which go by g, that they are there, of the same threads, and
--- differ; and that the fields are two-byte numbers
+-- what answers rest on: the ruling, and of the stores, which go by g, that they are there, of the same threads and at
+-- the same locations, and differ; and that the fields are two-byte numbers
 pub record Replacement (f g : ℕ → ℕ) (short long : List Event) : Type 0 where
   pub same : SameRuling f g short long
   pub store-there : {p : ℕ} → Issue (traceOf short) p → Issue (traceOf long) (g p)
   pub thread-there : {p : ℕ} → Issue (traceOf short) p → thread (traceOf long) (g p) ≡ thread (traceOf short) p
+  pub location-there :
+      {p : ℕ} → Issue (traceOf short) p → location (traceOf long) (g p) ≡ location (traceOf short) p
   pub numbers-differ : (p q : ℕ) → g p ≡ g q → p ≡ q
   pub two-byte : AllTwoByte short → AllTwoByte long
 
@@ -76,6 +78,7 @@ module _
         };
         store-there = store-at via;
         thread-there = λ {p} store. via .issuing .thread-same p (store .test);
+        location-there = λ {p} store. via .store-location p (store .test);
         numbers-differ = number-injective (via .stores);
         two-byte = replaced-two-byte es accepted k inside locked room;
       }
@@ -115,6 +118,7 @@ unchanged es accepted = record {
   };
   store-there = λ store. store;
   thread-there = λ store. refl;
+  location-there = λ store. refl;
   numbers-differ = λ p q same. same;
   two-byte = λ small. small;
 }
@@ -132,6 +136,7 @@ and-then {f} {g} {h} {i} {short} {middle} {long} one next = record {
   };
   store-there = λ store. next .store-there (one .store-there store);
   thread-there = λ store. next .thread-there (one .store-there store) ∙ one .thread-there store;
+  location-there = λ store. next .location-there (one .store-there store) ∙ one .location-there store;
   numbers-differ = λ p q same. one .numbers-differ p q (next .numbers-differ _ _ same);
   two-byte = λ small. next .two-byte (one .two-byte small);
 }

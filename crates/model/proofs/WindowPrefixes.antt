@@ -15,7 +15,8 @@ use Rattle.model.specs.Answers.{faultOf}
 use Rattle.model.proofs.Tabulating.{tabulate-same}
 use Rattle.model.proofs.Ordering.{at-or-before-le}
 use Rattle.model.proofs.WindowPlaces.{comes-from, comes-early, window-is, window-unique}
-use Rattle.model.proofs.Agreement.{Agree, reversed, thread-same, source-same, stretches-same, accepted-same}
+use Rattle.model.proofs.Agreement.{Agree, reversed, thread-same, location-same, source-same, stretches-same}
+use Rattle.model.proofs.Agreement.{accepted-same}
 use Rattle.model.proofs.Agreement.{issue-same, load-same, signal-same, wait-same, precedes-same}
 use Rattle.model.proofs.Agreement.{at-or-before-same}
 
@@ -95,7 +96,12 @@ module _ {N : ℕ} {ev other : ℕ → Event} (agree : Agree N ev other) (accept
   pub fault-same : (p q : ℕ) → p < N → q < N → Issue ev p → Issue ev q → faultOf ev p q ≡ faultOf other p q
   unfolding faultOf
   fault-same p q p-inside q-inside p-store q-store =
-      rw (thread-same agree p p-inside, tabulate-same 8 (windowOf ev p q) (windowOf other p q) (λ t below. at-thread t))
+      rw (
+        thread-same agree p p-inside,
+        location-same agree p p-inside,
+        location-same agree q q-inside,
+        tabulate-same 8 (windowOf ev p q) (windowOf other p q) (λ t below. at-thread t),
+      )
     where
       at-thread : (t : ℕ) → windowOf ev p q t ≡ windowOf other p q t
       at-thread t =

@@ -5,13 +5,14 @@ use mathlib.Core.List.{List, [], _∷_, _++_}
 use mathlib.Core.Bool.{cond, _&&_}
 use lib.Dec.{eqb}
 use Rattle.record.specs.declared.events.Event.{Event}
-use Rattle.model.specs.Trace.{thread}
+use Rattle.record.specs.Tests.{_gives_else_}
+use Rattle.model.specs.Trace.{thread, line}
 use Rattle.model.specs.Choice.{Choice}
 use Rattle.model.specs.Windows.{Places, none, between, windowOf}
 use Rattle.model.specs.declared.Window.{Window}
 use Rattle.model.specs.declared.Windows.{Windows}
 use Rattle.model.specs.declared.Kind.{Kind}
-use Rattle.model.specs.declared.Kind.the-variants.{Contradiction, Flush}
+use Rattle.model.specs.declared.Kind.the-variants.{Contradiction, Flush, Impossible}
 use Rattle.model.specs.declared.Verdict.{Verdict}
 use Rattle.model.specs.declared.Verdict.the-variants.{Refused, Robust, Broken}
 use Rattle.model.specs.declared.Order.{Order}
@@ -45,17 +46,20 @@ shareOf least all = percent (sum (cutOf least)) (sum (cutOf all))
 
 -- ---- judging
 
--- "Kind is "contradiction" if they are equal, else "flush"." A flush fault has a primary thread and the windows of
--- threads 0 to 7. Document 02, job 1: "Contradictions have none."
+-- "Kind is "contradiction" if they are equal, else "flush"." Document 02, job 5: "A broken pair on one line has the
+-- kind "impossible" unless it is a contradiction." A flush fault has a primary thread and the windows of threads 0 to
+-- 7; job 1: "Contradictions have none."; job 5, of an impossible pair: "It has no windows."
 pub data Fault : Type 0 where
   contradiction : Fault
   flush : ℕ → List Places → Fault
+  impossible : Fault
 
 -- "p's thread is marked primary"
 unfoldable pub faultOf : (ℕ → Event) → ℕ → ℕ → Fault
 faultOf ev missing observed =
-    cond (eqb missing observed) contradiction
-    (flush (thread ev missing) (tabulate 8 (windowOf ev missing observed)))
+    eqb missing observed gives contradiction else
+    eqb (line ev missing) (line ev observed) gives impossible else
+    flush (thread ev missing) (tabulate 8 (windowOf ev missing observed))
 
 pub data Answer : Type 0 where
   -- "Each refusal carries its event number; 14, 15, 16 and 17 carry 0."
@@ -78,6 +82,7 @@ windowsAnswer w =
 abbrev pub kindAnswer : Kind → Fault
 kindAnswer Contradiction = contradiction
 kindAnswer (Flush w) = flush (w .primary) (windowsAnswer w)
+kindAnswer Impossible = impossible
 
 abbrev pub verdictAnswer : Verdict → Answer
 verdictAnswer (Refused number event) = refused number event

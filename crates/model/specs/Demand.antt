@@ -2,21 +2,24 @@
 -- claim. "the verdict is broken exactly when no choice of crash points explains the loads, and robust otherwise."
 use Prim.Native.Nat.{ℕ, _-_, _<_}
 use mathlib.Core.Path.{_≡_}
+use mathlib.Core.Bool.{Bool}
 use mathlib.Core.Logic.{_≢_}
 use mathlib.Core.List.{List}
 use lib.ListN.{length, getD}
 use Rattle.record.specs.declared.events.Event.{Event}
-use Rattle.model.specs.Trace.{thread}
+use Rattle.model.specs.Trace.{thread, line}
 use Rattle.model.specs.HappensBefore.{Before}
 use Rattle.model.specs.Choice.{Choice, finished, Least, Broken}
+use Rattle.model.specs.CacheLines.{CommittedFirst, LinesInOrder, ReadFrom}
 use Rattle.model.specs.Windows.{Places, none, between, WindowIs, BringsItself}
 use Rattle.model.specs.Answers as answers
 
--- what a broken answer's kind, with missing p and observed q, claims: document 02, jobs 1 and 2
+-- what a broken answer's kind, with missing p and observed q, claims: document 02, jobs 1, 2 and 5
 module _ (ev : ℕ → Event) (p q : ℕ) where
   -- of a flush fault
   pub record FlushClaims (primary : ℕ) (windows : List Places) : Type 0 where
     pub differ : p ≢ q
+    pub two-lines : line ev p ≢ line ev q
     -- "p's thread is marked primary"
     pub primary-is : primary ≡ thread ev p
     -- "Each thread gets its window, or none"
@@ -27,10 +30,22 @@ module _ (ev : ℕ → Event) (p q : ℕ) where
     -- "The thread of q must always have one", but for that
     pub observed-has : ¬ BringsItself ev p q → (from to : ℕ) × (getD windows (thread ev q) none ≡ between from to)
 
+module _ (ev : ℕ → Event) (N p q : ℕ) where
+  -- of "A broken pair on one line"
+  pub record ImpossibleClaims : Type 0 where
+    pub differ : p ≢ q
+    pub one-line : line ev p ≡ line ev q
+    -- "Stores on one cache line reach memory in commit order", and missing was committed before observed
+    pub committed-first : CommittedFirst ev N p q
+    -- so what was read comes from no memory that keeps this order, whatever was flushed
+    pub no-memory : (reached : ℕ → Bool) → LinesInOrder ev N reached → ¬ ReadFrom ev N reached
+
   abbrev pub FaultClaims : answers.Fault → Type 0
   -- "Contradictions have none."
   FaultClaims answers.contradiction = p ≡ q
-  FaultClaims (answers.flush primary windows) = FlushClaims primary windows
+  FaultClaims (answers.flush primary windows) = FlushClaims ev p q primary windows
+  -- "It has no windows."
+  FaultClaims answers.impossible = ImpossibleClaims
 
 module _ (ev : ℕ → Event) (N : ℕ) (lent after : List ℕ) where
   abbrev pub Claims : answers.Answer → Type 0
@@ -44,7 +59,7 @@ module _ (ev : ℕ → Event) (N : ℕ) (lent after : List ℕ) where
   -- an observed store which is that store or happens after it"
   Claims (answers.broken events load missing observed kind) =
       Broken ev N load missing observed × (after ≡ lent)
-      × (events ≡ N - 1) × FaultClaims ev missing observed kind
+      × (events ≡ N - 1) × FaultClaims ev N missing observed kind
 
 -- what the order query's answer about the stores p and q claims, by happens-before itself
 abbrev pub Stands : (ℕ → Event) → ℕ → ℕ → answers.Standing → Type 0

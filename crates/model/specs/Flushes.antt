@@ -42,6 +42,7 @@ shiftedPlaces f (between first last) = between (suc (f (first - 1))) (f last)
 abbrev pub shiftedFault : (ℕ → ℕ) → answers.Fault → answers.Fault
 shiftedFault f answers.contradiction = answers.contradiction
 shiftedFault f (answers.flush primary windows) = answers.flush primary (map (shiftedPlaces f) windows)
+shiftedFault f answers.impossible = answers.impossible
 
 -- an answer carried over to a trace that has n records more: its loads by f, its stores by g and its kind by h. The
 -- share stays, and so does a refusal, which an accepted trace only gets for its buffers

@@ -3,6 +3,7 @@
 --   Trace, Machine, Rules, HappensBefore, Choice
 --   Reading        `eventIn`, `refusalIn`, `events`, `Found`, `endsAt`, `recordAt`, `AcceptedWith`, `TurnedAwayWith`
 --   Windows        but for what computes
+--   CacheLines
 --   Answers        but for `faultOf`
 --   Judge          the buffers: `smallWork`, `wrongCut`, `cleared`, `workAfter`, `orderWorkAfter`; of `judgeOf`,
 --                  `cutAfter` and `orderOf` that 14 and 15 come first; of `readingStanding` that the trace's refusal is
@@ -34,6 +35,7 @@ pub mod Flushes
 pub mod Locked
 pub mod Reading
 pub mod Windows
+pub mod CacheLines
 pub mod Answers
 pub mod Demand
 pub mod Clocks

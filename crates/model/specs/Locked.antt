@@ -86,10 +86,11 @@ unlockedStore = unlockedAt 1
 -- ---- "the same verdict, cut and share"
 
 -- Windows are none of these, and differ: between the three records there are places for a flush, but "A flush can't
--- stand inside the record". A broken answer's kind without them: contradiction, or flush with its primary thread.
+-- stand inside the record". A broken answer's kind without them; flush keeps its primary thread.
 abbrev pub bareFault : answers.Fault → answers.Fault
 bareFault answers.contradiction = answers.contradiction
 bareFault (answers.flush primary windows) = answers.flush primary []
+bareFault answers.impossible = answers.impossible
 
 abbrev pub bare : answers.Answer → answers.Answer
 bare (answers.refused k e) = answers.refused k e

@@ -3,7 +3,7 @@
 -- Here: what an event says, the roles that it plays, stretches, and counting. Document 01, "The trace" and "Rules of
 -- the machine"; document 02, job 2: "Wherever issues, commits or loads are named", kind 12 "is meant too"; job 4: "Kind
 -- 13 (signal [..]) and kind 14 (wait [..]) join the rules."
-use Prim.Native.Nat.{ℕ, zero, suc, _+_}
+use Prim.Native.Nat.{ℕ, zero, suc, _+_, _/_}
 use mathlib.Core.Path.{_≡_}
 use mathlib.Core.Bool.{Bool, true, not, _&&_, _||_}
 use mathlib.Core.List.{List}
@@ -35,6 +35,10 @@ module _ (ev : ℕ → Event) where
 
   abbrev pub source : ℕ → ℕ
   source e = fieldsOf (ev e) .source
+
+  -- "location ÷ 8 without remainder is its 64-byte cache line": the line of event e's location
+  abbrev pub line : ℕ → ℕ
+  line e = location e / 8
 
   -- its kind has a thread, a location: the table of kinds
   abbrev pub hasThread? : ℕ → Bool

@@ -21,11 +21,13 @@ pub struct Windows {
     pub thread7: Window,
 }
 
-// Why a broken trace is broken: the missing store is itself observed, or it happens before the observed one. Only then
-// a flush is missing, and only then there are windows for it.
+// Why a broken trace is broken: the missing store is itself observed; or it happens before the observed one, on another
+// cache line or on the same one. Only between stores on two lines is a flush missing, and only then are there windows
+// for it.
 pub enum Kind {
     Contradiction,
     Flush(Windows),
+    Impossible,
 }
 
 // What judging a trace answers.
