@@ -38,11 +38,21 @@ LOADING = {"issue": 0.8, "commit": 0.6, "load": 6.0, "recover": 3.0, "relay": 0.
            "signal": 0.2, "wait": 0.4, "flush": 0.6, "fence": 0.4, "skip": 0.5, "skipped": 0.9}
 
 
+def near_or_far(rng: Random, wanted: int) -> list[int]:
+    """So many locations: the first ones, some of one line, some about the border of two lines, some of three lines, or
+    each on a line of its own; of lines mostly the first ones."""
+    everywhere = range(oracle.MAX_LOCATIONS)
+    start = 8 * rng.choice([0, 0, 0, 1, 1, rng.randrange(32)])
+    spans = [everywhere[:wanted], everywhere[start:start + 8], everywhere[start + 6:start + 10],
+             everywhere[start:start + 24], everywhere[rng.randrange(8):start + 64:8]]
+    return rng.sample(rng.choice([span for span in spans if len(span) >= wanted]), wanted)
+
+
 class Builder:
     """Builds an accepted trace event by event, with the oracle's machine at its side."""
 
     def __init__(self, rng: Random, limits: Limits) -> None:
-        """Draw the mode, the threads and the locations, and add the begin."""
+        """Draw the mode, the threads and the locations to use, and add the begin."""
         self.rng, self.limits = rng, limits
         self.mode = rng.choice(MODES)
         relays = rng.choice([9.0, 18.0] if self.mode == "torn" else [0.5, 3.0, 9.0])
@@ -55,9 +65,10 @@ class Builder:
         late = self.mode == "late"  # two threads and three locations can show which of several pairs is the smallest
         threads = min(rng.choice([2, 2, 3] if late else [1, 2, 2, 3, rng.randint(1, 8)]), limits.max_threads)
         wanted = min(3 if late else rng.choice([1, 2, 2, 3, 3, rng.randint(1, 256)]), limits.max_locations)
-        locations = 256 if limits.spread and rng.random() < 0.5 else wanted
-        self.used = rng.sample(range(locations), wanted)
-        self.add(Event(oracle.BEGIN, (1, threads, locations)))
+        spread = limits.spread and rng.random() < 0.5
+        self.used = rng.sample(range(oracle.MAX_LOCATIONS), wanted) if spread else near_or_far(rng, wanted)
+        locations = rng.choice([max(self.used) + 1, min(max(self.used) + 2, oracle.MAX_LOCATIONS)])
+        self.add(Event(oracle.BEGIN, (1, threads, oracle.MAX_LOCATIONS if spread else locations)))
 
     def add(self, event: Event) -> None:
         """Append an event that the machine's rules allow."""

@@ -175,8 +175,9 @@ def damaged(rng: Random, limits: Limits) -> bytes:
 
 # ---- The stream of sessions ----
 
-WISHES = (["any"] + ["robust"] * 4 + ["robust, handed over"] + ["flush"] * 2 + ["contradiction"] * 2
-          + ["two threads"] * 2 + ["later stretch"] + ["third thread"] + ["broken, handed over"] * 4)
+WISHES = (["any"] + ["robust"] * 4 + ["robust, handed over"] + ["flush"] * 3 + ["impossible"] * 2
+          + ["contradiction"] * 2 + ["two threads"] * 2 + ["later stretch"] + ["third thread"]
+          + ["broken, handed over"] * 4)
 
 
 def labels(data: bytes) -> set[str]:

@@ -3,7 +3,8 @@
 Every function states one sentence of document 01 ("A judge of store order across crashes") and computes it in the
 most direct way: queues are queues, happens-before is a graph search, and the verdict comes from trying all choices.
 The windows of a flush fault are document 02's, job 1; locked operations, kind 12, are its job 2; signals and waits,
-kinds 13 and 14, its job 4. Refusals 14 and 15 (sizes of lent buffers) are not treated here.
+kinds 13 and 14, its job 4; pairs on one cache line its job 5. Refusals 14 and 15 (sizes of lent buffers) are not
+treated here.
 """
 
 from __future__ import annotations
@@ -35,8 +36,8 @@ Window = tuple[int, int]  # the first and the last record in front of which a th
 
 @dataclass(frozen=True)
 class Broken:
-    """ "Broken: no closed choice does." `kind` is "contradiction" or "flush". A flush fault has a primary thread, and
-    for each of threads 0 to 7 its window or None. "Contradictions have none." """
+    """ "Broken: no closed choice does." `kind` is "contradiction", "impossible" or "flush". A flush fault has a primary
+    thread, and for each of threads 0 to 7 its window or None. The other kinds have neither. """
 
     events: int
     load: int
@@ -429,11 +430,25 @@ def smallest_pair(m: Machine, loads: list[Load], before: dict[int, set[int]],
     return min(((p, q) for p in forbidden for q in observed if p == q or p in before[q]), default=None)
 
 
-def broken_answer(m: Machine, load: int, p: int, q: int) -> Broken:
-    """ 'Kind is "contradiction" if they are equal, else "flush".' "p's thread is marked primary." """
+def line(location: int) -> int:
+    """ "a location is an aligned 8-byte word, and location ÷ 8 without remainder is its 64-byte cache line." """
+    return location // 8
+
+
+def kind_of(m: Machine, p: int, q: int) -> str:
+    """ 'Kind is "contradiction" if they are equal, else "flush".' Job 5: 'A broken pair on one line has the kind
+    "impossible" unless it is a contradiction.' """
     if p == q:
-        return Broken(m.events, load, p, q, "contradiction")
-    return Broken(m.events, load, p, q, "flush", m.stores[p].thread, windows(m, p, q))
+        return "contradiction"
+    return "impossible" if line(m.stores[p].location) == line(m.stores[q].location) else "flush"
+
+
+def broken_answer(m: Machine, load: int, p: int, q: int) -> Broken:
+    """ "p's thread is marked primary." "Contradictions have none." Of an impossible pair: "It has no windows." """
+    kind = kind_of(m, p, q)
+    if kind != "flush":
+        return Broken(m.events, load, p, q, kind)
+    return Broken(m.events, load, p, q, kind, m.stores[p].thread, windows(m, p, q))
 
 
 def judge(data: bytes) -> Answer:

@@ -78,13 +78,13 @@ CASE_11 = "I0.0 I1.0 C1 C0 X"
 # Cases 1 to 11: name, trace, the lines of `verdict` joined by ' / ', behind them those of a flush fault's windows.
 CASES: list[tuple[str, bytes, str]] = [
     ("case 1", session(CASE_1 + " L0.0<1 L0.1<7"),
-     "events 11 / verdict broken / load 11 / missing 5 / observed 7 / kind flush / primary 0 / window 0 6 7"),
+     "events 11 / verdict broken / load 11 / missing 5 / observed 7 / kind impossible"),
     ("case 2", session("I0.0 C0 I1.1 C1 X L0.0<0 L0.1<3"), "events 7 / verdict robust / cut 1 0 1 / share 50"),
     ("case 3", session(CASE_1 + " L0.0<5 L0.1<7"), "events 11 / verdict robust / cut 1 4 / share 100"),
     ("case 4", session("I0.0 C0 I0.1 C0 X L0.0<0 I0.1 C0 X L0.1<3"),
-     "events 10 / verdict broken / load 10 / missing 1 / observed 3 / kind flush / primary 0 / window 0 2 3"),
+     "events 10 / verdict broken / load 10 / missing 1 / observed 3 / kind impossible"),
     ("case 5", session("I0.0 C0 L1.0<1 I1.1 C1 X L0.0<0 L0.1<4"),
-     "events 8 / verdict broken / load 8 / missing 1 / observed 4 / kind flush / primary 0 / window 1 4 4"),
+     "events 8 / verdict broken / load 8 / missing 1 / observed 4 / kind impossible"),
     ("case 6", session("I0.0 C0 I1.1 L1.0<1 C1 X L0.0<0 L0.1<3"),
      "events 8 / verdict robust / cut 1 0 1 / share 50"),
     ("case 7", session("I0.0 C0 X L0.0<1 L0.0<0"),
@@ -223,10 +223,10 @@ ERRORS: list[tuple[str, bytes, str]] = [
      session("I0.0 C0 L1.0<1 X I1.1 C1 I0.0 C0 X L0.1<5 L0.0<1"),
      "events 11 / verdict robust / cut 1 1 0 / cut 2 0 1 / share 66"),
     ("a read of source 0 taken as free", session("I0.0 C0 I0.1 C0 X L0.0<0 L0.1<3"),
-     "events 7 / verdict broken / load 7 / missing 1 / observed 3 / kind flush / primary 0 / window 0 2 3"),
+     "events 7 / verdict broken / load 7 / missing 1 / observed 3 / kind impossible"),
     ("loads in a skip still order", session("I0.0 C0 SKIP1 L1.0<1 I1.1 C1 X L0.0<0 L0.1<5"),
-     "events 9 / verdict broken / load 9 / missing 1 / observed 5 / kind flush / primary 0 / window 1 5 5"),
-    ("a chain over three threads", session("I0.0 C0 L1.0<1 I1.1 C1 L2.1<4 I2.2 C2 X L0.0<0 L0.2<7", locations=3),
+     "events 9 / verdict broken / load 9 / missing 1 / observed 5 / kind impossible"),
+    ("a chain over three threads", session("I0.0 C0 L1.0<1 I1.8 C1 L2.8<4 I2.16 C2 X L0.0<0 L0.16<7", locations=17),
      "events 11 / verdict broken / load 11 / missing 1 / observed 7 / kind flush / primary 0 / window 1 4 4"
      " / window 2 7 7"),
     ("a waiting store stays out of the share", session("I0.0 C0 I0.1 X L0.0<1 I0.1 C0"),
@@ -234,10 +234,10 @@ ERRORS: list[tuple[str, bytes, str]] = [
     ("share is rounded down", session("I0.0 C0 I0.0 C0 I0.0 C0 X L0.0<3"), "events 8 / verdict robust / cut 1 2 /"
      " share 66"),
     ("smallest missing goes before smallest observed",
-     session("I0.0 C0 I1.0 C1 I1.1 C1 I0.2 C0 X L0.1<5 L0.2<7 L0.0<0", locations=3),
+     session("I0.0 C0 I1.0 C1 I1.8 C1 I0.16 C0 X L0.8<5 L0.16<7 L0.0<0", locations=17),
      "events 12 / verdict broken / load 12 / missing 1 / observed 7 / kind flush / primary 0 / window 0 2 7"),
     ("every load before the issue orders",
-     session("I0.0 C0 I1.1 C1 L2.0<1 L2.1<3 I2.2 C2 X L0.0<0 L0.2<7", locations=3),
+     session("I0.0 C0 I1.8 C1 L2.0<1 L2.8<3 I2.16 C2 X L0.0<0 L0.16<7", locations=17),
      "events 11 / verdict broken / load 11 / missing 1 / observed 7 / kind flush / primary 0 / window 2 6 7"),
     ("a skip is a matter of its own thread", session("I0.0 C0 X SKIP1 L0.0<1 L0.0<0"),
      "events 6 / verdict broken / load 6 / missing 1 / observed 1 / kind contradiction"),
@@ -328,12 +328,13 @@ LOCKED: list[tuple[str, bytes, str]] = [
      session(SWAPPED + " L0.0<1"), "events 5 / verdict robust / cut 1 1 0 / share 50"),
     ("a locked operation's source happens before its store: with 3 observed, 1 is in too",
      session(SWAPPED + " L0.0<3"), "events 5 / verdict robust / cut 1 1 1 / share 100"),
-    ("observed's own load first brings missing to its thread, and thread 0 stores no more: no window at all",
-     session(SWAPPED + " L0.0<0 L0.0<3"),
-     "events 6 / verdict broken / load 6 / missing 1 / observed 3 / kind flush / primary 0"),
-    ("the same as three records: observed is 4 and the load 8; a flush may stand between the load and the issue",
-     session("I0.0 C0 L1.0<1 I1.0 C1 X L0.0<0 L0.0<4"),
-     "events 8 / verdict broken / load 8 / missing 1 / observed 4 / kind flush / primary 0 / window 1 4 4"),
+    ("observed's own load first brings missing to its thread: no window there, only in thread 0, in front of 3",
+     session(PUBLISHED + " R1.8<3 X L0.0<0 L0.8<5", locations=9),
+     "events 8 / verdict broken / load 8 / missing 1 / observed 5 / kind flush / primary 0 / window 0 2 3"),
+    ("the same as three records: observed is 6 and the load 10; a flush may stand between the load and the issue",
+     session(PUBLISHED + " L1.8<3 I1.8 C1 X L0.0<0 L0.8<6", locations=9),
+     "events 10 / verdict broken / load 10 / missing 1 / observed 6 / kind flush / primary 0 / window 0 2 3"
+     " / window 1 6 6"),
     ("locked operation: no such thread goes before no such location", session("R1.2<5", threads=1), "refused 7 1"),
     ("locked operation: no such location goes before the waiting store", session("I0.0 R0.2<5"), "refused 8 2"),
     ("locked operation: the waiting store goes before the wrong source", session("I0.0 R0.0<5"), "refused 11 2"),
@@ -424,10 +425,10 @@ LOOKUPS: list[tuple[str, bytes, str]] = [
 # Document 02, job 4, "Work handed over through ordinary memory": what the session shows, trace, lines as above.
 HANDED: list[tuple[str, bytes, str]] = [
     ("1 is issued before the signal 3, and 5 after the wait for it: 1 happens before 5, with no load between them",
-     session("I0.0 C0 S0 W1<3 I1.1 C1 X L0.0<0 L0.1<5"),
+     session("I0.0 C0 S0 W1<3 I1.8 C1 X L0.0<0 L0.8<5", locations=9),
      "events 9 / verdict broken / load 9 / missing 1 / observed 5 / kind flush / primary 0 / window 1 5 5"),
     ("the same without the wait: a signal alone orders nothing",
-     session("I0.0 C0 S0 I1.1 C1 X L0.0<0 L0.1<4"), "events 8 / verdict robust / cut 1 0 1 / share 50"),
+     session("I0.0 C0 S0 I1.8 C1 X L0.0<0 L0.8<4", locations=9), "events 8 / verdict robust / cut 1 0 1 / share 50"),
     ("a signal is turned away while a store of its thread waits", session("I0.0 S0"), "refused 11 2"),
     ("a wait for an issue", session("I0.0 C0 W1<1"), "refused 18 3"),
     ("a wait for a signal of an earlier stretch", session("S0 X W1<1"), "refused 18 3"),
@@ -547,7 +548,8 @@ def self_test() -> list[tuple[str, bool]]:
     """All comparisons: a name and whether it holds."""
     results: list[tuple[str, bool]] = []
     judges: list[tuple[str, Callable]] = [("judge", oracle.judge), ("judge_closure", oracle.judge_closure)]
-    for name, data, expected in CASES + REFUSALS + MORE_REFUSALS + EDGES + ERRORS + WINDOWS + LOCKED + LOOKUPS + HANDED:
+    by_document_01 = CASES + REFUSALS + MORE_REFUSALS + EDGES + ERRORS
+    for name, data, expected in by_document_01 + WINDOWS + LOCKED + LOOKUPS + HANDED:
         for label, judging in judges:
             results.append((f"{name} ({label})", " / ".join(lines_with_windows(data, judging)) == expected))
     for name, data, first, second, answer in ORDERS:
