@@ -5,6 +5,7 @@ python3 proof_file.py trade > ../../crates/model/proofs/CasesOfTrade.antt
 python3 proof_file.py windows > ../../crates/model/proofs/CasesOfWindows.antt
 python3 proof_file.py locked > ../../crates/model/proofs/CasesOfLocked.antt
 python3 proof_file.py handed > ../../crates/model/proofs/CasesOfHandOver.antt
+python3 proof_file.py one_line > ../../crates/model/proofs/CasesOfOneLine.antt
 python3 proof_file.py random SEED COUNT > ../../crates/model/proofs/RandomSessions.antt
 
 The expected answers of the random sessions come from the brute force of oracle.py; those of all others are the ones
@@ -22,24 +23,27 @@ import generate
 import oracle
 from lines import lines_with_windows
 from oracle import Event, Refused
-from sessions import CASES, ERRORS, HANDED, LOCKED, WINDOWS
+from sessions import CASES, ERRORS, HANDED, LOCKED, ONE_LINE, WINDOWS
 
 CONSTRUCTORS = {oracle.BEGIN: "Begin", oracle.ISSUE: "Issue", oracle.COMMIT: "Commit", oracle.LOAD: "Load",
                 oracle.CLFLUSH: "Clflush", oracle.CLFLUSHOPT: "Clwb", oracle.SFENCE: "Sfence", oracle.MFENCE: "Mfence",
                 oracle.CRASH: "Crash", oracle.SKIP_ON: "SkipOn", oracle.SKIP_OFF: "SkipOff", oracle.LOCKED: "Locked",
                 oracle.SIGNAL: "Signal", oracle.WAIT: "Wait"}
 
-LISTS = {"cases": CASES, "trade": ERRORS, "windows": WINDOWS, "locked": LOCKED, "handed": HANDED}
+LISTS = {"cases": CASES, "trade": ERRORS, "windows": WINDOWS, "locked": LOCKED, "handed": HANDED,
+         "one_line": ONE_LINE}
 THEOREMS = {"cases": "cases-1-to-11", "trade": "errors-of-the-trade", "windows": "windows-as-worked",
-            "locked": "locked-as-worked", "handed": "handed-as-worked", "random": "random-sessions"}
+            "locked": "locked-as-worked", "handed": "handed-as-worked", "one_line": "one-line-as-worked",
+            "random": "random-sessions"}
 
 # What stands on top of the file, and behind it SHOWN.
 HEADERS = {
     "cases": """Document 01, "Sessions": "Cases 1 to 11 are the proved ones." The definitions give each case's bytes the
-        answer that document 01 states, and the cut buffer; case 11 stands for both its loads.""",
+        answer that document 01 states, for cases 1, 4 and 5 with the kind of document 02, job 5, and the cut
+        buffer; case 11 stands for both its loads.""",
     "trade": """Document 01, "Errors the trade has made": a session for each that has no case of its own, and for rules
-        that no case needs. The definitions give their bytes the answers that follow from document 01, and the cut
-        buffers.""",
+        that no case needs. The definitions give their bytes the answers that follow from documents 01 and 02, and the
+        cut buffers.""",
     "windows": """Document 02, job 1, "Where the flush may go": a session for each thing that moves a place or takes a
         window away. The definitions give their bytes the answers that follow from document 02, and the cut buffers.""",
     "locked": """Document 02, job 2, "Locked operations in one record": a session for each thing that the load, the
@@ -48,6 +52,9 @@ HEADERS = {
     "handed": """Document 02, job 4, "Work handed over through ordinary memory": a session for each thing that a signal
         passes on or not, that a wait hands over to or not, that turns either away, or that they do to a window. The
         definitions give their bytes the answers that follow from documents 01 and 02, and the cut buffers.""",
+    "one_line": """Document 02, job 5, "Two stores on one line": a session for each thing that puts missing and observed
+        on one line or on two, or decides between the kinds. The definitions give their bytes the answers that follow
+        from documents 01 and 02, and the cut buffers.""",
     "random": """Random sessions: the definitions give their bytes the answers of an independent brute force over all
         choices (tools/oracle).""",
 }
@@ -73,7 +80,7 @@ use Rattle.model.specs.Answers.{%s}
 use Rattle.model.specs.Answers.{tabulate, cutOf, sum, shareOf, faultOf}
 use Rattle.model.specs.Reading.{encode}
 use Rattle.model.proofs.Encoding.{readingEvents}
-use Rattle.model.proofs.Sessions.{lent, zeros, padded, Outcome, outcomeOf, outcomeOfEvents, outcome-all}"""
+use Rattle.model.proofs.Sessions.{%s, Outcome, outcomeOf, outcomeOfEvents, outcome-all}"""
 
 THEOREM = """encoded : map encode traces ≡ sessions
 unfolding traces sessions encode recordOf rowOf
@@ -114,10 +121,10 @@ def imported(names: list[str]) -> list[str]:
     return [f"use Rattle.record.specs.declared.events.Event.the-variants.{{{', '.join(group)}}}" for group in groups]
 
 
-def named(names: tuple[str, ...], answers: Iterable[str]) -> str:
-    """Those of the names that stand in the answers, as they are imported."""
+def named(names: str, answers: Iterable[str], more: str = "") -> str:
+    """Those of the names that stand in the answers, and some more, as they are imported."""
     words = set(re.findall(r"\w+", " ".join(answers)))
-    return ", ".join(name for name in names if name in words)
+    return ", ".join([name for name in names.split() if name in words] + more.split())
 
 
 def wrapped(items: Iterable[str], indent: str) -> str:
@@ -163,10 +170,8 @@ def shown_outcome(answer: str, cut: str) -> str:
 
 
 def shown_windows(primary: str, lines: list[list[str]]) -> str:
-    """A flush fault: its primary thread, and the windows of the threads up to the last that has one."""
+    """A flush fault: its primary thread, and the windows of the threads up to the last that has one. There is one."""
     ends = {int(thread): f"between {first} {last}" for _, thread, first, last in lines}
-    if not ends:
-        return f"(flush {primary} (padded []))"
     listed = [ends.get(thread, "none") for thread in range(max(ends) + 1)]
     return f"(flush {primary} (padded ({' ∷ '.join(listed + ['[]'])})))"
 
@@ -194,10 +199,11 @@ def proof_file(which: str, listed: list[tuple[str, bytes, list[str]]]) -> str:
     events = [(title, wrapped(map(shown_event, events_of(data)), "    ")) for title, data, _ in listed]
     answers = [(title, shown_answer(lines)) for title, _, lines in listed]
     entries = [entry for _, entry in answers]
-    windows = named(("none", "between"), entries) + ", behind, lastCovered, windowOf"
-    faults = named(("refused", "robust", "broken", "contradiction", "flush"), entries)
+    windows = named("none between", entries, "behind lastCovered windowOf")
+    faults = named("refused robust broken contradiction impossible flush", entries)
+    shown = named("lent zeros padded", entries)
     return "\n\n".join([
-        header(which) + "\n" + IMPORTS % (used, windows, faults),
+        header(which) + "\n" + IMPORTS % (used, windows, faults, shown),
         "-- the bytes\n" + "pub " + table("sessions", "(List ℕ)", bytes_),
         "-- the events that they are the records of\n" + table("traces", "(List Event)", events),
         "-- the answers, and the cut buffers afterwards\n" + "pub " + table("answers", "Outcome", answers),

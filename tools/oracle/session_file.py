@@ -16,7 +16,7 @@ import generate
 import oracle
 from lines import lines_with_windows
 from oracle import Refused
-from sessions import CASES, EDGES, ERRORS, HANDED, LOCKED, LOOKUPS, MORE_REFUSALS, ORDERS, REFUSALS, WINDOWS
+from sessions import CASES, EDGES, ERRORS, HANDED, LOCKED, LOOKUPS, MORE_REFUSALS, ONE_LINE, ORDERS, REFUSALS, WINDOWS
 from sessions import show, without_windows
 
 LONGEST = 32767  # the program's room for a trace; the program `verdict` is run on longer input by tests/verdict
@@ -43,7 +43,7 @@ def listed() -> list[Pair]:
     for name, data, expected in CASES + REFUSALS + MORE_REFUSALS + EDGES + ERRORS:
         if len(data) <= LONGEST:
             pairs += judged("j", name, data, without_windows(expected))
-    for name, data, expected in WINDOWS + LOCKED + LOOKUPS + HANDED:
+    for name, data, expected in WINDOWS + LOCKED + LOOKUPS + HANDED + ONE_LINE:
         pairs += judged("w", name, data, expected.split(" / "))
     for name, data, first, second, answer in ORDERS:
         pairs.append((f"# order: {name}", [f"# order: {name}"]))

@@ -75,7 +75,8 @@ B = raw("08 00 01 00 01 00 01 00 02 00")
 CASE_1 = "I0.0 C0 I0.1 C0 I0.0 C0 I0.1 C0 X"
 CASE_11 = "I0.0 I1.0 C1 C0 X"
 
-# Cases 1 to 11: name, trace, the lines of `verdict` joined by ' / ', behind them those of a flush fault's windows.
+# Cases 1 to 11: name, trace, the lines of `verdict` joined by ' / '; in the lists below also those of a flush fault's
+# windows, which no case has. The kind of cases 1, 4 and 5 is that of document 02, job 5.
 CASES: list[tuple[str, bytes, str]] = [
     ("case 1", session(CASE_1 + " L0.0<1 L0.1<7"),
      "events 11 / verdict broken / load 11 / missing 5 / observed 7 / kind impossible"),
@@ -472,6 +473,93 @@ HANDED: list[tuple[str, bytes, str]] = [
      "events 12 / verdict robust / cut 1 0 0 / cut 2 1 1 / share 66"),
 ]
 
+# Document 02, job 5, "Two stores on one line": what the session shows, trace, lines as above.
+ONE_LINE: list[tuple[str, bytes, str]] = [
+    ("locations 0 and 7, the ends of line 0: impossible, with neither windows nor a primary thread",
+     session("I0.0 C0 I0.7 C0 X L0.0<0 L0.7<3", locations=8),
+     "events 7 / verdict broken / load 7 / missing 1 / observed 3 / kind impossible"),
+    ("locations 7 and 8 are neighbours on two lines: flush, with a window",
+     session("I0.7 C0 I0.8 C0 X L0.7<0 L0.8<3", locations=9),
+     "events 7 / verdict broken / load 7 / missing 1 / observed 3 / kind flush / primary 0 / window 0 2 3"),
+    ("the same the other way round: the missing store is at 8 and the observed one at 7",
+     session("I0.8 C0 I0.7 C0 X L0.8<0 L0.7<3", locations=9),
+     "events 7 / verdict broken / load 7 / missing 1 / observed 3 / kind flush / primary 0 / window 0 2 3"),
+    ("locations 3 and 4, in the middle of a line",
+     session("I0.3 C0 I0.4 C0 X L0.3<0 L0.4<3", locations=8),
+     "events 7 / verdict broken / load 7 / missing 1 / observed 3 / kind impossible"),
+    ("locations 8 and 15, the ends of line 1",
+     session("I0.8 C0 I0.15 C0 X L0.8<0 L0.15<3", locations=16),
+     "events 7 / verdict broken / load 7 / missing 1 / observed 3 / kind impossible"),
+    ("locations 15 and 16, on lines 1 and 2",
+     session("I0.15 C0 I0.16 C0 X L0.15<0 L0.16<3", locations=17),
+     "events 7 / verdict broken / load 7 / missing 1 / observed 3 / kind flush / primary 0 / window 0 2 3"),
+    ("locations 0 and 8, the first words of two lines",
+     session("I0.0 C0 I0.8 C0 X L0.0<0 L0.8<3", locations=9),
+     "events 7 / verdict broken / load 7 / missing 1 / observed 3 / kind flush / primary 0 / window 0 2 3"),
+    ("locations 248 and 255, the ends of the last line of 256 locations",
+     session("I0.248 C0 I0.255 C0 X L0.248<0 L0.255<3", locations=256),
+     "events 7 / verdict broken / load 7 / missing 1 / observed 3 / kind impossible"),
+    ("locations 247 and 248, on the last two lines",
+     session("I0.247 C0 I0.248 C0 X L0.247<0 L0.248<3", locations=256),
+     "events 7 / verdict broken / load 7 / missing 1 / observed 3 / kind flush / primary 0 / window 0 2 3"),
+    ("two stores at one location: 3 would be a contradiction, but 1 is the smallest missing store",
+     session("I0.0 C0 I0.0 C0 X L0.0<0 L0.0<3", locations=1),
+     "events 7 / verdict broken / load 7 / missing 1 / observed 3 / kind impossible"),
+    ("ordered by a load, in two threads",
+     session("I0.8 C0 L1.8<1 I1.9 C1 X L0.8<0 L0.9<4", locations=10),
+     "events 8 / verdict broken / load 8 / missing 1 / observed 4 / kind impossible"),
+    ("ordered by a locked operation that loads 1 and is observed itself",
+     session(SWAPPED + " L0.0<0 L0.0<3"),
+     "events 6 / verdict broken / load 6 / missing 1 / observed 3 / kind impossible"),
+    ("ordered by a locked operation that loads a later store of 1's thread",
+     session("I0.0 C0 I0.1 C0 R1.1<3 X L0.0<0 L0.1<5"),
+     "events 8 / verdict broken / load 8 / missing 1 / observed 5 / kind impossible"),
+    ("ordered by a hand-over",
+     session("I0.0 C0 S0 W1<3 I1.1 C1 X L0.0<0 L0.1<5"),
+     "events 9 / verdict broken / load 9 / missing 1 / observed 5 / kind impossible"),
+    ("a chain through 4, which is on another line: only the lines of missing and observed count",
+     session("I0.0 C0 L1.0<1 I1.8 C1 L2.8<4 I2.1 C2 X L0.0<0 L0.1<7", locations=9),
+     "events 11 / verdict broken / load 11 / missing 1 / observed 7 / kind impossible"),
+    ("a chain through 4, which is on missing's line, to a store on another one: flush",
+     session("I0.0 C0 L1.0<1 I1.1 C1 L2.1<4 I2.8 C2 X L0.0<0 L0.8<7", locations=9),
+     "events 11 / verdict broken / load 11 / missing 1 / observed 7 / kind flush / primary 0 / window 1 4 4"
+     " / window 2 7 7"),
+    ("of eight threads and 256 locations: the last thread's store is missing, the first one's observed",
+     session("I7.255 C7 L0.255<1 I0.248 C0 X L3.255<0 L3.248<4", threads=8, locations=256),
+     "events 8 / verdict broken / load 8 / missing 1 / observed 4 / kind impossible"),
+    ("the pair 1, 3 is on one line too, but 1 is the smallest observed store: a contradiction stays one",
+     session("I0.0 C0 I0.1 C0 X L0.0<1 L0.1<3 L0.0<0"),
+     "events 8 / verdict broken / load 8 / missing 1 / observed 1 / kind contradiction"),
+    ("a smaller store on another line, 1, is observed too, but 3 does not happen before it: a contradiction",
+     session("I0.8 C0 I0.0 C0 X L0.8<1 L0.0<3 L0.0<0", locations=9),
+     "events 8 / verdict broken / load 8 / missing 3 / observed 3 / kind contradiction"),
+    ("load 8, which would make 1 a contradiction, comes behind load 7, where the trace is broken",
+     session("I0.0 C0 I0.1 C0 X L0.0<0 L0.1<3 L0.0<1"),
+     "events 8 / verdict broken / load 7 / missing 1 / observed 3 / kind impossible"),
+    ("the pair 1, 5 is on two lines, but 3 is the smallest observed store: the pair is not chosen again",
+     session("I0.0 C0 I0.1 C0 I0.8 C0 X L0.1<3 L0.8<5 L0.0<0", locations=9),
+     "events 10 / verdict broken / load 10 / missing 1 / observed 3 / kind impossible"),
+    ("the pair 3, 5 is on two lines, but 1 is the smallest missing store: the pair is not chosen again",
+     session("I0.0 C0 I1.0 C1 I1.8 C1 I0.1 C0 X L0.8<5 L0.1<7 L0.0<0", locations=9),
+     "events 12 / verdict broken / load 12 / missing 1 / observed 7 / kind impossible"),
+    ("the pair 1, 5 is on one line, but 3, on another one, is the smallest observed store: flush",
+     session("I0.0 C0 I0.8 C0 I0.1 C0 X L0.8<3 L0.1<5 L0.0<0", locations=9),
+     "events 10 / verdict broken / load 10 / missing 1 / observed 3 / kind flush / primary 0 / window 0 2 3"),
+    ("not ordered by happens-before: robust, though 1 was committed first; the choice has no rule of lines",
+     session("I0.0 C0 I1.1 C1 X L0.0<0 L0.1<3"), "events 7 / verdict robust / cut 1 0 1 / share 50"),
+    ("one line in two stretches: nothing orders the stores, robust",
+     session("I0.0 C0 X I0.1 C0 X L0.0<0 L0.1<4"), "events 8 / verdict robust / cut 1 0 / cut 2 1 / share 50"),
+    ("a pair of stretch 2, and a load from 1, which is of stretch 1",
+     session("I0.0 C0 X I0.0 C0 I0.1 C0 X L0.0<1 L0.1<6"),
+     "events 10 / verdict broken / load 10 / missing 4 / observed 6 / kind impossible"),
+    ("a flush and an sfence between the two stores change nothing but numbers",
+     session("I0.0 C0 F0.0 SF0 I0.1 C0 X L0.0<0 L0.1<5"),
+     "events 9 / verdict broken / load 9 / missing 1 / observed 5 / kind impossible"),
+    ("the load from 3 stands in a skip and does not count: robust",
+     session("I0.0 C0 I0.1 C0 X L0.0<0 SKIP0 L0.1<3"), "events 8 / verdict robust / cut 1 0 / share 0"),
+    ("a refusal outranks it", session("I0.0 C0 I0.1 C0 X L0.0<0 L0.1<3 C0"), "refused 10 8"),
+]
+
 # Order queries: name, trace, first, second, expected answer.
 ORDERS: list[tuple[str, bytes, int, int, object]] = [
     ("query 0", B, 0, 0, Refused(16, 0)),
@@ -549,7 +637,7 @@ def self_test() -> list[tuple[str, bool]]:
     results: list[tuple[str, bool]] = []
     judges: list[tuple[str, Callable]] = [("judge", oracle.judge), ("judge_closure", oracle.judge_closure)]
     by_document_01 = CASES + REFUSALS + MORE_REFUSALS + EDGES + ERRORS
-    for name, data, expected in by_document_01 + WINDOWS + LOCKED + LOOKUPS + HANDED:
+    for name, data, expected in by_document_01 + WINDOWS + LOCKED + LOOKUPS + HANDED + ONE_LINE:
         for label, judging in judges:
             results.append((f"{name} ({label})", " / ".join(lines_with_windows(data, judging)) == expected))
     for name, data, first, second, answer in ORDERS:

@@ -1,6 +1,6 @@
 -- Document 01, "Sessions": "Cases 1 to 11 are the proved ones." The definitions give each case's bytes the answer that
--- document 01 states, and the cut buffer; case 11 stands for both its loads. Shown together as one list, by
--- computation. Made by tools/oracle/proof_file.py.
+-- document 01 states, for cases 1, 4 and 5 with the kind of document 02, job 5, and the cut buffer; case 11 stands for
+-- both its loads. Shown together as one list, by computation. Made by tools/oracle/proof_file.py.
 use mathlib.Core.Path.{_≡_, refl, sym, ap, _∙_}
 use mathlib.Core.List.{List, [], _∷_, map}
 use Prim.Native.Nat.{ℕ}
@@ -16,12 +16,12 @@ use Rattle.model.specs.Choice.{finished}
 use Rattle.model.specs.Clocks.{seen, clock, vc}
 use Rattle.model.specs.Verdict.{forbids?, observes?, forbidden?, observed?, pair?, missing?, bad?, closure}
 use Rattle.model.specs.Verdict.{loadOf, missingOf, observedOf, rulingOf}
-use Rattle.model.specs.Windows.{none, between, behind, lastCovered, windowOf}
-use Rattle.model.specs.Answers.{refused, robust, broken, contradiction, flush}
+use Rattle.model.specs.Windows.{behind, lastCovered, windowOf}
+use Rattle.model.specs.Answers.{refused, robust, broken, contradiction, impossible}
 use Rattle.model.specs.Answers.{tabulate, cutOf, sum, shareOf, faultOf}
 use Rattle.model.specs.Reading.{encode}
 use Rattle.model.proofs.Encoding.{readingEvents}
-use Rattle.model.proofs.Sessions.{lent, zeros, padded, Outcome, outcomeOf, outcomeOfEvents, outcome-all}
+use Rattle.model.proofs.Sessions.{lent, zeros, Outcome, outcomeOf, outcomeOfEvents, outcome-all}
 
 -- the bytes
 pub sessions : List (List ℕ)
@@ -121,15 +121,15 @@ traces =
 pub answers : List Outcome
 answers =
     -- case 1
-    (record { answer = broken 11 11 5 7 (flush 0 (padded (between 6 7 ∷ []))); cut = lent }) ∷
+    (record { answer = broken 11 11 5 7 impossible; cut = lent }) ∷
     -- case 2
     (record { answer = robust 7 50; cut = 0 ∷ 1 ∷ zeros 54 }) ∷
     -- case 3
     (record { answer = robust 11 100; cut = 4 ∷ zeros 55 }) ∷
     -- case 4
-    (record { answer = broken 10 10 1 3 (flush 0 (padded (between 2 3 ∷ []))); cut = lent }) ∷
+    (record { answer = broken 10 10 1 3 impossible; cut = lent }) ∷
     -- case 5
-    (record { answer = broken 8 8 1 4 (flush 0 (padded (none ∷ between 4 4 ∷ []))); cut = lent }) ∷
+    (record { answer = broken 8 8 1 4 impossible; cut = lent }) ∷
     -- case 6
     (record { answer = robust 8 50; cut = 0 ∷ 1 ∷ zeros 54 }) ∷
     -- case 7

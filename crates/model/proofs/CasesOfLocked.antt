@@ -36,15 +36,17 @@ sessions =
     (8 ∷ 0 ∷ 1 ∷ 0 ∷ 1 ∷ 0 ∷ 2 ∷ 0 ∷ 2 ∷ 0 ∷ 6 ∷ 0 ∷ 2 ∷ 0 ∷ 0 ∷ 0 ∷ 0 ∷ 0 ∷ 4 ∷ 0 ∷ 3 ∷ 0 ∷ 0 ∷ 0
     ∷ 8 ∷ 0 ∷ 12 ∷ 0 ∷ 1 ∷ 0 ∷ 0 ∷ 0 ∷ 1 ∷ 0 ∷ 2 ∷ 0 ∷ 9 ∷ 0
     ∷ 8 ∷ 0 ∷ 4 ∷ 0 ∷ 0 ∷ 0 ∷ 0 ∷ 0 ∷ 3 ∷ 0 ∷ []) ∷
-    -- observed's own load first brings missing to its thread, and thread 0 stores no more: no window at all
-    (8 ∷ 0 ∷ 1 ∷ 0 ∷ 1 ∷ 0 ∷ 2 ∷ 0 ∷ 2 ∷ 0 ∷ 6 ∷ 0 ∷ 2 ∷ 0 ∷ 0 ∷ 0 ∷ 0 ∷ 0 ∷ 4 ∷ 0 ∷ 3 ∷ 0 ∷ 0 ∷ 0
-    ∷ 8 ∷ 0 ∷ 12 ∷ 0 ∷ 1 ∷ 0 ∷ 0 ∷ 0 ∷ 1 ∷ 0 ∷ 2 ∷ 0 ∷ 9 ∷ 0
-    ∷ 8 ∷ 0 ∷ 4 ∷ 0 ∷ 0 ∷ 0 ∷ 0 ∷ 0 ∷ 0 ∷ 0 ∷ 8 ∷ 0 ∷ 4 ∷ 0 ∷ 0 ∷ 0 ∷ 0 ∷ 0 ∷ 3 ∷ 0 ∷ []) ∷
-    -- the same as three records: observed is 4 and the load 8; a flush may stand between the load and the issue
-    (8 ∷ 0 ∷ 1 ∷ 0 ∷ 1 ∷ 0 ∷ 2 ∷ 0 ∷ 2 ∷ 0 ∷ 6 ∷ 0 ∷ 2 ∷ 0 ∷ 0 ∷ 0 ∷ 0 ∷ 0 ∷ 4 ∷ 0 ∷ 3 ∷ 0 ∷ 0 ∷ 0
-    ∷ 8 ∷ 0 ∷ 4 ∷ 0 ∷ 1 ∷ 0 ∷ 0 ∷ 0 ∷ 1 ∷ 0 ∷ 6 ∷ 0 ∷ 2 ∷ 0 ∷ 1 ∷ 0 ∷ 0 ∷ 0
+    -- observed's own load first brings missing to its thread: no window there, only in thread 0, in front of 3
+    (8 ∷ 0 ∷ 1 ∷ 0 ∷ 1 ∷ 0 ∷ 2 ∷ 0 ∷ 9 ∷ 0 ∷ 6 ∷ 0 ∷ 2 ∷ 0 ∷ 0 ∷ 0 ∷ 0 ∷ 0 ∷ 4 ∷ 0 ∷ 3 ∷ 0 ∷ 0 ∷ 0
+    ∷ 6 ∷ 0 ∷ 2 ∷ 0 ∷ 0 ∷ 0 ∷ 8 ∷ 0 ∷ 4 ∷ 0 ∷ 3 ∷ 0 ∷ 0 ∷ 0
+    ∷ 8 ∷ 0 ∷ 12 ∷ 0 ∷ 1 ∷ 0 ∷ 8 ∷ 0 ∷ 3 ∷ 0 ∷ 2 ∷ 0 ∷ 9 ∷ 0
+    ∷ 8 ∷ 0 ∷ 4 ∷ 0 ∷ 0 ∷ 0 ∷ 0 ∷ 0 ∷ 0 ∷ 0 ∷ 8 ∷ 0 ∷ 4 ∷ 0 ∷ 0 ∷ 0 ∷ 8 ∷ 0 ∷ 5 ∷ 0 ∷ []) ∷
+    -- the same as three records: observed is 6 and the load 10; a flush may stand between the load and the issue
+    (8 ∷ 0 ∷ 1 ∷ 0 ∷ 1 ∷ 0 ∷ 2 ∷ 0 ∷ 9 ∷ 0 ∷ 6 ∷ 0 ∷ 2 ∷ 0 ∷ 0 ∷ 0 ∷ 0 ∷ 0 ∷ 4 ∷ 0 ∷ 3 ∷ 0 ∷ 0 ∷ 0
+    ∷ 6 ∷ 0 ∷ 2 ∷ 0 ∷ 0 ∷ 0 ∷ 8 ∷ 0 ∷ 4 ∷ 0 ∷ 3 ∷ 0 ∷ 0 ∷ 0
+    ∷ 8 ∷ 0 ∷ 4 ∷ 0 ∷ 1 ∷ 0 ∷ 8 ∷ 0 ∷ 3 ∷ 0 ∷ 6 ∷ 0 ∷ 2 ∷ 0 ∷ 1 ∷ 0 ∷ 8 ∷ 0
     ∷ 4 ∷ 0 ∷ 3 ∷ 0 ∷ 1 ∷ 0 ∷ 2 ∷ 0 ∷ 9 ∷ 0 ∷ 8 ∷ 0 ∷ 4 ∷ 0 ∷ 0 ∷ 0 ∷ 0 ∷ 0 ∷ 0 ∷ 0
-    ∷ 8 ∷ 0 ∷ 4 ∷ 0 ∷ 0 ∷ 0 ∷ 0 ∷ 0 ∷ 4 ∷ 0 ∷ []) ∷
+    ∷ 8 ∷ 0 ∷ 4 ∷ 0 ∷ 0 ∷ 0 ∷ 8 ∷ 0 ∷ 6 ∷ 0 ∷ []) ∷
     -- locked operation: no such thread goes before no such location
     (8 ∷ 0 ∷ 1 ∷ 0 ∷ 1 ∷ 0 ∷ 1 ∷ 0 ∷ 2 ∷ 0 ∷ 8 ∷ 0 ∷ 12 ∷ 0 ∷ 1 ∷ 0 ∷ 2 ∷ 0 ∷ 5 ∷ 0 ∷ []) ∷
     -- locked operation: no such location goes before the waiting store
@@ -118,11 +120,12 @@ traces =
     (Begin 1 2 2 ∷ Issue 0 0 ∷ Commit 0 ∷ Locked 1 0 1 ∷ Crash ∷ Load 0 0 1 ∷ []) ∷
     -- a locked operation's source happens before its store: with 3 observed, 1 is in too
     (Begin 1 2 2 ∷ Issue 0 0 ∷ Commit 0 ∷ Locked 1 0 1 ∷ Crash ∷ Load 0 0 3 ∷ []) ∷
-    -- observed's own load first brings missing to its thread, and thread 0 stores no more: no window at all
-    (Begin 1 2 2 ∷ Issue 0 0 ∷ Commit 0 ∷ Locked 1 0 1 ∷ Crash ∷ Load 0 0 0 ∷ Load 0 0 3 ∷ []) ∷
-    -- the same as three records: observed is 4 and the load 8; a flush may stand between the load and the issue
-    (Begin 1 2 2 ∷ Issue 0 0 ∷ Commit 0 ∷ Load 1 0 1 ∷ Issue 1 0 ∷ Commit 1 ∷ Crash ∷ Load 0 0 0 ∷ Load 0 0 4
+    -- observed's own load first brings missing to its thread: no window there, only in thread 0, in front of 3
+    (Begin 1 2 9 ∷ Issue 0 0 ∷ Commit 0 ∷ Issue 0 8 ∷ Commit 0 ∷ Locked 1 8 3 ∷ Crash ∷ Load 0 0 0 ∷ Load 0 8 5
     ∷ []) ∷
+    -- the same as three records: observed is 6 and the load 10; a flush may stand between the load and the issue
+    (Begin 1 2 9 ∷ Issue 0 0 ∷ Commit 0 ∷ Issue 0 8 ∷ Commit 0 ∷ Load 1 8 3 ∷ Issue 1 8 ∷ Commit 1 ∷ Crash
+    ∷ Load 0 0 0 ∷ Load 0 8 6 ∷ []) ∷
     -- locked operation: no such thread goes before no such location
     (Begin 1 1 2 ∷ Locked 1 2 5 ∷ []) ∷
     -- locked operation: no such location goes before the waiting store
@@ -168,10 +171,10 @@ answers =
     (record { answer = robust 5 50; cut = 1 ∷ zeros 55 }) ∷
     -- a locked operation's source happens before its store: with 3 observed, 1 is in too
     (record { answer = robust 5 100; cut = 1 ∷ 1 ∷ zeros 54 }) ∷
-    -- observed's own load first brings missing to its thread, and thread 0 stores no more: no window at all
-    (record { answer = broken 6 6 1 3 (flush 0 (padded [])); cut = lent }) ∷
-    -- the same as three records: observed is 4 and the load 8; a flush may stand between the load and the issue
-    (record { answer = broken 8 8 1 4 (flush 0 (padded (none ∷ between 4 4 ∷ []))); cut = lent }) ∷
+    -- observed's own load first brings missing to its thread: no window there, only in thread 0, in front of 3
+    (record { answer = broken 8 8 1 5 (flush 0 (padded (between 2 3 ∷ []))); cut = lent }) ∷
+    -- the same as three records: observed is 6 and the load 10; a flush may stand between the load and the issue
+    (record { answer = broken 10 10 1 6 (flush 0 (padded (between 2 3 ∷ between 6 6 ∷ []))); cut = lent }) ∷
     -- locked operation: no such thread goes before no such location
     (record { answer = refused 7 1; cut = lent }) ∷
     -- locked operation: no such location goes before the waiting store

@@ -1,6 +1,6 @@
 -- Document 01, "Errors the trade has made": a session for each that has no case of its own, and for rules that no case
--- needs. The definitions give their bytes the answers that follow from document 01, and the cut buffers. Shown together
--- as one list, by computation. Made by tools/oracle/proof_file.py.
+-- needs. The definitions give their bytes the answers that follow from documents 01 and 02, and the cut buffers. Shown
+-- together as one list, by computation. Made by tools/oracle/proof_file.py.
 use mathlib.Core.Path.{_≡_, refl, sym, ap, _∙_}
 use mathlib.Core.List.{List, [], _∷_, map}
 use Prim.Native.Nat.{ℕ}
@@ -17,7 +17,7 @@ use Rattle.model.specs.Clocks.{seen, clock, vc}
 use Rattle.model.specs.Verdict.{forbids?, observes?, forbidden?, observed?, pair?, missing?, bad?, closure}
 use Rattle.model.specs.Verdict.{loadOf, missingOf, observedOf, rulingOf}
 use Rattle.model.specs.Windows.{none, between, behind, lastCovered, windowOf}
-use Rattle.model.specs.Answers.{robust, broken, contradiction, flush}
+use Rattle.model.specs.Answers.{robust, broken, contradiction, impossible, flush}
 use Rattle.model.specs.Answers.{tabulate, cutOf, sum, shareOf, faultOf}
 use Rattle.model.specs.Reading.{encode}
 use Rattle.model.proofs.Encoding.{readingEvents}
@@ -55,11 +55,11 @@ sessions =
     ∷ 6 ∷ 0 ∷ 2 ∷ 0 ∷ 1 ∷ 0 ∷ 1 ∷ 0 ∷ 4 ∷ 0 ∷ 3 ∷ 0 ∷ 1 ∷ 0 ∷ 2 ∷ 0 ∷ 9 ∷ 0
     ∷ 8 ∷ 0 ∷ 4 ∷ 0 ∷ 0 ∷ 0 ∷ 0 ∷ 0 ∷ 0 ∷ 0 ∷ 8 ∷ 0 ∷ 4 ∷ 0 ∷ 0 ∷ 0 ∷ 1 ∷ 0 ∷ 5 ∷ 0 ∷ []) ∷
     -- a chain over three threads
-    (8 ∷ 0 ∷ 1 ∷ 0 ∷ 1 ∷ 0 ∷ 3 ∷ 0 ∷ 3 ∷ 0 ∷ 6 ∷ 0 ∷ 2 ∷ 0 ∷ 0 ∷ 0 ∷ 0 ∷ 0 ∷ 4 ∷ 0 ∷ 3 ∷ 0 ∷ 0 ∷ 0
-    ∷ 8 ∷ 0 ∷ 4 ∷ 0 ∷ 1 ∷ 0 ∷ 0 ∷ 0 ∷ 1 ∷ 0 ∷ 6 ∷ 0 ∷ 2 ∷ 0 ∷ 1 ∷ 0 ∷ 1 ∷ 0
-    ∷ 4 ∷ 0 ∷ 3 ∷ 0 ∷ 1 ∷ 0 ∷ 8 ∷ 0 ∷ 4 ∷ 0 ∷ 2 ∷ 0 ∷ 1 ∷ 0 ∷ 4 ∷ 0
-    ∷ 6 ∷ 0 ∷ 2 ∷ 0 ∷ 2 ∷ 0 ∷ 2 ∷ 0 ∷ 4 ∷ 0 ∷ 3 ∷ 0 ∷ 2 ∷ 0 ∷ 2 ∷ 0 ∷ 9 ∷ 0
-    ∷ 8 ∷ 0 ∷ 4 ∷ 0 ∷ 0 ∷ 0 ∷ 0 ∷ 0 ∷ 0 ∷ 0 ∷ 8 ∷ 0 ∷ 4 ∷ 0 ∷ 0 ∷ 0 ∷ 2 ∷ 0 ∷ 7 ∷ 0 ∷ []) ∷
+    (8 ∷ 0 ∷ 1 ∷ 0 ∷ 1 ∷ 0 ∷ 3 ∷ 0 ∷ 17 ∷ 0 ∷ 6 ∷ 0 ∷ 2 ∷ 0 ∷ 0 ∷ 0 ∷ 0 ∷ 0 ∷ 4 ∷ 0 ∷ 3 ∷ 0 ∷ 0 ∷ 0
+    ∷ 8 ∷ 0 ∷ 4 ∷ 0 ∷ 1 ∷ 0 ∷ 0 ∷ 0 ∷ 1 ∷ 0 ∷ 6 ∷ 0 ∷ 2 ∷ 0 ∷ 1 ∷ 0 ∷ 8 ∷ 0
+    ∷ 4 ∷ 0 ∷ 3 ∷ 0 ∷ 1 ∷ 0 ∷ 8 ∷ 0 ∷ 4 ∷ 0 ∷ 2 ∷ 0 ∷ 8 ∷ 0 ∷ 4 ∷ 0
+    ∷ 6 ∷ 0 ∷ 2 ∷ 0 ∷ 2 ∷ 0 ∷ 16 ∷ 0 ∷ 4 ∷ 0 ∷ 3 ∷ 0 ∷ 2 ∷ 0 ∷ 2 ∷ 0 ∷ 9 ∷ 0
+    ∷ 8 ∷ 0 ∷ 4 ∷ 0 ∷ 0 ∷ 0 ∷ 0 ∷ 0 ∷ 0 ∷ 0 ∷ 8 ∷ 0 ∷ 4 ∷ 0 ∷ 0 ∷ 0 ∷ 16 ∷ 0 ∷ 7 ∷ 0 ∷ []) ∷
     -- a waiting store stays out of the share
     (8 ∷ 0 ∷ 1 ∷ 0 ∷ 1 ∷ 0 ∷ 1 ∷ 0 ∷ 2 ∷ 0 ∷ 6 ∷ 0 ∷ 2 ∷ 0 ∷ 0 ∷ 0 ∷ 0 ∷ 0 ∷ 4 ∷ 0 ∷ 3 ∷ 0 ∷ 0 ∷ 0
     ∷ 6 ∷ 0 ∷ 2 ∷ 0 ∷ 0 ∷ 0 ∷ 1 ∷ 0 ∷ 2 ∷ 0 ∷ 9 ∷ 0 ∷ 8 ∷ 0 ∷ 4 ∷ 0 ∷ 0 ∷ 0 ∷ 0 ∷ 0 ∷ 1 ∷ 0
@@ -69,17 +69,17 @@ sessions =
     ∷ 6 ∷ 0 ∷ 2 ∷ 0 ∷ 0 ∷ 0 ∷ 0 ∷ 0 ∷ 4 ∷ 0 ∷ 3 ∷ 0 ∷ 0 ∷ 0 ∷ 6 ∷ 0 ∷ 2 ∷ 0 ∷ 0 ∷ 0 ∷ 0 ∷ 0
     ∷ 4 ∷ 0 ∷ 3 ∷ 0 ∷ 0 ∷ 0 ∷ 2 ∷ 0 ∷ 9 ∷ 0 ∷ 8 ∷ 0 ∷ 4 ∷ 0 ∷ 0 ∷ 0 ∷ 0 ∷ 0 ∷ 3 ∷ 0 ∷ []) ∷
     -- smallest missing goes before smallest observed
-    (8 ∷ 0 ∷ 1 ∷ 0 ∷ 1 ∷ 0 ∷ 2 ∷ 0 ∷ 3 ∷ 0 ∷ 6 ∷ 0 ∷ 2 ∷ 0 ∷ 0 ∷ 0 ∷ 0 ∷ 0 ∷ 4 ∷ 0 ∷ 3 ∷ 0 ∷ 0 ∷ 0
-    ∷ 6 ∷ 0 ∷ 2 ∷ 0 ∷ 1 ∷ 0 ∷ 0 ∷ 0 ∷ 4 ∷ 0 ∷ 3 ∷ 0 ∷ 1 ∷ 0 ∷ 6 ∷ 0 ∷ 2 ∷ 0 ∷ 1 ∷ 0 ∷ 1 ∷ 0
-    ∷ 4 ∷ 0 ∷ 3 ∷ 0 ∷ 1 ∷ 0 ∷ 6 ∷ 0 ∷ 2 ∷ 0 ∷ 0 ∷ 0 ∷ 2 ∷ 0 ∷ 4 ∷ 0 ∷ 3 ∷ 0 ∷ 0 ∷ 0
-    ∷ 2 ∷ 0 ∷ 9 ∷ 0 ∷ 8 ∷ 0 ∷ 4 ∷ 0 ∷ 0 ∷ 0 ∷ 1 ∷ 0 ∷ 5 ∷ 0
-    ∷ 8 ∷ 0 ∷ 4 ∷ 0 ∷ 0 ∷ 0 ∷ 2 ∷ 0 ∷ 7 ∷ 0 ∷ 8 ∷ 0 ∷ 4 ∷ 0 ∷ 0 ∷ 0 ∷ 0 ∷ 0 ∷ 0 ∷ 0 ∷ []) ∷
+    (8 ∷ 0 ∷ 1 ∷ 0 ∷ 1 ∷ 0 ∷ 2 ∷ 0 ∷ 17 ∷ 0 ∷ 6 ∷ 0 ∷ 2 ∷ 0 ∷ 0 ∷ 0 ∷ 0 ∷ 0 ∷ 4 ∷ 0 ∷ 3 ∷ 0 ∷ 0 ∷ 0
+    ∷ 6 ∷ 0 ∷ 2 ∷ 0 ∷ 1 ∷ 0 ∷ 0 ∷ 0 ∷ 4 ∷ 0 ∷ 3 ∷ 0 ∷ 1 ∷ 0 ∷ 6 ∷ 0 ∷ 2 ∷ 0 ∷ 1 ∷ 0 ∷ 8 ∷ 0
+    ∷ 4 ∷ 0 ∷ 3 ∷ 0 ∷ 1 ∷ 0 ∷ 6 ∷ 0 ∷ 2 ∷ 0 ∷ 0 ∷ 0 ∷ 16 ∷ 0 ∷ 4 ∷ 0 ∷ 3 ∷ 0 ∷ 0 ∷ 0
+    ∷ 2 ∷ 0 ∷ 9 ∷ 0 ∷ 8 ∷ 0 ∷ 4 ∷ 0 ∷ 0 ∷ 0 ∷ 8 ∷ 0 ∷ 5 ∷ 0
+    ∷ 8 ∷ 0 ∷ 4 ∷ 0 ∷ 0 ∷ 0 ∷ 16 ∷ 0 ∷ 7 ∷ 0 ∷ 8 ∷ 0 ∷ 4 ∷ 0 ∷ 0 ∷ 0 ∷ 0 ∷ 0 ∷ 0 ∷ 0 ∷ []) ∷
     -- every load before the issue orders
-    (8 ∷ 0 ∷ 1 ∷ 0 ∷ 1 ∷ 0 ∷ 3 ∷ 0 ∷ 3 ∷ 0 ∷ 6 ∷ 0 ∷ 2 ∷ 0 ∷ 0 ∷ 0 ∷ 0 ∷ 0 ∷ 4 ∷ 0 ∷ 3 ∷ 0 ∷ 0 ∷ 0
-    ∷ 6 ∷ 0 ∷ 2 ∷ 0 ∷ 1 ∷ 0 ∷ 1 ∷ 0 ∷ 4 ∷ 0 ∷ 3 ∷ 0 ∷ 1 ∷ 0
-    ∷ 8 ∷ 0 ∷ 4 ∷ 0 ∷ 2 ∷ 0 ∷ 0 ∷ 0 ∷ 1 ∷ 0 ∷ 8 ∷ 0 ∷ 4 ∷ 0 ∷ 2 ∷ 0 ∷ 1 ∷ 0 ∷ 3 ∷ 0
-    ∷ 6 ∷ 0 ∷ 2 ∷ 0 ∷ 2 ∷ 0 ∷ 2 ∷ 0 ∷ 4 ∷ 0 ∷ 3 ∷ 0 ∷ 2 ∷ 0 ∷ 2 ∷ 0 ∷ 9 ∷ 0
-    ∷ 8 ∷ 0 ∷ 4 ∷ 0 ∷ 0 ∷ 0 ∷ 0 ∷ 0 ∷ 0 ∷ 0 ∷ 8 ∷ 0 ∷ 4 ∷ 0 ∷ 0 ∷ 0 ∷ 2 ∷ 0 ∷ 7 ∷ 0 ∷ []) ∷
+    (8 ∷ 0 ∷ 1 ∷ 0 ∷ 1 ∷ 0 ∷ 3 ∷ 0 ∷ 17 ∷ 0 ∷ 6 ∷ 0 ∷ 2 ∷ 0 ∷ 0 ∷ 0 ∷ 0 ∷ 0 ∷ 4 ∷ 0 ∷ 3 ∷ 0 ∷ 0 ∷ 0
+    ∷ 6 ∷ 0 ∷ 2 ∷ 0 ∷ 1 ∷ 0 ∷ 8 ∷ 0 ∷ 4 ∷ 0 ∷ 3 ∷ 0 ∷ 1 ∷ 0
+    ∷ 8 ∷ 0 ∷ 4 ∷ 0 ∷ 2 ∷ 0 ∷ 0 ∷ 0 ∷ 1 ∷ 0 ∷ 8 ∷ 0 ∷ 4 ∷ 0 ∷ 2 ∷ 0 ∷ 8 ∷ 0 ∷ 3 ∷ 0
+    ∷ 6 ∷ 0 ∷ 2 ∷ 0 ∷ 2 ∷ 0 ∷ 16 ∷ 0 ∷ 4 ∷ 0 ∷ 3 ∷ 0 ∷ 2 ∷ 0 ∷ 2 ∷ 0 ∷ 9 ∷ 0
+    ∷ 8 ∷ 0 ∷ 4 ∷ 0 ∷ 0 ∷ 0 ∷ 0 ∷ 0 ∷ 0 ∷ 0 ∷ 8 ∷ 0 ∷ 4 ∷ 0 ∷ 0 ∷ 0 ∷ 16 ∷ 0 ∷ 7 ∷ 0 ∷ []) ∷
     -- a skip is a matter of its own thread
     (8 ∷ 0 ∷ 1 ∷ 0 ∷ 1 ∷ 0 ∷ 2 ∷ 0 ∷ 2 ∷ 0 ∷ 6 ∷ 0 ∷ 2 ∷ 0 ∷ 0 ∷ 0 ∷ 0 ∷ 0 ∷ 4 ∷ 0 ∷ 3 ∷ 0 ∷ 0 ∷ 0
     ∷ 2 ∷ 0 ∷ 9 ∷ 0 ∷ 4 ∷ 0 ∷ 10 ∷ 0 ∷ 1 ∷ 0 ∷ 8 ∷ 0 ∷ 4 ∷ 0 ∷ 0 ∷ 0 ∷ 0 ∷ 0 ∷ 1 ∷ 0
@@ -120,18 +120,18 @@ traces =
     (Begin 1 2 2 ∷ Issue 0 0 ∷ Commit 0 ∷ SkipOn 1 ∷ Load 1 0 1 ∷ Issue 1 1 ∷ Commit 1 ∷ Crash ∷ Load 0 0 0
     ∷ Load 0 1 5 ∷ []) ∷
     -- a chain over three threads
-    (Begin 1 3 3 ∷ Issue 0 0 ∷ Commit 0 ∷ Load 1 0 1 ∷ Issue 1 1 ∷ Commit 1 ∷ Load 2 1 4 ∷ Issue 2 2 ∷ Commit 2
-    ∷ Crash ∷ Load 0 0 0 ∷ Load 0 2 7 ∷ []) ∷
+    (Begin 1 3 17 ∷ Issue 0 0 ∷ Commit 0 ∷ Load 1 0 1 ∷ Issue 1 8 ∷ Commit 1 ∷ Load 2 8 4 ∷ Issue 2 16
+    ∷ Commit 2 ∷ Crash ∷ Load 0 0 0 ∷ Load 0 16 7 ∷ []) ∷
     -- a waiting store stays out of the share
     (Begin 1 1 2 ∷ Issue 0 0 ∷ Commit 0 ∷ Issue 0 1 ∷ Crash ∷ Load 0 0 1 ∷ Issue 0 1 ∷ Commit 0 ∷ []) ∷
     -- share is rounded down
     (Begin 1 1 2 ∷ Issue 0 0 ∷ Commit 0 ∷ Issue 0 0 ∷ Commit 0 ∷ Issue 0 0 ∷ Commit 0 ∷ Crash ∷ Load 0 0 3 ∷ []) ∷
     -- smallest missing goes before smallest observed
-    (Begin 1 2 3 ∷ Issue 0 0 ∷ Commit 0 ∷ Issue 1 0 ∷ Commit 1 ∷ Issue 1 1 ∷ Commit 1 ∷ Issue 0 2 ∷ Commit 0
-    ∷ Crash ∷ Load 0 1 5 ∷ Load 0 2 7 ∷ Load 0 0 0 ∷ []) ∷
+    (Begin 1 2 17 ∷ Issue 0 0 ∷ Commit 0 ∷ Issue 1 0 ∷ Commit 1 ∷ Issue 1 8 ∷ Commit 1 ∷ Issue 0 16 ∷ Commit 0
+    ∷ Crash ∷ Load 0 8 5 ∷ Load 0 16 7 ∷ Load 0 0 0 ∷ []) ∷
     -- every load before the issue orders
-    (Begin 1 3 3 ∷ Issue 0 0 ∷ Commit 0 ∷ Issue 1 1 ∷ Commit 1 ∷ Load 2 0 1 ∷ Load 2 1 3 ∷ Issue 2 2 ∷ Commit 2
-    ∷ Crash ∷ Load 0 0 0 ∷ Load 0 2 7 ∷ []) ∷
+    (Begin 1 3 17 ∷ Issue 0 0 ∷ Commit 0 ∷ Issue 1 8 ∷ Commit 1 ∷ Load 2 0 1 ∷ Load 2 8 3 ∷ Issue 2 16
+    ∷ Commit 2 ∷ Crash ∷ Load 0 0 0 ∷ Load 0 16 7 ∷ []) ∷
     -- a skip is a matter of its own thread
     (Begin 1 2 2 ∷ Issue 0 0 ∷ Commit 0 ∷ Crash ∷ SkipOn 1 ∷ Load 0 0 1 ∷ Load 0 0 0 ∷ []) ∷
     -- a dropped store in between changes nothing
@@ -156,9 +156,9 @@ answers =
     -- clocks kept over a crash, of a load before it
     (record { answer = robust 11 66; cut = 1 ∷ 0 ∷ 0 ∷ 0 ∷ 0 ∷ 0 ∷ 0 ∷ 0 ∷ 0 ∷ 1 ∷ zeros 46 }) ∷
     -- a read of source 0 taken as free
-    (record { answer = broken 7 7 1 3 (flush 0 (padded (between 2 3 ∷ []))); cut = lent }) ∷
+    (record { answer = broken 7 7 1 3 impossible; cut = lent }) ∷
     -- loads in a skip still order
-    (record { answer = broken 9 9 1 5 (flush 0 (padded (none ∷ between 5 5 ∷ []))); cut = lent }) ∷
+    (record { answer = broken 9 9 1 5 impossible; cut = lent }) ∷
     -- a chain over three threads
     (record { answer = broken 11 11 1 7 (flush 0 (padded (none ∷ between 4 4 ∷ between 7 7 ∷ []))); cut = lent }) ∷
     -- a waiting store stays out of the share

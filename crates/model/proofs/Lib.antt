@@ -8,7 +8,8 @@
 -- (ReplacedRules), `replaced-exact` (Replacements), `none-left`, `all-replaced-exact` (Unlocked), `replaced-verdict`,
 -- `all-replaced-verdict` (ReplacedBytes), `refusals-14-and-15` (BufferSizes), `cases-1-to-11` (Cases),
 -- `errors-of-the-trade` (CasesOfTrade), `windows-as-worked` (CasesOfWindows), `locked-as-worked` (CasesOfLocked),
--- `handed-as-worked` (CasesOfHandOver), `refusals-1-to-5` (NoTrace) and `random-sessions` (RandomSessions).
+-- `handed-as-worked` (CasesOfHandOver), `one-line-as-worked` (CasesOfOneLine), `refusals-1-to-5` (NoTrace) and
+-- `random-sessions` (RandomSessions).
 pub mod Searching
 pub mod Induction
 pub mod Tabulating
@@ -73,5 +74,6 @@ pub mod CasesOfTrade
 pub mod CasesOfWindows
 pub mod CasesOfLocked
 pub mod CasesOfHandOver
+pub mod CasesOfOneLine
 pub mod NoTrace
 pub mod RandomSessions
