@@ -16,7 +16,7 @@ class Limits:
 
     max_events: int = 25
     max_threads: int = 3
-    max_locations: int = 3
+    max_locations: int = 3  # that are used, near each other or far apart
     max_crashes: int = 3
     max_choices: int = 20000  # 0: no bound, and judge_closure answers
     spread: bool = False  # locations anywhere below 256

@@ -12,6 +12,7 @@ from typing import Optional
 import generate
 import oracle
 import sessions
+from check_lines import check_kind, check_renamed, line_features
 from oracle import Answer, Broken, Event, Machine, Refused, Robust, Window
 
 NAMED = {oracle.LOCKED: ", locked", oracle.SIGNAL: ", signal", oracle.WAIT: ", wait"}  # kinds counted apart
@@ -179,16 +180,16 @@ def check_prefixes(data: bytes, answer: Answer) -> None:
 
 def check_windows(data: bytes, answer: Broken) -> None:
     """ "The thread of q must always have one", but "if q's own record is the load that first brings p to its thread,
-    that thread has no window". "Contradictions have none." Every place of a window is a record of the stretch, behind
-    one that brought p to the thread, and at or in front of a store of it that is q or happens before q. If no thread
-    has one, p and q are of one location. """
-    if answer.kind == "contradiction":
+    that thread has no window". Every place of a window is a record of the stretch, behind one that brought p to the
+    thread, and at or in front of a store of it that is q or happens before q. Since p and q are on two lines, some
+    thread has one. Pairs of other kinds have none. """
+    if answer.kind != "flush":
         assert answer.primary is None and answer.windows == ()
         return
     events, m, p, q = read_events(data), oracle.run(data), answer.missing, answer.observed
     assert answer.primary == m.stores[p].thread
     assert (answer.windows[m.stores[q].thread] is None) == brought_by_observed(data, events, p, q)
-    assert any(answer.windows) or m.stores[p].location == m.stores[q].location
+    assert any(answer.windows)
     assert all(event.kind != oracle.CRASH for event in events[p:q + 1])
     for thread, ends in enumerate(answer.windows):
         if ends is not None:
@@ -327,7 +328,6 @@ def window_features(m: Machine, answer: Broken) -> list[str]:
     found = ["windows: primary has none"] if answer.windows[answer.primary] is None else []
     observed = m.stores[answer.observed]
     found += ["windows: observed's thread has none"] if answer.windows[observed.thread] is None else []
-    found += ["windows: none at all"] if not any(answer.windows) else []
     found += ["windows: longer than a record"] if any(ends and ends[0] < ends[1] for ends in answer.windows) else []
     for thread in set(range(m.threads)) - pair:
         first = oracle.first_place(m, before, answer.missing, thread)
@@ -350,7 +350,7 @@ def check(data: bytes, answer: Answer, counts: Counter) -> None:
         return
     events, m = read_events(data), oracle.run(data)
     counts[f"broken {answer.kind}" if isinstance(answer, Broken) else "robust"] += 1
-    counts.update(features(m, answer))
+    counts.update(features(m, answer) + line_features(m, answer) + check_renamed(events, m, answer))
     flushes = of_kinds(events, (oracle.CLFLUSH, oracle.CLFLUSHOPT))
     for dropped in (flushes, flushes | of_kinds(events, (oracle.SFENCE, oracle.MFENCE)), idle(events)):
         check_neutral(events, answer, dropped)
@@ -360,6 +360,7 @@ def check(data: bytes, answer: Answer, counts: Counter) -> None:
         check_stored(events, m, answer)
     check_prefixes(data, answer)
     if isinstance(answer, Broken):
+        check_kind(m, answer)
         check_windows(data, answer)
     check_order(data, m)
 

@@ -1,7 +1,8 @@
 """Wrong judges, and how many generated sessions tell each from the oracle: `python3 mutants.py SEED COUNT [switches]`.
 
 Each wrong judge replaces one or two functions of the oracle; judge_closure then runs with them. Those of hand-overs are
-in wrong_hand_overs.py. A wrong judge with count 0 would show that the generator misses an error.
+in wrong_hand_overs.py, those of cache lines in wrong_lines.py. A wrong judge with count 0 would show that the generator
+misses an error.
 """
 
 from __future__ import annotations
@@ -15,11 +16,12 @@ import generate
 import oracle
 from oracle import Event, Load, Machine, Refused, Store
 from wrong_hand_overs import HAND_OVERS, signals_before
+from wrong_lines import LINES
 
 TRUE = {name: getattr(oracle, name) for name in ("directly_before", "happens_before", "forbids", "observes",
                                                 "legal_sources", "take_effect", "general_refusal", "own_refusal",
                                                 "smallest_pair", "robust_answer", "broken_answer", "first_place",
-                                                "last_place", "window", "order", "COMMITS")}
+                                                "last_place", "window", "order", "line", "kind_of", "COMMITS")}
 
 
 def sources_up_to(m: Machine, q: Store, last: int) -> list[int]:
@@ -126,10 +128,7 @@ def pair_of_last_load(m: Machine, loads: list[Load], before: dict[int, set[int]]
 
 def observed_first(m: Machine, loads: list[Load], before: dict[int, set[int]], committed_only: bool):
     """The smallest observed store first, then the smallest missing one."""
-    observed = {q for load in loads for q in oracle.observes(load)}
-    forbidden = {p for load in loads for p in oracle.forbids(m, load)}
-    pairs = [(q, p) for p in forbidden for q in observed if p == q or p in before[q]]
-    return tuple(reversed(min(pairs))) if pairs else None
+    return min(oracle.pairs(m, loads, before), key=lambda pair: (pair[1], pair[0]), default=None)
 
 
 def changed_effect(change: Callable[[Machine, Machine, Event], None]) -> Callable[[Machine, int, Event], None]:
@@ -236,13 +235,14 @@ def out_of_order(m: Machine, before: dict[int, set[int]], p: int, q: int, thread
 
 def contradiction_windows(m: Machine, load: int, p: int, q: int) -> oracle.Broken:
     """Contradictions have windows too."""
-    return replace(TRUE["broken_answer"](m, load, p, q), primary=m.stores[p].thread, windows=oracle.windows(m, p, q))
+    true = TRUE["broken_answer"](m, load, p, q)
+    return replace(true, primary=m.stores[p].thread, windows=oracle.windows(m, p, q)) if p == q else true
 
 
 def primary_of_observed(m: Machine, load: int, p: int, q: int) -> oracle.Broken:
     """q's thread is marked primary."""
     true = TRUE["broken_answer"](m, load, p, q)
-    return true if p == q else replace(true, primary=m.stores[q].thread)
+    return true if true.primary is None else replace(true, primary=m.stores[q].thread)
 
 
 def source_before_queue(m: Machine, event: Event) -> int:
@@ -339,7 +339,7 @@ MUTANTS: dict[str, dict[str, object]] = {
     "locked: its own store forbidden": {"forbids": own_store_forbidden},
     "locked: first place inside": {"first_place": first_at_locked},
     "locked: brings nothing": {"first_place": locked_brings_nothing},
-} | HAND_OVERS
+} | HAND_OVERS | LINES
 
 
 @contextmanager

@@ -420,14 +420,19 @@ def robust_answer(m: Machine, choice: Choice) -> Robust:
     return Robust(m.events, tuple(cut), 100 * sum(choice) // committed if committed else 100)
 
 
-def smallest_pair(m: Machine, loads: list[Load], before: dict[int, set[int]],
-                  committed_only: bool) -> Optional[tuple[int, int]]:
+def pairs(m: Machine, loads: list[Load], before: dict[int, set[int]],
+          committed_only: bool = False) -> set[tuple[int, int]]:
     """ "Missing is a store that some counted load of those records forbids, observed one that some counted load there
-    observes, and they are equal or missing happens before observed; of all such pairs, the smallest missing, then the
-    smallest observed event number." None if there is no such pair. """
+    observes, and they are equal or missing happens before observed": all such pairs. """
     observed = {q for load in loads for q in observes(load)}
     forbidden = {p for load in loads for p in forbids(m, load, committed_only)}
-    return min(((p, q) for p in forbidden for q in observed if p == q or p in before[q]), default=None)
+    return {(p, q) for p in forbidden for q in observed if p == q or p in before[q]}
+
+
+def smallest_pair(m: Machine, loads: list[Load], before: dict[int, set[int]],
+                  committed_only: bool) -> Optional[tuple[int, int]]:
+    """ "of all such pairs, the smallest missing, then the smallest observed event number." None if there is none. """
+    return min(pairs(m, loads, before, committed_only), default=None)
 
 
 def line(location: int) -> int:
