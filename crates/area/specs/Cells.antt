@@ -29,6 +29,10 @@ clockCoversW l p q = let t = getRow l p 8 in leb (getRow l p t) (getRow l q t)
 abbrev pub coversW : List ℕ → ℕ → ℕ → Bool
 coversW l p q = eqb (getRow l p 10) (getRow l q 10) && clockCoversW l p q
 
+-- stores p and q are on one cache line
+abbrev pub oneLineW : List ℕ → ℕ → ℕ → Bool
+oneLineW l p q = eqb (getRow l p 9 / 8) (getRow l q 9 / 8)
+
 -- the number of the event whose row begins there
 abbrev pub eventAt : ℕ → ℕ
 eventAt row = row / 16 + 1

@@ -6,8 +6,8 @@
 ghost use mathlib.Core.Path.{_≡_};
 ghost use Prim.Native.Nat.{_+_, _*_, _≤_};
 ghost use lib.ListN.{getD, set, length, replicate};
-ghost use Rattle.area.specs.Cells.{rowStart, getRow, putRow, clockCoversW, coversW, eventAt, noStore};
-ghost use Rattle.area.specs.Cells.{total, joined};
+ghost use Rattle.area.specs.Cells.{rowStart, getRow, putRow, clockCoversW, coversW, oneLineW, eventAt};
+ghost use Rattle.area.specs.Cells.{noStore, total, joined};
 
 pub mod numbers;
 
@@ -93,6 +93,13 @@ pub fn covers(work: &[u16], p: u16, q: u16) -> bool
         return false;
     }
     clock_covers(work, p, q)
+}
+
+// Stores p and q are on one cache line: eight locations are a line.
+pub fn one_line(work: &[u16], p: u16, q: u16) -> bool
+    ensures { λ r. ⌜ r ≡ oneLineW (now (work .entry)) p q ⌝ }
+{
+    row_get(work, p, 9) / 8 == row_get(work, q, 9) / 8
 }
 
 // The number of the event whose row begins there; 2,049 behind the last row.

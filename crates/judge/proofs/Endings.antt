@@ -5,27 +5,33 @@ use mathlib.Core.Path.{_≡_, refl, sym, ap, _∙_, subst}
 use mathlib.Core.Bool.{Bool, true, false}
 use mathlib.Core.Logic.{_⊎_, inl, inr, _≢_}
 use mathlib.Core.List.{List}
-use Prim.Native.Nat.{ℕ, suc, _-_, _≤_}
+use Prim.Native.Nat.{ℕ, suc, _-_, _≤_, _<_}
 use native.Mathlib.Omega.{arith}
 use borrow.Author.Tests.{eq-eqb, ne-eqb}
 use lib.ListN.{length}
+use lib.Dec.{eqb}
 use Rattle.record.specs.Tests.{_gives_else_}
+use Rattle.model.specs.declared.Kind.the-variants.{Flush, Impossible}
 use Rattle.model.specs.declared.Order.the-variants as order
 use Rattle.model.specs.declared.Verdict.{Verdict}
 use Rattle.model.specs.declared.Verdict.the-variants.{Refused, Robust, Broken}
 use Rattle.model.specs.Answers as answers
 use Rattle.model.specs.Rules.{Accepted}
-use Rattle.model.specs.HappensBefore.{AtOrBefore}
+use Rattle.model.specs.Trace.{thread, line}
+use Rattle.model.specs.HappensBefore.{Before, AtOrBefore}
 use Rattle.model.specs.Choice.{Ruling, robust, broken, Exact}
 use Rattle.model.specs.Choice as choice
 use Rattle.model.specs.Verdict.{rulingOf}
+use Rattle.model.specs.Windows.{windowOf}
 use Rattle.model.specs.Reading.{Reading, accepted, turnedAway, events, readingOf, TurnedAwayWith}
 use Rattle.model.specs.Judge.{ruledAnswer, readingAnswer, readingCut, store?, standing, readingStanding}
 use Rattle.model.proofs.Searching.{false-true, same?}
-use Rattle.model.proofs.Ordering.{before-lt}
-use Rattle.model.proofs.Exactness.{exact, named-observed}
+use Rattle.model.proofs.Ordering.{before-lt, at-or-before-le}
+use Rattle.model.proofs.Exactness.{exact, named-missing, named-observed}
 use Rattle.model.proofs.TurnedAway.{accepted-exactly, turned-away-exactly, accepted-events}
+use Rattle.area.specs.Cells.{oneLineW}
 use Rattle.area.proofs.ReadBack.{up-is}
+use Rattle.area.proofs.SameLine.{one-line-is}
 use Rattle.machine.specs.Orders.{storeW, orderW}
 use Rattle.machine.specs.Twin.{World}
 use Rattle.machine.specs.Sim.{Sim}
@@ -33,6 +39,7 @@ use Rattle.machine.proofs.Standings.{store-is, order-is}
 use Rattle.machine.proofs.Closing.{committed-is}
 use Rattle.marks.specs.Marks.{Marks, brokenIn}
 use Rattle.marks.proofs.Matched.{broken-at-ruling, unbroken-robust}
+use Rattle.windows.specs.Finding.{windowsBy}
 use Rattle.windows.proofs.Answered.{flush-answered}
 use Rattle.judge.specs.declared.verdict.End.{End}
 use Rattle.judge.specs.Runs.{worldOf, AllRead, Stopped, AnswersAsDefined}
@@ -124,16 +131,32 @@ module _ (bytes : List ℕ) where
         it : choice.Broken (events bytes) N l p q
         it = subst (Exact (events bytes) N) is (exact (events bytes) N whole)
 
+        q-early : q < N
+        q-early = omega (arith, named-observed (events bytes) whole it .early, it .inside)
+
+        lines-are : oneLineW work p q ≡ eqb (line (events bytes) p) (line (events bytes) q)
+        lines-are =
+            let order = at-or-before-le (events bytes) p q (it .pair .order) in
+            one-line-is (events bytes) N work (all .state .rows) p q (omega (arith, q-early))
+            (named-missing (events bytes) it) q-early (named-observed (events bytes) whole it .store)
+
+        by-line :
+            Before (events bytes) p q → (one-line : Bool)
+            → answers.kindAnswer (one-line gives Impossible else Flush (windowsBy bytes work p q))
+            ≡ (one-line gives answers.impossible else
+            answers.flush (thread (events bytes) p) (answers.tabulate 8 (windowOf (events bytes) p q)))
+        by-line before true = refl
+        by-line before false = flush-answered bytes N (all .accepted) work (all .state .rows) p q before q-early
+
         by-order :
             AtOrBefore (events bytes) p q
             → answers.kindAnswer (kindBy bytes work p q) ≡ answers.faultOf (events bytes) p q
-        by-order (inl same) = rw (eq-eqb p q same) refl
+        by-order (inl same) =
+            let one-line = ap (λ (e : ℕ). line (events bytes) e) same in
+            rw (lines-are, eq-eqb p q same, eq-eqb (line (events bytes) p) (line (events bytes) q) one-line) refl
         by-order (inr before) =
             let differ : p ≢ q = λ same. omega (arith, before-lt (events bytes) before) in
-            let observed = named-observed (events bytes) whole it in
-            rw (ne-eqb p q differ)
-            (flush-answered bytes N (all .accepted) work (all .state .rows) p q before
-            (omega (arith, observed .early, it .inside)))
+            rw (lines-are, ne-eqb p q differ) (by-line before (eqb (line (events bytes) p) (line (events bytes) q)))
 
     abbrev load : ℕ
     load = brokenIn (m .counts)

@@ -1,15 +1,16 @@
 -- The verdict at the end of a run, and the cut buffer: the run's refusal, the evidence of the load that broke the
 -- trace and where a flush may go, or the least choice.
 use Prim.Native.Nat.{ℕ, _-_, min}
-use mathlib.Core.Bool.{cond, _&&_}
+use mathlib.Core.Bool.{_&&_}
 use mathlib.Core.List.{List}
 use lib.Dec.{eqb}
 use Rattle.record.specs.Tests.{_gives_else_}
 use Rattle.model.specs.Answers.{percent}
 use Rattle.model.specs.declared.Kind.{Kind}
-use Rattle.model.specs.declared.Kind.the-variants.{Contradiction, Flush}
+use Rattle.model.specs.declared.Kind.the-variants.{Contradiction, Flush, Impossible}
 use Rattle.model.specs.declared.Verdict.{Verdict}
 use Rattle.model.specs.declared.Verdict.the-variants.{Refused, Robust, Broken}
+use Rattle.area.specs.Cells.{oneLineW}
 use Rattle.machine.specs.Tables.{committedIn}
 use Rattle.marks.specs.Marks.{Marks, brokenIn}
 use Rattle.marks.specs.Ending.{copied, storesIn}
@@ -18,9 +19,11 @@ use Rattle.judge.specs.declared.loads.Evidence.{Evidence}
 use Rattle.judge.specs.declared.verdict.End.{End}
 use Rattle.judge.specs.Judging.{evidenceAt}
 
+-- two stores that are equal are on one line
 abbrev pub kindBy : List ℕ → List ℕ → ℕ → ℕ → Kind
 kindBy bytes work missing observed =
-    cond (eqb missing observed) Contradiction (Flush (windowsBy bytes work missing observed))
+    oneLineW work missing observed gives (eqb missing observed gives Contradiction else Impossible) else
+    Flush (windowsBy bytes work missing observed)
 
 abbrev pub brokenBy : List ℕ → List ℕ → ℕ → Evidence → Verdict
 brokenBy bytes work events f =
