@@ -6,7 +6,8 @@ use Prim.Native.String.{String, len, charAt}
 use mathlib.Core.Path.{_≡_}
 use mathlib.Core.List.{List, [], _∷_, _++_}
 use lib.ListN.{length, take, drop, getD}
-use Rattle.model.specs.Answers.{Answer, refused, robust, broken, Fault, contradiction, flush, tabulate}
+use Rattle.model.specs.Answers.{Answer, refused, robust, broken, Fault, contradiction, flush, impossible}
+use Rattle.model.specs.Answers.{tabulate}
 use Rattle.report.specs.Decimal.{digits}
 
 -- ---- a line
@@ -62,11 +63,13 @@ robustLines events share n f cut =
     ++ cutLines cut (min n 8) (min f 7)
     ++ line (ascii "share") (share ∷ [])
 
+-- document 02, job 5: "All who read the kind, the program included, know the third one."
 abbrev pub kindText : Fault → String
 kindText contradiction = "kind contradiction"
 kindText (flush primary windows) = "kind flush"
+kindText impossible = "kind impossible"
 
--- as case 1 prints: "`events 11`, `verdict broken`, `load 11`, `missing 5`, `observed 7`, `kind flush`, a line each"
+-- as case 1 prints: "`events 11`, `verdict broken`, `load 11`, `missing 5`, `observed 7`" and the kind, "a line each"
 unfoldable pub brokenLines : ℕ → ℕ → ℕ → ℕ → Fault → List ℕ
 brokenLines events load missing observed fault =
     line (ascii "events") (events ∷ [])

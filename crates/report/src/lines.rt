@@ -134,6 +134,7 @@ fn kind_line(out: &mut [u8], at: usize, kind: Kind) -> usize
     match kind {
         Kind::Contradiction => text_line(out, at, b"kind contradiction"),
         Kind::Flush(_) => text_line(out, at, b"kind flush"),
+        Kind::Impossible => text_line(out, at, b"kind impossible"),
     }
 }
 

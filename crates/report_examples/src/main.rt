@@ -1,5 +1,6 @@
-// Prints the reports of cases 1, 2, 7, 8 and 9 of document 01, of the longest text and of numbers past the bounds, and
-// then the threads and finished stretches of a few byte strings. `stdout` is worked by hand from document 01.
+// Prints the reports of cases 1, 2, 7, 8 and 9 of document 01, of case 1 with its locations on two cache lines, of the
+// longest text and of numbers past the bounds, and then the threads and finished stretches of a few byte strings.
+// `stdout` is worked by hand from documents 01 and 02.
 use libc::STDOUT_FILENO;
 use model::Kind;
 use model::Verdict;
@@ -30,7 +31,7 @@ fn print_broken(events: u16, load: u16, missing: u16, observed: u16, kind: Kind)
     print(v, 1, 1, &[0]);
 }
 
-// The windows of case 1: thread 0 may flush in front of records 6 and 7, the others in front of none.
+// The windows of case 1 on two lines: thread 0 may flush in front of records 6 and 7, the others in front of none.
 fn windows() -> Windows {
     let none = Window { first: 0, last: 0 };
     Windows {
@@ -61,7 +62,8 @@ fn print_shape(trace: &[u8]) {
 }
 
 fn main() {
-    // cases 1, 2, 7, 8 and 9
+    // case 1, on one line and on two; cases 2, 7, 8 and 9
+    print_broken(11, 11, 5, 7, Kind::Impossible);
     print_broken(11, 11, 5, 7, Kind::Flush(windows()));
     print_robust(7, 50, 2, 1, &[0, 1]);
     print_broken(5, 5, 1, 1, Kind::Contradiction);

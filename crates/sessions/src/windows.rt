@@ -42,6 +42,7 @@ fn print_fault(kind: Kind) {
     match kind {
         Kind::Contradiction => {}
         Kind::Flush(windows) => print_windows(windows),
+        Kind::Impossible => {}
     }
 }
 

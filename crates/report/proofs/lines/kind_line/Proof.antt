@@ -23,6 +23,15 @@ slice-aggregate-text-line-2 c = search needs
 text-line-requires-2 : tie.Need-text-line-requires-2
 text-line-requires-2 c κs = search needs
 
+enum-told-3 : tie.Need-enum-told-3
+enum-told-3 c = search needs
+
+slice-aggregate-text-line-3 : tie.Need-slice-aggregate-text-line-3
+slice-aggregate-text-line-3 c = search needs
+
+text-line-requires-3 : tie.Need-text-line-requires-3
+text-line-requires-3 c κs = search needs
+
 same-length : tie.Need-same-length
 same-length c = search needs
 
@@ -41,6 +50,15 @@ returns-2 c =
     let kind-is = at-call .before .before .before .enum-told2 .given .1 in
     kind-line-of kind-is (at-call .text-line2 .ensures) (omega arith)
 
+same-length-3 : tie.Need-same-length-3
+same-length-3 c = search needs
+
+returns-3 : tie.Need-returns-3
+returns-3 c =
+    let at-call = c .before .before in
+    let kind-is = at-call .before .before .before .enum-told3 .given .1 in
+    kind-line-of kind-is (at-call .text-line3 .ensures) (omega arith)
+
 pub kind-line-spec : {M : Type 1} → statement M
 kind-line-spec =
     tie.close
@@ -51,7 +69,12 @@ kind-line-spec =
     enum-told-2
     slice-aggregate-text-line-2
     text-line-requires-2
+    enum-told-3
+    slice-aggregate-text-line-3
+    text-line-requires-3
     same-length
     returns
     same-length-2
-    returns-2)
+    returns-2
+    same-length-3
+    returns-3)
