@@ -4,7 +4,7 @@
  *
  *     rt staticlib cabi
  *     cc -Iinclude examples/judge.c target/staticlib/libcabi.a -o target/judge
- *     target/judge crates/verdict/stdin
+ *     target/judge examples/flush.trace
  */
 #include <stdio.h>
 
@@ -15,6 +15,12 @@
 static uint8_t trace[LONGEST];
 static uint16_t work[GORBUZTE_WORK];
 static uint16_t cut[GORBUZTE_CUT];
+
+static const char *const kinds[] = {
+    [GORBUZTE_CONTRADICTION] = "contradiction",
+    [GORBUZTE_FLUSH] = "flush",
+    [GORBUZTE_IMPOSSIBLE] = "impossible",
+};
 
 /* Reads the file. Returns its length, at most LONGEST, or -1. */
 static long read_file(const char *path)
@@ -54,8 +60,7 @@ int main(int argc, char **argv)
         return 0;
     case GORBUZTE_BROKEN:
         printf("broken at load %d: store %d is missing, store %d was observed (%s)\n", answer[GORBUZTE_LOAD],
-               answer[GORBUZTE_MISSING], answer[GORBUZTE_OBSERVED],
-               answer[GORBUZTE_KIND] == GORBUZTE_FLUSH ? "flush" : "contradiction");
+               answer[GORBUZTE_MISSING], answer[GORBUZTE_OBSERVED], kinds[answer[GORBUZTE_KIND]]);
         if (answer[GORBUZTE_KIND] == GORBUZTE_FLUSH)
             print_windows(answer);
         return 1;

@@ -36,17 +36,22 @@ enum gorbuzte_answer {
 };
 
 /*
+ * A broken trace's kind is contradiction if the missing store is the observed one. Else the missing store happens
+ * before the observed one: the kind is impossible if both are on one cache line (their locations divided by 8 are
+ * equal), whose stores reach memory in commit order, so that no flush between the two is missing; and flush otherwise.
+ *
  * A flush fault says where the line of the missing store may be flushed: thread t may do so in front of the events from
  * answer[GORBUZTE_WINDOWS + 2 * t] to answer[GORBUZTE_WINDOWS + 2 * t + 1]; both are 0 if it has no window. The thread
  * of the missing store, which is primary, may have none. The thread of the observed store has one, with one exception:
  * it is not the primary thread, and the record of the observed store is a locked operation (kind 12) whose load is the
  * first event, in the stretch of the two stores, that brings the missing store to the thread: a load of the missing
  * store, or of a store that happens after it, does so, and a wait (kind 14) whose signal passes the missing store on.
+ * Some thread has one in any case.
  */
 
 enum gorbuzte_verdict { GORBUZTE_REFUSED = 0, GORBUZTE_ROBUST = 1, GORBUZTE_BROKEN = 2 };
 
-enum gorbuzte_kind { GORBUZTE_CONTRADICTION = 1, GORBUZTE_FLUSH = 2 };
+enum gorbuzte_kind { GORBUZTE_CONTRADICTION = 1, GORBUZTE_FLUSH = 2, GORBUZTE_IMPOSSIBLE = 3 };
 
 /*
  * Judges a trace. Robust fills the cut buffer with the least choice: stretch j, thread t at 8 * (j - 1) + t, the rest 0;

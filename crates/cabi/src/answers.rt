@@ -2,7 +2,7 @@
 ghost use mathlib.Core.Path.{_≡_};
 ghost use Rattle.model.specs.declared.Kind.the-variants.{Flush};
 ghost use Rattle.model.specs.Answers.{broken, kindAnswer, verdictAnswer, orderAnswer};
-ghost use Rattle.cabi.specs.Answers.{verdictNumbers, standingNumbers};
+ghost use Rattle.cabi.specs.Answers.{bareNumbers, brokenNumbers, verdictNumbers, standingNumbers};
 use model::Kind;
 use model::Order;
 use model::Verdict;
@@ -42,21 +42,27 @@ fn flush_numbers(events: u16, load: u16, missing: u16, observed: u16, w: Windows
     ]
 }
 
+// A kind that has no windows, by its number.
+fn bare_numbers(events: u16, load: u16, missing: u16, observed: u16, kind: u16) -> [u16; 26]
+    ensures { λ r. ⌜ r ≡ brokenNumbers events load missing observed (bareNumbers kind) ⌝ }
+{
+    let mut bare = [0; 26];
+    bare[2] = 2;
+    bare[3] = events;
+    bare[5] = load;
+    bare[6] = missing;
+    bare[7] = observed;
+    bare[8] = kind;
+    bare
+}
+
 fn broken_numbers(events: u16, load: u16, missing: u16, observed: u16, kind: Kind) -> [u16; 26]
     ensures { λ r. ⌜ r ≡ verdictNumbers (broken events load missing observed (kindAnswer kind)) ⌝ }
 {
     match kind {
-        Kind::Contradiction => {
-            let mut numbers = [0; 26];
-            numbers[2] = 2;
-            numbers[3] = events;
-            numbers[5] = load;
-            numbers[6] = missing;
-            numbers[7] = observed;
-            numbers[8] = 1;
-            numbers
-        }
+        Kind::Contradiction => bare_numbers(events, load, missing, observed, 1),
         Kind::Flush(w) => flush_numbers(events, load, missing, observed, w),
+        Kind::Impossible => bare_numbers(events, load, missing, observed, 3),
     }
 }
 
