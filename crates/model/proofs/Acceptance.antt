@@ -174,6 +174,7 @@ module _ (ev : ℕ → Event) where
   -- "the thread has waiting stores to the location": s is one of them
   pub record FromOwn (l s : ℕ) : Type 0 where
     pub own : Beside l s
+    pub to-it : location ev s ≡ location ev l
     pub earlier : s < l
 
   -- "the stretch has commits to it": a commit made s take effect
@@ -184,6 +185,7 @@ module _ (ev : ℕ → Event) where
     pub earlier : s ≤ commit
     pub in-stretch : stretch ev commit ≡ stretch ev l
     pub of-thread : Beside commit s
+    pub to-it : location ev s ≡ location ev l
     pub at-place : place ev s ≡ commitsBefore ev commit
 
   -- "a store to that location committed in an earlier stretch"
@@ -203,13 +205,20 @@ module _ (ev : ℕ → Event) where
   from-store (from-commit from) = from .of-thread .store
   from-store (from-past from) = from .store
 
+  pub from-location : {l s : ℕ} → From l s → location ev s ≡ location ev l
+  from-location (from-own from) = from .to-it
+  from-location (from-commit from) = from .to-it
+  from-location (from-past from) = from .to-it
+
   waiting-is-own : (l : ℕ) → waiting ev l ≢ 0 → FromOwn l (waiting ev l)
   unfolding waiting
   waiting-is-own l some =
       let found = last-is l (waits ev l) some in
       let here = parts (beside ev (waiting ev l) l && eqb (location ev (waiting ev l)) (location ev l)) _ (found .1) in
+      let at-it = parts (beside ev (waiting ev l) l) _ (here .0) in
       record {
-        own = beside-is l (waiting ev l) (parts (beside ev (waiting ev l) l) _ (here .0) .0);
+        own = beside-is l (waiting ev l) (at-it .0);
+        to-it = eqb-true _ _ (at-it .1);
         earlier = found .0;
       }
 
@@ -229,6 +238,7 @@ module _ (ev : ℕ → Event) where
         earlier = omega (arith, found .0);
         in-stretch = eqb-true _ _ (commit-here .1);
         of-thread = beside-is c (current ev l) (place-fits .0);
+        to-it = eqb-true _ _ (here .1);
         at-place = eqb-true _ _ (place-fits .1);
       }
 

@@ -1,7 +1,7 @@
 -- Demand 3 of the computed answer, and document 02's kinds and windows: for every accepted trace, with any buffers that refusals
 -- 14 and 15 let pass, what `judgeOf` answers and `cutAfter` leaves in the cut buffer make the claim of
 -- specs/Demand.antt. And demand 1: a trace that is turned away is refused, and a refusal leaves the cut buffer as lent.
-use Prim.Native.Nat.{ℕ, suc, _≤_}
+use Prim.Native.Nat.{ℕ, suc, _≤_, _<_}
 use native.Mathlib.Omega.{arith}
 use mathlib.Core.Path.{_≡_, refl, _∙_}
 use mathlib.Core.Bool.{Bool, true, false}
@@ -30,6 +30,7 @@ use Rattle.model.proofs.Ranges.{issue-has-thread, thread-bound}
 use Rattle.model.proofs.Closure.{CommittedEarlier, observed-is-committed}
 use Rattle.model.proofs.CacheLines.{committed-first, no-memory}
 use Rattle.model.proofs.WindowPlaces.{window-is, brings-itself-none, observed-has-window}
+use Rattle.model.proofs.FlushPlaces.{some-window}
 use Rattle.model.proofs.Exactness.{exact, wider-pair, named-missing, named-observed}
 use Rattle.model.proofs.TurnedAway.{accepted-exactly, turned-away-exactly, accepted-events}
 
@@ -55,14 +56,18 @@ module _ (ev : ℕ → Event) (N : ℕ) (accepted : Accepted ev N) {load p q : �
     observed-has = λ not-itself.
         let (from, to, is) = observed-has-window ev p q before not-itself in
         (from, to, at-observed ∙ is);
+    some-has =
+        let (t, from, to, below, is) = some-window ev N accepted p q observed-inside before two-lines in
+        (t, from, to, below, tabulate-at 8 (windowOf ev p q) t none below ∙ is);
   }
     where
+      observed-inside : q < N
+      observed-inside = omega (arith, it .inside, observed-settled .early)
+
       at-observed : getD (tabulate 8 (windowOf ev p q)) (thread ev q) none ≡ windowOf ev p q (thread ev q)
       at-observed =
-          let inside = it .inside in
           tabulate-at 8 (windowOf ev p q) (thread ev q) none
-          (thread-bound ev N accepted q (omega (arith, observed-settled .early))
-          (issue-has-thread ev (observed-settled .store)))
+          (thread-bound ev N accepted q observed-inside (issue-has-thread ev (observed-settled .store)))
 
   impossible-is : Before ev p q → line ev p ≡ line ev q → ImpossibleClaims ev N p q
   impossible-is before one-line =

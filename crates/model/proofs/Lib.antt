@@ -1,15 +1,15 @@
 -- Laws and theorems about the definitions. The theorems that others cite: `clock-is-happens-before`, `clock-is-handed`
--- (Clocks), `window-is`, `window-unique`, `window-places`, `observed-has-window` (WindowPlaces), `before-committed`
--- (Committed), `committed-first`, `no-memory` (CacheLines), `exact`, `unique`, `broken-stays`, `named-load-counts`
--- (Exactness), `min-explains`, `max-explains` (Lattice), `exact-same` (Prefixes), `fault-same` (WindowPrefixes),
--- `explains-is-replay` (Replay), `accepted-exactly`, `turned-away-exactly` (TurnedAway), `ordered-as-demanded`
--- (Queries), `judged-as-demanded` (Demanded), `cut-rest` (CutPlaces), `broken-as-trace`, `robust-before-load`
--- (TakenAsTrace), `accepted-encoded` (AcceptedBytes), `flushes-move-no-verdict` (FlushNeutral), `replaced-accepted`
--- (ReplacedRules), `replaced-exact` (Replacements), `none-left`, `all-replaced-exact` (Unlocked), `replaced-verdict`,
--- `all-replaced-verdict` (ReplacedBytes), `refusals-14-and-15` (BufferSizes), `cases-1-to-11` (Cases),
--- `errors-of-the-trade` (CasesOfTrade), `windows-as-worked` (CasesOfWindows), `locked-as-worked` (CasesOfLocked),
--- `handed-as-worked` (CasesOfHandOver), `one-line-as-worked` (CasesOfOneLine), `refusals-1-to-5` (NoTrace) and
--- `random-sessions` (RandomSessions).
+-- (Clocks), `window-is`, `window-unique`, `window-places`, `observed-has-window` (WindowPlaces), `some-window`
+-- (FlushPlaces), `before-committed` (Committed), `committed-first`, `no-memory` (CacheLines), `exact`, `unique`,
+-- `broken-stays`, `named-load-counts` (Exactness), `min-explains`, `max-explains` (Lattice), `exact-same` (Prefixes),
+-- `fault-same` (WindowPrefixes), `explains-is-replay` (Replay), `accepted-exactly`, `turned-away-exactly` (TurnedAway),
+-- `ordered-as-demanded` (Queries), `judged-as-demanded` (Demanded), `cut-rest` (CutPlaces), `broken-as-trace`,
+-- `robust-before-load` (TakenAsTrace), `accepted-encoded` (AcceptedBytes), `flushes-move-no-verdict` (FlushNeutral),
+-- `replaced-accepted` (ReplacedRules), `replaced-exact` (Replacements), `none-left`, `all-replaced-exact` (Unlocked),
+-- `replaced-verdict`, `all-replaced-verdict` (ReplacedBytes), `refusals-14-and-15` (BufferSizes), `cases-1-to-11`
+-- (Cases), `errors-of-the-trade` (CasesOfTrade), `windows-as-worked` (CasesOfWindows), `locked-as-worked`
+-- (CasesOfLocked), `handed-as-worked` (CasesOfHandOver), `one-line-as-worked` (CasesOfOneLine), `refusals-1-to-5`
+-- (NoTrace) and `random-sessions` (RandomSessions).
 pub mod Searching
 pub mod Induction
 pub mod Tabulating
@@ -28,6 +28,7 @@ pub mod Committed
 pub mod Effects
 pub mod Ranges
 pub mod CountedLoads
+pub mod FlushPlaces
 pub mod Closure
 pub mod CacheLines
 pub mod Pairs

@@ -55,6 +55,9 @@ module _ (ev : ℕ → Event) where
   pub wait-no-load : {e : ℕ} → Wait ev e → load? ev e ≡ false
   wait-no-load {e} waits = neither e 14 4 12 (omega arith) (omega arith) (waits .test)
 
+  pub wait-no-issue : {e : ℕ} → Wait ev e → issue? ev e ≡ false
+  wait-no-issue {e} waits = neither e 14 2 12 (omega arith) (omega arith) (waits .test)
+
   pub begin-no-load : (e : ℕ) → is ev 1 e ≡ true → load? ev e ≡ false
   begin-no-load e = neither e 1 4 12 (omega arith) (omega arith)
 

@@ -230,7 +230,7 @@ module _ (ev : ℕ → Event) where
             omega arith)
 
     -- there is one where t has p and reaches q
-    has-window : (n : ℕ) → Has ev p t n → Reaches ev q t n → (from to : ℕ) × (windowOf ev p q t ≡ between from to)
+    pub has-window : (n : ℕ) → Has ev p t n → Reaches ev q t n → (from to : ℕ) × (windowOf ev p q t ≡ between from to)
     unfolding windowOf
     has-window n has reaches = (
       suc (behind ev p q t),
@@ -322,11 +322,11 @@ module _ (ev : ℕ → Event) where
   -- ---- the observed store's thread
 
   -- an event that brings p to n's thread, at n or before it
-  record BroughtBy (p n : ℕ) : Type 0 where
-    by : ℕ
-    early : by ≤ n
-    by-thread : thread ev by ≡ thread ev n
-    brings : Brings ev p by
+  pub record BroughtBy (p n : ℕ) : Type 0 where
+    pub by : ℕ
+    pub early : by ≤ n
+    pub by-thread : thread ev by ≡ thread ev n
+    pub brings : Brings ev p by
 
   -- what happens before a store that comes by an event comes by it too
   comes-too : {p q n : ℕ} → Before ev p q → ComesBy ev q n → ComesBy ev p n
@@ -335,7 +335,7 @@ module _ (ev : ℕ → Event) where
       by-wait waits signal (chain (before .store) (before .precedes) precedes)
 
   -- what happens before an event of another thread was brought to that thread
-  brought : {p n : ℕ} → Precedes ev p n → thread ev p ≢ thread ev n → BroughtBy p n
+  pub brought : {p n : ℕ} → Precedes ev p n → thread ev p ≢ thread ev n → BroughtBy p n
   brought (own store in-stretch by-thread earlier) other = absurd (other by-thread)
   brought (read l store in-stretch loads from by-thread load-in-stretch after early) other = record {
     by = l;

@@ -29,6 +29,8 @@ module _ (ev : ℕ → Event) (p q : ℕ) where
     pub observed-none : BringsItself ev p q → getD windows (thread ev q) none ≡ none
     -- "The thread of q must always have one", but for that
     pub observed-has : ¬ BringsItself ev p q → (from to : ℕ) × (getD windows (thread ev q) none ≡ between from to)
+    -- whichever it is, some thread has one, since the two stores are on two lines
+    pub some-has : (t from to : ℕ) × (t < 8) × (getD windows t none ≡ between from to)
 
 module _ (ev : ℕ → Event) (N p q : ℕ) where
   -- of "A broken pair on one line"
