@@ -5,6 +5,7 @@ mod damage;
 mod draft;
 mod mistakes;
 mod settings;
+mod spread;
 
 use draft::Draft;
 use settings::Settings;

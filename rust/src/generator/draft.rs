@@ -1,6 +1,7 @@
 //! A trace that grows by events which the machine's rules allow.
 
 use super::settings::{Memory, Settings};
+use super::spread::Spread;
 use super::Random;
 use std::collections::VecDeque;
 
@@ -89,17 +90,21 @@ impl Draft {
     /// Starts a trace of few threads and few used locations.
     pub fn begin_some(&mut self, random: &Random) {
         let threads = random.pick(&[1, 1, 1, 2, 2, 2, 2, 3, 3, 4, 8]);
-        let locations = random.pick(&[1, 2, 3, 3, 4, 4, 5, 9, 256]);
-        self.begin(threads, locations);
-        let used = random.pick(&[1, 2, 3, 3, 4, 5]).min(locations);
-        self.use_some(used, random);
+        self.begin_spread(threads, random.pick(&[1, 2, 3, 3, 4, 5]), random);
     }
 
     /// Starts a trace of several threads and several used locations.
     pub fn begin_several(&mut self, random: &Random) {
-        let used = random.between(3, 6);
-        self.begin(random.pick(&[2, 2, 3, 3, 4, 8]), used + random.between(0, 3));
-        self.use_some(used, random);
+        let threads = random.pick(&[2, 2, 3, 3, 4, 8]);
+        self.begin_spread(threads, random.between(3, 6), random);
+    }
+
+    /// Starts a trace that uses so many locations, in some spread over the cache lines.
+    fn begin_spread(&mut self, threads: u16, count: u16, random: &Random) {
+        let used = Spread::draw(random).locations(count, random);
+        let least = 1 + used.iter().max().expect("at least one location");
+        self.begin(threads, (least + random.pick(&[0, 0, 1, 9])).min(256));
+        self.used = used;
     }
 
     /// Uses that many locations, which is at most all of them: some that stand evenly apart.
@@ -138,11 +143,16 @@ impl Draft {
         random.pick(&self.used)
     }
 
+    /// Whether a thread has no waiting store.
+    fn drained(&self, thread: u16) -> bool {
+        self.queues[usize::from(thread)].is_empty()
+    }
+
     /// A thread whose queue is empty, or one whose queue is not.
     pub fn thread_with_queue(&self, empty: bool, random: &Random) -> Option<u16> {
         let first = random.between(0, self.threads - 1);
         let threads = (0..self.threads).map(|step| (first + step) % self.threads);
-        threads.into_iter().find(|&thread| self.queues[usize::from(thread)].is_empty() == empty)
+        threads.into_iter().find(|&thread| self.drained(thread) == empty)
     }
 
     /// Appends allowed events up to an event number. Crashes stop at seven.
@@ -200,7 +210,7 @@ impl Draft {
             },
             2 => self.load(thread, location, settings, random),
             3 => self.put(random.between(5, 6), &[thread, location]),
-            4 if self.queues[usize::from(thread)].is_empty() => self.put(random.between(7, 8), &[thread]),
+            4 if self.drained(thread) => self.put(random.between(7, 8), &[thread]),
             4 => self.sfence(thread),
             5 => self.skip(thread),
             8 if !self.signals.is_empty() => self.wait(thread, random.pick(&self.signals)),
@@ -259,8 +269,7 @@ impl Draft {
     fn giver(&self, random: &Random) -> Option<u16> {
         let committed = self.commits.last().map(|&(_, _, thread)| thread);
         let drawn = random.pick(&[self.waited, committed, None]);
-        let drained = |thread: &u16| self.queues[usize::from(*thread)].is_empty();
-        drawn.filter(drained).or_else(|| self.thread_with_queue(true, random))
+        drawn.filter(|&thread| self.drained(thread)).or_else(|| self.thread_with_queue(true, random))
     }
 
     /// Issues a store to some location and commits the thread's oldest one.
@@ -276,14 +285,15 @@ impl Draft {
         let first = self.thread_with_queue(true, random);
         let (Some(mut thread), true) = (first, random.below(100) < settings.swap_chain) else { return false };
         let location = self.some_location(random);
-        let publishes = random.pick(&[1, 2, 4]);
-        let end = self.events + random.between(1, SWAP_CHAIN);
+        let publishes = random.pick(&[1, 1, 2]);
+        let end = self.events + random.between(3, SWAP_CHAIN);
         while self.events < end {
             if random.once_in(publishes) && self.events + 2 < end {
                 self.store(thread, random);
             }
             self.locked(thread, location, settings, random);
-            thread = self.thread_with_queue(true, random).unwrap_or(thread);
+            let next = self.another_thread(thread, random);
+            thread = if self.drained(next) { next } else { thread };
         }
         true
     }

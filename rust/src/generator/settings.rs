@@ -62,7 +62,7 @@ impl Settings {
             wait: random.pick(&[0, 0, 0, 1]),
             hand_on: random.pick(&[0, 0, 15, 40]),
             hand_over: random.pick(&[0, 0, 0, 20]),
-            swap_chain: random.pick(&[0, 0, 5, 25]),
+            swap_chain: random.pick(&[0, 0, 20, 60]),
             crash: random.pick(&[1_000, 5_000, 9_000, 9_000]),
             commits: random.pick(&[0, 2, 4, 4, 5, 5, 5, 6, 6, 6]),
             loads_after_crash: random.pick(&[8, 24, 32]),
