@@ -44,6 +44,12 @@ pub struct Counts {
     pub several_windows: u64,
     /// Those whose observed store's thread has no window.
     pub observing_without_window: u64,
+    /// Those whose locations are fewer than eight apart, at the border of two cache lines.
+    pub flush_at_border: u64,
+    /// Traces judged broken by two stores on one cache line.
+    pub impossible: u64,
+    /// Those whose stores are at two locations.
+    pub impossible_apart: u64,
     /// Accepted traces with a locked operation.
     pub locked: u64,
     /// Broken traces whose load is a locked operation.
@@ -117,6 +123,7 @@ impl Comparison {
         same("fast judge", self.fast.judge(trace), expected)?;
         if let Ok(verdict) = &expected {
             let events = events_of(trace);
+            self.count_lines(&events, verdict);
             self.count_locked(&events, verdict);
             self.count_waits(&events, verdict);
         }
@@ -155,8 +162,18 @@ impl Comparison {
                 self.counts.several_windows += u64::from(there > 1);
                 &mut self.counts.flush
             }
+            Ok(Verdict::Broken { kind: Kind::Impossible, .. }) => &mut self.counts.impossible,
             Err(refusal) => &mut self.counts.refused[usize::from(refusal.number)],
         } += 1;
+    }
+
+    /// Counts how far apart the locations of a broken trace's two stores are.
+    fn count_lines(&mut self, events: &[Event], verdict: &Verdict) {
+        let &Verdict::Broken { missing, observed, kind, .. } = verdict else { return };
+        let [missing, observed] = [missing, observed].map(|number| location_of(&events[usize::from(number)]));
+        let apart = missing.abs_diff(observed);
+        self.counts.flush_at_border += u64::from(matches!(kind, Kind::Flush(_)) && apart < 8);
+        self.counts.impossible_apart += u64::from(kind == Kind::Impossible && apart > 0);
     }
 
     /// Counts what a verdict says of the locked operations of its trace.
@@ -376,7 +393,7 @@ fn check_frame(trace: &[u8], e: usize) -> Result<(), String> {
 }
 
 /// The events of an accepted trace, each at its number.
-fn events_of(trace: &[u8]) -> Vec<Event> {
+pub fn events_of(trace: &[u8]) -> Vec<Event> {
     let mut at = 0;
     let mut events = Vec::new();
     while let Ok((event, next)) = reference::read_at(trace, at) {
@@ -384,6 +401,14 @@ fn events_of(trace: &[u8]) -> Vec<Event> {
         at = next;
     }
     events
+}
+
+/// The location of a store, by the event that issues it.
+pub fn location_of(store: &Event) -> u16 {
+    match *store {
+        Event::Issue { location, .. } | Event::Locked { location, .. } => location,
+        _ => panic!("no issue: {store:?}"),
+    }
 }
 
 /// The trace of some events with an sfence in place of each wait.
@@ -410,14 +435,22 @@ fn same_answer(answer: &[u16; ffi::ANSWER], expected: &[u16; ffi::ANSWER]) -> Re
     })
 }
 
+/// The number of a kind in the library's answer.
+fn number_of(kind: &Kind) -> u16 {
+    match kind {
+        Kind::Contradiction => 1,
+        Kind::Flush(_) => 2,
+        Kind::Impossible => 3,
+    }
+}
+
 /// The numbers of the library's answer that belong to an answer.
 fn answer_of(answer: &Result<Verdict, Refusal>) -> [u16; ffi::ANSWER] {
     let front = match *answer {
         Err(Refusal { number, event }) => [number, event, 0, 0, 0, 0, 0, 0, 0],
         Ok(Verdict::Robust { events, share, .. }) => [0, 0, 1, events, share, 0, 0, 0, 0],
         Ok(Verdict::Broken { events, load, missing, observed, kind }) => {
-            let kind = if kind == Kind::Contradiction { 1 } else { 2 };
-            [0, 0, 2, events, 0, load, missing, observed, kind]
+            [0, 0, 2, events, 0, load, missing, observed, number_of(&kind)]
         }
     };
     let mut numbers = [0; ffi::ANSWER];

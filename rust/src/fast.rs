@@ -540,13 +540,20 @@ impl Fast {
         Windows { primary: primary as u16, threads }
     }
 
+    /// The kind of a broken trace. Two locations are on one line if they differ in the three lowest bits at most.
+    #[cold]
+    fn kind(&self, trace: &[u8], missing: Name, observed: Name) -> Kind {
+        let [p, q] = [missing, observed].map(|name| self.stores[at(name)].location);
+        match p ^ q {
+            _ if missing == observed => Kind::Contradiction,
+            0..=7 => Kind::Impossible,
+            _ => Kind::Flush(self.windows(trace, missing, observed)),
+        }
+    }
+
     fn verdict(&self, trace: &[u8], events: u16) -> Verdict {
         if let Some(Evidence { load, missing, observed }) = self.evidence {
-            let kind = if missing == observed {
-                Kind::Contradiction
-            } else {
-                Kind::Flush(self.windows(trace, missing, observed))
-            };
+            let kind = self.kind(trace, missing, observed);
             let [load, missing, observed] = [load, missing, observed].map(|name| name as u16);
             return Verdict::Broken { events, load, missing, observed, kind };
         }

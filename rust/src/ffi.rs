@@ -34,8 +34,8 @@ extern "C" {
 }
 
 /// Judges a trace. The answer is: refusal, its event, verdict (1 robust, 2 broken), events, share, load, missing,
-/// observed, kind (1 contradiction, 2 flush), primary thread + 1, then for each of eight threads the first and the last
-/// place of its window; what the verdict does not have is 0.
+/// observed, kind (1 contradiction, 2 flush, 3 impossible), primary thread + 1, then for each of eight threads the
+/// first and the last place of its window; what the verdict does not have is 0.
 pub fn judge(trace: &[u8], work: &mut [u16], cut: &mut [u16]) -> [u16; ANSWER] {
     let mut answer = [0; ANSWER];
     // SAFETY: each pointer and length is of a slice or an array of the size that the header names; the three that are

@@ -148,10 +148,14 @@ impl Accepted {
     }
 
     /// "Kind is "contradiction" if they are equal, else "flush"." Document 02, job 1: "broken gains the windows", and
-    /// "Contradictions have none."
+    /// "Contradictions have none." Job 5: "A broken pair on one line has the kind "impossible" unless it is a
+    /// contradiction. It has no windows."
     fn kind(&self, p: usize, q: usize) -> Kind {
+        let [missing, observed] = [p, q].map(|store| &self.machine.stores[store]);
         if p == q {
             Kind::Contradiction
+        } else if missing.line() == observed.line() {
+            Kind::Impossible
         } else {
             Kind::Flush(windows(&self.machine, &self.precedence, p, q))
         }

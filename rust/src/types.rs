@@ -37,18 +37,21 @@ pub enum Verdict {
         missing: u16,
         /// The event number of the smallest store that a counted load observes and that `missing` is or happens before.
         observed: u16,
-        /// Whether the two stores are one; if not, where the flush may go.
+        /// Whether the two stores are one, or two on one cache line; if neither, where the flush may go.
         kind: Kind,
     },
 }
 
-/// The two kinds of broken traces.
+/// The three kinds of broken traces.
 #[derive(Clone, Copy, Debug, PartialEq, Eq)]
 pub enum Kind {
     /// One store is forbidden and observed.
     Contradiction,
-    /// The forbidden store happens before the observed one.
+    /// The forbidden store happens before the observed one, and they are on two cache lines.
     Flush(Windows),
+    /// The forbidden store happens before the observed one, and both are on one cache line, whose stores reach memory
+    /// in commit order: no flush between them is missing.
+    Impossible,
 }
 
 /// Where the line of the missing store may be flushed.

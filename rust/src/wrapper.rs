@@ -147,6 +147,7 @@ fn kind_of(number: u16, primary: u16, places: &[u16; 2 * THREADS]) -> Kind {
             primary: primary - 1,
             threads: std::array::from_fn(|thread| window_of(places[2 * thread], places[2 * thread + 1])),
         }),
+        3 => Kind::Impossible,
         _ => unreachable!("no such kind: {number}"),
     }
 }

@@ -1,8 +1,8 @@
 //! What the generator reaches, and a short comparison.
 
-use gorbuzte::comparison::Comparison;
+use gorbuzte::comparison::{events_of, location_of, Comparison};
 use gorbuzte::generator::{Family, Generator, Random, FAMILIES};
-use gorbuzte::{Judge, Kind, Refusal, Verdict, REFUSALS};
+use gorbuzte::{reference, Judge, Kind, Refusal, Verdict, REFUSALS};
 use std::collections::BTreeSet;
 
 const SEED: u64 = 2_026;
@@ -19,11 +19,13 @@ fn the_judges_agree() {
     }
     let counts = &comparison.counts;
     assert_eq!(counts.traces, TRACES);
-    assert!(counts.robust > TRACES / 5 && counts.contradiction + counts.flush > TRACES / 5);
-    assert!(counts.robust_with_stores > TRACES / 20 && counts.contradiction > 0 && counts.flush > 0);
+    let kinds = [counts.contradiction, counts.flush, counts.impossible];
+    assert!(counts.robust > TRACES / 5 && kinds.iter().sum::<u64>() > TRACES / 5);
+    assert!(counts.robust_with_stores > TRACES / 20 && kinds.iter().all(|&met| met > TRACES / 15), "{kinds:?}");
+    assert!(counts.flush_at_border > TRACES / 50 && counts.impossible_apart > TRACES / 50);
     assert!(REFUSALS.iter().all(|&number| counts.refused[usize::from(number)] > 0), "{:?}", counts.refused);
     assert!(counts.primary_without_window > TRACES / 200 && counts.several_windows > TRACES / 200);
-    assert!(counts.locked > TRACES / 5 && counts.observing_without_window > TRACES / 400);
+    assert!(counts.locked > TRACES / 5 && counts.observing_without_window > TRACES / 1_000);
     assert!([counts.load_locked, counts.missing_locked, counts.observed_locked].iter().all(|&met| met > TRACES / 50));
     assert!(counts.waits > TRACES / 5 && counts.broken_by_waits > TRACES / 50 && counts.opened_by_waits > TRACES / 50);
     assert!(counts.all_choices > TRACES / 5 && counts.all_choices_broken > 0);
@@ -73,11 +75,45 @@ fn limits_are_met_from_both_sides() {
             }
             Ok(Verdict::Broken { events, kind, .. }) => {
                 most_events = most_events.max(events);
-                kinds.insert(kind == Kind::Contradiction);
+                kinds.insert(match kind {
+                    Kind::Contradiction => 1,
+                    Kind::Flush(_) => 2,
+                    Kind::Impossible => 3,
+                });
             }
         }
     }
     assert_eq!(families.len(), FAMILIES.len());
-    assert_eq!((most_events, most_stretches, kinds.len()), (2_048, 7, 2));
+    assert_eq!((most_events, most_stretches, kinds.len()), (2_048, 7, 3));
     assert!(refusals.contains(&(13, true)) && refusals.contains(&(13, false)), "{refusals:?}");
+}
+
+/// A cache line, by a location on it.
+type LineOf = fn(u16) -> u16;
+
+/// Wrong lines. A judge that goes by one of them gives some pairs another kind.
+const WRONG_LINES: [(&str, LineOf); 6] = [
+    ("of one location", |location| location),
+    ("of 4 locations", |location| location / 4),
+    ("of 16 locations", |location| location / 16),
+    ("rounded up", |location| location.div_ceil(8)),
+    ("rounded to the nearest", |location| (location + 4) / 8),
+    ("the places in the line", |location| location % 8),
+];
+
+#[test]
+fn wrong_lines_are_told() {
+    let mut generator = Generator::new();
+    let mut told = WRONG_LINES.map(|(name, _)| (name, 0));
+    for number in 0..TRACES {
+        let (trace, _) = generator.trace(SEED, number);
+        let Ok(Verdict::Broken { missing, observed, kind, .. }) = reference::judge(trace) else { continue };
+        let events = events_of(trace);
+        let [p, q] = [missing, observed].map(|store| location_of(&events[usize::from(store)]));
+        for ((_, times), (_, line)) in told.iter_mut().zip(WRONG_LINES) {
+            let impossible = missing != observed && line(p) == line(q);
+            *times += u64::from(impossible != (kind == Kind::Impossible));
+        }
+    }
+    assert!(told.iter().all(|(_, times)| *times > TRACES / 100), "{told:?}");
 }

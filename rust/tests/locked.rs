@@ -57,7 +57,7 @@ const VERDICTS: &[Row] = &[
     ),
     (
         "and observes: 7 reads 3, and 6 read past 1",
-        "B1.1.2 I0.0 C0 I0.1 C0 X L0.0<0 R0.1<3",
+        "B1.1.9 I0.0 C0 I0.8 C0 X L0.0<0 R0.8<3",
         "events 7 / verdict broken / load 7 / missing 1 / observed 3 / kind flush",
     ),
     (
@@ -107,59 +107,63 @@ const VERDICTS: &[Row] = &[
 /// answers are the missing and the observed store, the primary thread and each thread's window.
 const WINDOWS: &[Row] = &[
     (
-        "record 3 is the observed store and thread 1's first load of 1; thread 0's last store before it is 1",
-        "B1.2.2 I0.0 C0 R1.0<1 X L0.0<0 L0.0<3",
-        "1 before 3, primary 0",
+        "record 6 is the observed store and the first that brings 1 to thread 1; thread 0's last store before it is 1",
+        "B1.3.9 I0.0 C0 L2.0<1 I2.8 C2 R1.8<4 X L0.0<0 L0.8<6",
+        "1 before 6, primary 0, thread 2: 4 to 4",
     ),
-    ("the same in a skip: the load orders", "B1.2.2 I0.0 C0 SKIP1 R1.0<1 X L0.0<0 L0.0<4", "1 before 4, primary 0"),
+    (
+        "the same in a skip: the load orders",
+        "B1.3.9 I0.0 C0 L2.0<1 I2.8 C2 SKIP1 R1.8<4 X L0.0<0 L0.8<7",
+        "1 before 7, primary 0, thread 2: 4 to 4",
+    ),
     (
         "record 4 loads 3, which happens after 1, and thread 1 has no window; thread 0 stores 3 before 4",
-        "B1.2.3 I0.1 C0 R0.0<0 R1.0<3 X L0.1<0 L0.0<4",
+        "B1.2.17 I0.8 C0 R0.0<0 R1.0<3 X L0.8<0 L0.0<4",
         "1 before 4, primary 0, thread 0: 2 to 3",
     ),
     (
         "load 3 of thread 1 is of 1, which does not happen after 4",
-        "B1.2.2 I1.1 C1 L1.1<1 I0.0 C0 R1.0<4 X L0.0<0 L0.0<6",
-        "4 before 6, primary 0",
+        "B1.2.17 I1.16 C1 L1.16<1 I0.0 C0 I0.8 C0 R1.8<6 X L0.0<0 L0.8<8",
+        "4 before 8, primary 0, thread 0: 5 to 6",
     ),
     (
-        "thread 1's first place is behind its only store, 3; thread 2's own record brings 1",
-        "B1.3.2 I0.0 C0 R1.0<1 R2.0<3 X L0.0<0 L0.0<4",
-        "1 before 4, primary 0",
+        "thread 1's first place is behind its only store, 5; thread 2's own record brings 1",
+        "B1.3.9 I0.0 C0 I0.8 C0 R1.8<3 R2.8<5 X L0.0<0 L0.8<6",
+        "1 before 6, primary 0, thread 0: 2 to 3",
     ),
     (
-        "load 3 brought 1 before record 4",
-        "B1.2.2 I0.0 C0 L1.0<1 R1.0<1 X L0.0<0 L0.0<4",
-        "1 before 4, primary 0, thread 1: 4 to 4",
+        "load 5 brought 1 before record 6",
+        "B1.2.9 I0.0 C0 I0.8 C0 L1.0<1 R1.8<3 X L0.0<0 L0.8<6",
+        "1 before 6, primary 0, thread 0: 2 to 3, thread 1: 6 to 6",
     ),
     (
         "load 4 is of 3, which happens after 1, and comes before record 5",
-        "B1.2.3 I0.1 C0 R0.0<0 L1.0<3 R1.0<3 X L0.1<0 L0.0<5",
+        "B1.2.17 I0.8 C0 R0.0<0 L1.0<3 R1.0<3 X L0.8<0 L0.0<5",
         "1 before 5, primary 0, thread 0: 2 to 3, thread 1: 5 to 5",
     ),
     (
         "record 3 brought 1 before record 4, both of thread 1",
-        "B1.2.2 I0.0 C0 R1.0<1 R1.0<3 X L0.0<0 L0.0<4",
+        "B1.2.9 I0.0 C0 R1.0<1 R1.8<0 X L0.0<0 L0.8<4",
         "1 before 4, primary 0, thread 1: 4 to 4",
     ),
     (
-        "the observed store is of the missing one's thread, whose first place is 2, and loads it",
-        "B1.1.2 I0.0 C0 R0.0<1 X L0.0<0 L0.0<3",
-        "1 before 3, primary 0, thread 0: 2 to 3",
+        "the observed store is of the missing one's thread, whose first place is 2, and its record loads 3",
+        "B1.1.9 I0.0 C0 I0.8 C0 R0.8<3 X L0.0<0 L0.8<5",
+        "1 before 5, primary 0, thread 0: 2 to 5",
     ),
     (
         "record 4 brings 1 to thread 1, whose later store 5 is observed",
-        "B1.2.3 I0.1 C0 R0.0<0 R1.0<3 I1.2 C1 X L0.1<0 L0.2<5",
+        "B1.2.17 I0.8 C0 R0.0<0 R1.0<3 I1.16 C1 X L0.8<0 L0.16<5",
         "1 before 5, primary 0, thread 0: 2 to 3, thread 1: 5 to 5",
     ),
     (
         "the missing store is a locked operation's: one past its record",
-        "B1.1.2 R0.0<0 I0.1 C0 X L0.0<0 L0.1<2",
+        "B1.1.9 R0.0<0 I0.8 C0 X L0.0<0 L0.8<2",
         "1 before 2, primary 0, thread 0: 2 to 2",
     ),
     (
         "record 5 is an issue of thread 1, and the last before 7",
-        "B1.3.4 I0.0 C0 L1.0<1 SF1 R1.1<0 L2.1<5 R2.2<0 X L0.0<0 L0.2<7",
+        "B1.3.25 I0.0 C0 L1.0<1 SF1 R1.8<0 L2.8<5 R2.16<0 X L0.0<0 L0.16<7",
         "1 before 7, primary 0, thread 1: 4 to 5, thread 2: 7 to 7",
     ),
 ];

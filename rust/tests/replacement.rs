@@ -114,6 +114,7 @@ struct Met {
     robust: u32,
     contradiction: u32,
     flush: u32,
+    impossible: u32,
     load: u32,
     missing: u32,
     observed: u32,
@@ -131,8 +132,11 @@ impl Met {
         self.load += u32::from(locked.contains(&load));
         self.missing += u32::from(locked.contains(&missing));
         self.observed += u32::from(locked.contains(&observed));
-        self.contradiction += u32::from(kind == Kind::Contradiction);
-        self.flush += u32::from(kind != Kind::Contradiction);
+        *match kind {
+            Kind::Contradiction => &mut self.contradiction,
+            Kind::Flush(_) => &mut self.flush,
+            Kind::Impossible => &mut self.impossible,
+        } += 1;
     }
 
     /// Each window is carried over, and only a window inside a locked operation, where no flush can stand, is added.
@@ -197,8 +201,10 @@ fn load_issue_and_commit_give_the_same() {
             met.orders(&old, &new, &replaced, &what);
         }
     }
-    let Met { robust, contradiction, flush, load, missing, observed, windows_inside, moved_waits, pairs } = met;
-    assert!(robust + contradiction + flush > 2_000, "{met:?}");
-    let all = [robust, contradiction, flush, load, missing, observed, windows_inside, moved_waits, pairs];
-    assert!(all.iter().all(|&number| number > 0), "{met:?}");
+    let Met { robust, contradiction, flush, impossible, load, missing, observed, windows_inside, moved_waits, pairs } =
+        met;
+    let verdicts = [robust, contradiction, flush, impossible];
+    assert!(verdicts.iter().sum::<u32>() > 2_000, "{met:?}");
+    let others = [load, missing, observed, windows_inside, moved_waits, pairs];
+    assert!(verdicts.iter().chain(&others).all(|&number| number > 0), "{met:?}");
 }

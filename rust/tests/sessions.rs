@@ -14,7 +14,7 @@ const CASES: &[Row] = &[
     (
         "case 1",
         "B1.1.2 I0.0 C0 I0.1 C0 I0.0 C0 I0.1 C0 X L0.0<1 L0.1<7",
-        "events 11 / verdict broken / load 11 / missing 5 / observed 7 / kind flush",
+        "events 11 / verdict broken / load 11 / missing 5 / observed 7 / kind impossible",
     ),
     ("case 2", "B1.2.2 I0.0 C0 I1.1 C1 X L0.0<0 L0.1<3", "events 7 / verdict robust / cut 1 0 1 / share 50"),
     (
@@ -25,12 +25,12 @@ const CASES: &[Row] = &[
     (
         "case 4",
         "B1.1.2 I0.0 C0 I0.1 C0 X L0.0<0 I0.1 C0 X L0.1<3",
-        "events 10 / verdict broken / load 10 / missing 1 / observed 3 / kind flush",
+        "events 10 / verdict broken / load 10 / missing 1 / observed 3 / kind impossible",
     ),
     (
         "case 5",
         "B1.2.2 I0.0 C0 L1.0<1 I1.1 C1 X L0.0<0 L0.1<4",
-        "events 8 / verdict broken / load 8 / missing 1 / observed 4 / kind flush",
+        "events 8 / verdict broken / load 8 / missing 1 / observed 4 / kind impossible",
     ),
     ("case 6", "B1.2.2 I0.0 C0 I1.1 L1.0<1 C1 X L0.0<0 L0.1<3", "events 8 / verdict robust / cut 1 0 1 / share 50"),
     (
@@ -167,17 +167,17 @@ const ERRORS: &[Row] = &[
     (
         "a read of source 0 taken as free",
         "B1.1.2 I0.0 C0 I0.1 C0 X L0.0<0 L0.1<3",
-        "events 7 / verdict broken / load 7 / missing 1 / observed 3 / kind flush",
+        "events 7 / verdict broken / load 7 / missing 1 / observed 3 / kind impossible",
     ),
     (
         "loads in a skip still order",
         "B1.2.2 I0.0 C0 SKIP1 L1.0<1 I1.1 C1 X L0.0<0 L0.1<5",
-        "events 9 / verdict broken / load 9 / missing 1 / observed 5 / kind flush",
+        "events 9 / verdict broken / load 9 / missing 1 / observed 5 / kind impossible",
     ),
     (
         "a chain over three threads",
         "B1.3.3 I0.0 C0 L1.0<1 I1.1 C1 L2.1<4 I2.2 C2 X L0.0<0 L0.2<7",
-        "events 11 / verdict broken / load 11 / missing 1 / observed 7 / kind flush",
+        "events 11 / verdict broken / load 11 / missing 1 / observed 7 / kind impossible",
     ),
     (
         "a waiting store stays out of the share",
@@ -192,12 +192,12 @@ const ERRORS: &[Row] = &[
     (
         "smallest missing goes before smallest observed",
         "B1.2.3 I0.0 C0 I1.0 C1 I1.1 C1 I0.2 C0 X L0.1<5 L0.2<7 L0.0<0",
-        "events 12 / verdict broken / load 12 / missing 1 / observed 7 / kind flush",
+        "events 12 / verdict broken / load 12 / missing 1 / observed 7 / kind impossible",
     ),
     (
         "every load before the issue orders",
         "B1.3.3 I0.0 C0 I1.1 C1 L2.0<1 L2.1<3 I2.2 C2 X L0.0<0 L0.2<7",
-        "events 11 / verdict broken / load 11 / missing 1 / observed 7 / kind flush",
+        "events 11 / verdict broken / load 11 / missing 1 / observed 7 / kind impossible",
     ),
     (
         "a skip is a matter of its own thread",

@@ -9,6 +9,7 @@ use gorbuzte::{Event, Judge, Order, Refusal, Verdict, CUT, LARGEST_RECORD, WORK}
 const ROBUST: &str = "B1.2.2 I0.0 C0 I1.1 C1 X L0.0<0 L0.1<3";
 const BROKEN: &str = "B1.1.2 I0.0 C0 X L0.0<1 L0.0<0";
 const FLUSH: &str = "B1.2.9 I0.0 C0 L1.0<1 I1.8 C1 X L0.0<0 L0.8<4";
+const IMPOSSIBLE: &str = "B1.2.2 I0.0 C0 L1.0<1 I1.1 C1 X L0.0<0 L0.1<4";
 const REFUSED: &str = "B1.1.2 I0.0 X L0.0<1";
 
 fn refused<T>(number: u16, event: u16) -> Result<T, Refusal> {
@@ -29,7 +30,7 @@ fn a_robust_answer_fills_the_cut_buffer() {
 
 #[test]
 fn other_answers_leave_the_cut_buffer() {
-    for text in [BROKEN, FLUSH, REFUSED, ""] {
+    for text in [BROKEN, FLUSH, IMPOSSIBLE, REFUSED, ""] {
         let (mut work, mut cut) = (vec![7; WORK + 3], [7; CUT]);
         let trace = session(text);
         assert_eq!(judge_with(&trace, &mut work, &mut cut), judge(&trace));
@@ -75,10 +76,11 @@ fn the_order_query_clears_the_work_area() {
 
 #[test]
 fn the_numbers_of_an_answer() {
-    let rows: [(&str, &[u16], &[u16]); 4] = [
+    let rows: [(&str, &[u16], &[u16]); 5] = [
         (ROBUST, &[0, 0, 1, 7, 50, 0, 0, 0, 0], &[0; 17]),
         (BROKEN, &[0, 0, 2, 5, 0, 5, 1, 1, 1], &[0; 17]),
         (REFUSED, &[9, 3, 0, 0, 0, 0, 0, 0, 0], &[0; 17]),
+        (IMPOSSIBLE, &[0, 0, 2, 8, 0, 8, 1, 4, 3], &[0; 17]),
         (FLUSH, &[0, 0, 2, 8, 0, 8, 1, 4, 2], &[1, 0, 0, 4, 4, 0, 0, 0, 0, 0, 0, 0, 0, 0, 0, 0, 0]),
     ];
     for (text, front, windows) in rows {
@@ -90,7 +92,7 @@ fn the_numbers_of_an_answer() {
 #[test]
 fn one_judge_serves_many_traces() {
     let mut kept = Judge::default();
-    for text in [ROBUST, BROKEN, FLUSH, REFUSED, "", BROKEN, ROBUST, "B1.1.1"] {
+    for text in [ROBUST, BROKEN, FLUSH, IMPOSSIBLE, REFUSED, "", BROKEN, ROBUST, "B1.1.1"] {
         let trace = session(text);
         assert_eq!(kept.judge(&trace), judge(&trace));
         assert_eq!(kept.order(&trace, 1, 1), order(&trace, 1, 1));

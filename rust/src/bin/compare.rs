@@ -48,6 +48,8 @@ fn print_counts(counts: &Counts, made: &[u64]) {
     println!("of them without a window of the primary thread: {}", counts.primary_without_window);
     println!("of them with windows of several threads: {}", counts.several_windows);
     println!("of them without a window of the observed store's thread: {}", counts.observing_without_window);
+    println!("of them with locations fewer than eight apart: {}", counts.flush_at_border);
+    println!("broken, impossible: {}, of them with two locations: {}", counts.impossible, counts.impossible_apart);
     println!("accepted, with a locked operation: {}", counts.locked);
     println!(
         "broken, with a locked operation as load: {}, as missing: {}, as observed: {}",

@@ -14,6 +14,13 @@ pub struct Store {
     pub commit: Option<usize>,
 }
 
+impl Store {
+    /// "location ÷ 8 without remainder is its 64-byte cache line"
+    pub fn line(&self) -> u16 {
+        self.location / 8
+    }
+}
+
 /// A load that the machine accepted.
 pub struct Load {
     pub event: u16,

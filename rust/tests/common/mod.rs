@@ -120,7 +120,11 @@ pub fn lines(trace: &[u8], answer: &Result<Verdict, Refusal>) -> String {
             format!("events {events} / verdict robust{rows} / share {share}")
         }
         Ok(Verdict::Broken { events, load, missing, observed, kind }) => {
-            let kind = if *kind == Kind::Contradiction { "contradiction" } else { "flush" };
+            let kind = match kind {
+                Kind::Contradiction => "contradiction",
+                Kind::Flush(_) => "flush",
+                Kind::Impossible => "impossible",
+            };
             let evidence = format!("load {load} / missing {missing} / observed {observed} / kind {kind}");
             format!("events {events} / verdict broken / {evidence}")
         }
