@@ -219,11 +219,12 @@ def late_break(events: int) -> Trace:
 
 
 def wide_windows(events: int) -> Trace:
-    """The same stores, and a flush fault at the last event: the first store is missing, the last one observed, and every
-    record between them is looked at for windows."""
+    """The same stores, and a flush fault at the last event: the first store is missing, the last one, on another cache
+    line, is observed, and every record between them is looked at for windows."""
     trace = handed_on(events)
     last = max(trace.current.values())
     location = next(place for place, store in trace.current.items() if store == last)
+    assert location // 8 != 255 // 8, "both stores are on one line, so there are no windows: take another size"
     trace.crash()
     trace.add(4, 0, 255, 0)
     trace.add(4, 0, location, last)
