@@ -1,5 +1,5 @@
--- Demand 3 of the computed answer, and document 02's kinds and windows: for every accepted trace, with any buffers that refusals
--- 14 and 15 let pass, what `judgeOf` answers and `cutAfter` leaves in the cut buffer make the claim of
+-- Demand 3 of the computed answer, and document 02's kinds and windows: for every accepted trace, with any buffers that
+-- refusals 14 and 15 let pass, what `judgeOf` answers and `cutAfter` leaves in the cut buffer make the claim of
 -- specs/Demand.antt. And demand 1: a trace that is turned away is refused, and a refusal leaves the cut buffer as lent.
 use Prim.Native.Nat.{ℕ, suc, _≤_, _<_}
 use native.Mathlib.Omega.{arith}
@@ -14,7 +14,7 @@ use Rattle.record.specs.Tests.{_gives_else_}
 use Rattle.model.specs.Trace.{thread, line}
 use Rattle.model.specs.HappensBefore.{Before, AtOrBefore}
 use Rattle.model.specs.Rules.{Accepted}
-use Rattle.model.specs.Choice.{Ruling, robust, broken, Pair, Broken, Exact}
+use Rattle.model.specs.Choice.{Ruling, robust, broken, Broken, Exact}
 use Rattle.model.specs.Windows.{none, windowOf}
 use Rattle.model.specs.Verdict.{rulingOf}
 use Rattle.model.specs.Reading.{events, Reading, accepted, turnedAway, readingOf}
@@ -26,12 +26,13 @@ use Rattle.model.specs.Demand.{FlushClaims, ImpossibleClaims, FaultClaim
 use Rattle.model.proofs.Searching.{same?}
 use Rattle.model.proofs.Tabulating.{tabulate-length, tabulate-at}
 use Rattle.model.proofs.Ordering.{before-lt}
+use Rattle.model.proofs.Acceptance.{prefix}
 use Rattle.model.proofs.Ranges.{issue-has-thread, thread-bound}
-use Rattle.model.proofs.Closure.{CommittedEarlier, observed-is-committed}
+use Rattle.model.proofs.Closure.{CommittedEarlier}
 use Rattle.model.proofs.CacheLines.{committed-first, no-memory}
 use Rattle.model.proofs.WindowPlaces.{window-is, brings-itself-none, observed-has-window}
 use Rattle.model.proofs.FlushPlaces.{some-window}
-use Rattle.model.proofs.Exactness.{exact, wider-pair, named-missing, named-observed}
+use Rattle.model.proofs.Exactness.{exact, named-missing, named-observed}
 use Rattle.model.proofs.TurnedAway.{accepted-exactly, turned-away-exactly, accepted-events}
 
 -- the kind that is computed, with its windows, claims what is demanded
@@ -69,29 +70,32 @@ module _ (ev : ℕ → Event) (N : ℕ) (accepted : Accepted ev N) {load p q : �
           tabulate-at 8 (windowOf ev p q) (thread ev q) none
           (thread-bound ev N accepted q observed-inside (issue-has-thread ev (observed-settled .store)))
 
-  impossible-is : Before ev p q → line ev p ≡ line ev q → ImpossibleClaims ev N p q
+  impossible-is : Before ev p q → line ev p ≡ line ev q → ImpossibleClaims ev (suc load) p q
   impossible-is before one-line =
-      let pair : Pair ev N p q = wider-pair ev (suc load) N p q (it .inside) (it .pair) in
-      let settled = observed-is-committed ev N accepted q (pair .observed) in
-      let first = committed-first ev N accepted p q before (settled .committed) in
+      let up-to-load = prefix ev N (suc load) accepted (omega arith) (it .inside) in
+      let first = committed-first ev (suc load) up-to-load p q before (observed-settled .committed) in
       record {
         differ = differs before;
         one-line = one-line;
         committed-first = first;
-        no-memory = no-memory ev N p q pair one-line first;
+        no-memory = no-memory ev (suc load) p q (it .pair) one-line first;
       }
 
-  pub fault-is : FaultClaims ev N p q (faultOf ev p q)
+  -- what faultOf answers
+  abbrev Claimed : Type 0
+  Claimed = FaultClaims ev (suc load) p q (faultOf ev p q)
+
+  pub fault-is : Claimed
   unfolding faultOf
   fault-is = by-order (it .pair .order)
     where
-      by-line : Before ev p q → (line ev p ≡ line ev q) ⊎ (line ev p ≢ line ev q) → FaultClaims ev N p q (faultOf ev p q)
+      by-line : Before ev p q → (line ev p ≡ line ev q) ⊎ (line ev p ≢ line ev q) → Claimed
       by-line before (inl one-line) =
           rw (ne-eqb p q (differs before), eq-eqb (line ev p) (line ev q) one-line) (impossible-is before one-line)
       by-line before (inr two-lines) =
           rw (ne-eqb p q (differs before), ne-eqb (line ev p) (line ev q) two-lines) (flush-is before two-lines)
 
-      by-order : AtOrBefore ev p q → FaultClaims ev N p q (faultOf ev p q)
+      by-order : AtOrBefore ev p q → Claimed
       by-order (inl same) = rw (eq-eqb p q same) same
       by-order (inr before) = by-line before (same? (line ev p) (line ev q))
 

@@ -1,6 +1,6 @@
 -- Demand 3 as a relation over all choices: what the judge's answer to an accepted trace, and the cut buffer afterwards,
 -- claim. "the verdict is broken exactly when no choice of crash points explains the loads, and robust otherwise."
-use Prim.Native.Nat.{ℕ, _-_, _<_}
+use Prim.Native.Nat.{ℕ, suc, _-_, _<_}
 use mathlib.Core.Path.{_≡_}
 use mathlib.Core.Bool.{Bool}
 use mathlib.Core.Logic.{_≢_}
@@ -32,15 +32,16 @@ module _ (ev : ℕ → Event) (p q : ℕ) where
     -- whichever it is, some thread has one, since the two stores are on two lines
     pub some-has : (t from to : ℕ) × (t < 8) × (getD windows t none ≡ between from to)
 
-module _ (ev : ℕ → Event) (N p q : ℕ) where
+-- likewise, by the first n events
+module _ (ev : ℕ → Event) (n p q : ℕ) where
   -- of "A broken pair on one line"
   pub record ImpossibleClaims : Type 0 where
     pub differ : p ≢ q
     pub one-line : line ev p ≡ line ev q
     -- "Stores on one cache line reach memory in commit order", and missing was committed before observed
-    pub committed-first : CommittedFirst ev N p q
+    pub committed-first : CommittedFirst ev n p q
     -- so what was read comes from no memory that keeps this order, whatever was flushed
-    pub no-memory : (reached : ℕ → Bool) → LinesInOrder ev N reached → ¬ ReadFrom ev N reached
+    pub no-memory : (reached : ℕ → Bool) → LinesInOrder ev n reached → ¬ ReadFrom ev n reached
 
   abbrev pub FaultClaims : answers.Fault → Type 0
   -- "Contradictions have none."
@@ -58,10 +59,10 @@ module _ (ev : ℕ → Event) (N : ℕ) (lent after : List ℕ) where
       (c : Choice) × Least ev N c × (after ≡ answers.cutOf c)
       × (events ≡ N - 1) × (share ≡ answers.shareOf c (finished ev N))
   -- "Broken leaves that buffer as lent and names the first event [..]; and [..] a store that a counted load forbids and
-  -- an observed store which is that store or happens after it"
+  -- an observed store which is that store or happens after it"; the kind is claimed of "those records", up to load
   Claims (answers.broken events load missing observed kind) =
       Broken ev N load missing observed × (after ≡ lent)
-      × (events ≡ N - 1) × FaultClaims ev N missing observed kind
+      × (events ≡ N - 1) × FaultClaims ev (suc load) missing observed kind
 
 -- what the order query's answer about the stores p and q claims, by happens-before itself
 abbrev pub Stands : (ℕ → Event) → ℕ → ℕ → answers.Standing → Type 0
