@@ -27,8 +27,8 @@ fn preceding(x: u16) -> u16
     if x == 0 { 0 } else { x - 1 }
 }
 
-// "contradiction" if they are equal, "impossible" if they are two on one cache line, else "flush", with its windows. Two
-// that are equal are on one line, so the lines are asked first.
+// "contradiction" if they are equal, "impossible" if they are two on one cache line, else "flush", with its windows.
+// Stores that are equal are on one line, so the lines are asked first.
 fn kind_of(trace: &[u8], work: &[u16], missing: u16, observed: u16) -> Kind
     ensures { λ r. ⌜ r ≡ kindBy (now (trace .entry)) (now (work .entry)) missing observed ⌝ }
 {

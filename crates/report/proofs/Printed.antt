@@ -1,6 +1,6 @@
 -- Document 01, "The program `verdict`": what cases 1 and 2 print in whole, and the line of a refusal, computed by the
--- definitions from the answers of cases 1, 2 and 8. The kind of case 1 is that of document 02, job 5; on two cache lines
--- it would be flush, and print so.
+-- definitions from the answers of cases 1, 2 and 8. The kind of case 1 is that of document 02, job 5; on two cache
+-- lines it would be flush, and print so.
 use mathlib.Core.Path.{_≡_, refl}
 use mathlib.Core.List.{List, [], _∷_}
 use Prim.Native.Nat.{ℕ}
