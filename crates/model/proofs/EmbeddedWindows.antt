@@ -11,17 +11,17 @@ use mathlib.Core.Bool.{Bool, true, false}
 use mathlib.Core.List.{List, map}
 use lib.Dec.{eqb}
 use Rattle.record.specs.declared.events.Event.{Event}
-use Rattle.record.specs.Tests.{_gives_else_}
 use Rattle.model.specs.Trace.{thread, location, source, line, load?, Issue, Load, Signal, Wait}
 use Rattle.model.specs.HappensBefore.{Precedes, AtOrBefore}
 use Rattle.model.specs.Windows.{Places, none, between, ComesBy, by-load, by-wait, Brings, FirstBrings}
 use Rattle.model.specs.Windows.{FirstPlace, LastPlace, Window, WindowIs, windowOf}
 use Rattle.model.specs.Windows as windows
-use Rattle.model.specs.Answers.{tabulate, contradiction, flush, impossible, faultOf}
+use Rattle.model.specs.Answers.{tabulate, faultOf}
 use Rattle.model.specs.Embedding.{Numbering, everything, Role, Embedding}
 use Rattle.model.specs.Flushes.{shiftedPlaces, shiftedFault}
 use Rattle.model.proofs.Searching.{excluded}
 use Rattle.model.proofs.Tabulating.{tabulate-same, tabulate-map}
+use Rattle.model.proofs.Faults.{by-kind}
 use Rattle.model.proofs.WindowPlaces.{window-is, window-unique}
 use Rattle.model.proofs.Numberings.{number-mono, number-lt, number-eqb}
 use Rattle.model.proofs.EmbeddedTrace.{stretch-store}
@@ -247,7 +247,7 @@ module _
           store-location q-store,
           each-thread,
         )
-        (by-tests (eqb p q) (eqb (line part p) (line part q)))
+        (by-kind (λ k. k) (shiftedFault there) refl refl (eqb p q) (eqb (line part p) (line part q)) _ _ refl)
       where
         here : List Places
         here = tabulate 8 (windowOf part p q)
@@ -256,13 +256,3 @@ module _
         each-thread =
             tabulate-same 8 _ _ (λ t below. windowOf-at t)
             ∙ sym (tabulate-map (shiftedPlaces there) 8 (windowOf part p q))
-
-        by-tests :
-            (same one-line : Bool)
-            → (same gives contradiction else one-line gives impossible else
-            flush (thread part p) (map (shiftedPlaces there) here))
-            ≡ shiftedFault there
-            (same gives contradiction else one-line gives impossible else flush (thread part p) here)
-        by-tests true one-line = refl
-        by-tests false true = refl
-        by-tests false false = refl

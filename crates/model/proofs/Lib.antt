@@ -13,6 +13,7 @@
 pub mod Searching
 pub mod Induction
 pub mod Tabulating
+pub mod Faults
 pub mod Counting
 pub mod Roles
 pub mod Ordering

@@ -5,25 +5,24 @@
 use Prim.Native.Nat.{ℕ, _+_, _-_, _*_, _≤_, _<_}
 use native.Mathlib.Omega.{arith}
 use mathlib.Core.Path.{_≡_, refl, sym, _∙_, ap}
-use mathlib.Core.Bool.{Bool, true, false}
+use mathlib.Core.Bool.{true}
 use mathlib.Core.List.{List}
 use lib.ListN.{length}
 use lib.Dec.{eqb}
 use Rattle.record.specs.declared.events.Event.{Event}
 use Rattle.record.specs.declared.events.Event.the-variants.{Crash}
-use Rattle.record.specs.Tests.{_gives_else_}
 use Rattle.record.proofs.RoundTrips.{AllBytes}
 use Rattle.model.specs.Trace.{traceOf, line, Issue}
 use Rattle.model.specs.Rules.{Accepted}
 use Rattle.model.specs.Choice.{Ruling, robust, broken, Exact}
-use Rattle.model.specs.Windows.{Places}
-use Rattle.model.specs.Answers.{contradiction, flush, impossible, faultOf}
+use Rattle.model.specs.Answers.{faultOf}
 use Rattle.model.specs.Reading.{events, firstEvents, encode, AcceptedWith}
 use Rattle.model.specs.Judge.{ruledAnswer, judgeOf, cutAfter}
 use Rattle.model.specs.Flushes.{carryBy, shiftedBy}
 use Rattle.model.specs.Locked.{locked?, asLoad, asStore, replaced, unlocked, lockedBefore, unlockedLoad}
 use Rattle.model.specs.Locked.{unlockedStore, bareFault, bare, SameBareVerdict}
 use Rattle.model.proofs.Numberings.{injective-eqb}
+use Rattle.model.proofs.Faults.{by-kind}
 use Rattle.model.proofs.Tabulating.{tabulate-length, tabulate-at}
 use Rattle.model.proofs.Exactness.{named-missing, named-observed}
 use Rattle.model.proofs.Encoding.{AllTwoByte, encoded-accepted}
@@ -47,15 +46,7 @@ module _ {f g : ℕ → ℕ} {short long : List Event} (by : Replacement f g sho
         by .location-there p-store,
         by .location-there q-store,
       )
-      (by-tests (eqb p q) (eqb (line (traceOf short) p) (line (traceOf short) q)) _ _ _)
-    where
-      by-tests :
-          (equal one-line : Bool) (t : ℕ) (ws vs : List Places)
-          → bareFault (equal gives contradiction else one-line gives impossible else flush t ws)
-          ≡ bareFault (equal gives contradiction else one-line gives impossible else flush t vs)
-      by-tests true one-line t ws vs = refl
-      by-tests false true t ws vs = refl
-      by-tests false false t ws vs = refl
+      (by-kind bareFault bareFault refl refl (eqb p q) (eqb (line (traceOf short) p) (line (traceOf short) q)) _ _ refl)
 
   module _ (n : ℕ) (longer : length long ≡ length short + n) where
     -- "Events after begin"
