@@ -73,7 +73,7 @@ landed-early ev n accepted (suc m) x within =
     by-landing (inr elsewhere) earlier = rw elsewhere earlier
     by-landing (inl lands) earlier =
         let it = committed-store ev n m accepted within (record { test = parts (commit? ev m) _ lands .0 }) in
-        let some : committed ev m ≢ 0 = store-not-0 ev n accepted (it .store) in
+        let some : committed ev m ≢ 0 = store-not-0 ev n accepted (omega arith) (it .store) in
         rw lands ((omega arith, omega (arith, it .early)), earlier)
 
 -- store p heads the chain of location x, by a commit in stretch j, and the chains are else as they were before event n
@@ -135,7 +135,7 @@ module _ (ev : ℕ → Event) (n : ℕ) (w : World) (sim : Sim ev n w) (passes :
 
       own-or-other : (x ≡ y) ⊎ (x ≢ y) → Chain ev (suc n) y tables′ l′
       own-or-other (inl own) =
-          let some = store-not-0 ev (suc n) accepted (taken-store .store) in
+          let some = store-not-0 ev (suc n) accepted (omega arith) (taken-store .store) in
           record {
             links = rw (← own, landed-here ev n is-commit, it .head-is) (refl, rw (it .link-is) (stays x x-small));
             stretch-is =

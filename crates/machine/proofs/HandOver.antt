@@ -70,7 +70,7 @@ module _ (ev : ℕ → Event) (n : ℕ) (w : World) (sim : Sim ev n w) where
       by-source : (s ≡ 0) ⊎ (s ≢ 0) → (s < n) ⊎ (n ≤ s) → signalledW w s ≡ signalled ev n
       by-source (inl none) either =
           let no-signal : signal? ev s ≡ false =
-          rw none (one-kind ev 0 1 13 (omega arith) (begins ev n (sim .limits .accepted)))
+          rw none (one-kind ev 0 1 13 (omega arith) (begins ev n (sim .limits .accepted) (sim .limits .begun)))
           in
           rw (no-signal, eq-eqb s 0 none) refl
       by-source (inr some) (inl early) =

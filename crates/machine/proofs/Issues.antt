@@ -80,7 +80,7 @@ module _ (ev : ℕ → Event) (n : ℕ) (w : World) (sim : Sim ev n w) (passes :
     where
       by-count : (issued ev n t ≡ 0) ⊎ (issued ev n t ≢ 0) → newest < n
       by-count (inl none) =
-          rw (store-at-none ev n j t (issued ev n t - 1) (omega arith)) (sim .limits .accepted .some-record)
+          rw (store-at-none ev n j t (issued ev n t - 1) (omega arith)) (sim .limits .begun)
       by-count (inr some) = store-at-is ev n j t (issued ev n t - 1) (omega arith) .early
 
   -- a store that is the newest is of the thread and stretch, just before n
@@ -94,7 +94,7 @@ module _ (ev : ℕ → Event) (n : ℕ) (w : World) (sim : Sim ev n w) (passes :
       by-count : (issued ev n t ≡ 0) ⊎ (issued ev n t ≢ 0) → IsNewest p
       by-count (inl none) =
           absurd
-          (store-not-0 ev n (sim .limits .accepted) is-store
+          (store-not-0 ev n (sim .limits .accepted) (sim .limits .begun) is-store
           (is-newest ∙ store-at-none ev n j t (issued ev n t - 1) (omega arith)))
       by-count (inr some) =
           record { at-place = rw is-newest (store-at-is ev n j t (issued ev n t - 1) (omega arith)); some = some }
@@ -120,13 +120,15 @@ module _ (ev : ℕ → Event) (n : ℕ) (w : World) (sim : Sim ev n w) (passes :
           rw (store-at-none ev n j t i (omega arith)) (store-at-here ev n j t i store refl refl (sym free))
       by-place (inr taken) =
           let is-store = store-at-is ev n j t i (omega arith) .store in
-          rw (ne-eqb found 0 (store-not-0 ev n (sim .limits .accepted) is-store))
+          rw (ne-eqb found 0 (store-not-0 ev n (sim .limits .accepted) (sim .limits .begun) is-store))
           (store-at-else ev n j t i (λ is-it. taken (sym (is-it .at-i))))
 
   -- ---- the rows, where the store's is written with what its thread has seen, the event included
 
   store-some : (p : ℕ) → Issue ev p → 1 ≤ p
-  store-some p is-store = let some : p ≢ 0 = store-not-0 ev n (sim .limits .accepted) is-store in omega arith
+  store-some p is-store =
+      let some : p ≢ 0 = store-not-0 ev n (sim .limits .accepted) (sim .limits .begun) is-store in
+      omega arith
 
   module _ (seen-by : ℕ → ℕ) (seen-is : (u : ℕ) → u < 8 → seen-by u ≡ seen ev (suc n) t u) (l′ : List ℕ)
       (it : Stored n newest t (suc (issued ev n t)) x j seen-by l l′) where

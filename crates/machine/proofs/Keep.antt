@@ -55,8 +55,9 @@ module _ (ev : ℕ → Event) (n : ℕ) where
       let accepted = accepted-next ev n (limits .accepted) passes in
       record {
         accepted = accepted;
-        few-threads = few-threads ev (suc n) accepted;
-        few-locations = few-locations ev (suc n) accepted;
+        begun = omega arith;
+        few-threads = few-threads ev (suc n) accepted (omega arith);
+        few-locations = few-locations ev (suc n) accepted (omega arith);
         few-events = omega (arith, event-bound ev (suc n) accepted n (omega arith));
         few-crashes = few-crashes ev (suc n) accepted (suc n) (omega arith);
       }
@@ -265,7 +266,7 @@ module _ (ev : ℕ → Event) (n : ℕ) where
         store-row : (p : ℕ) → p < suc n → Issue ev p → (p ≡ n) ⊎ (p ≢ n) → StoreRow ev l′ p
         store-row p below store (inl is-n) = rw is-n (stores (rw is-n at store))
         store-row p below store (inr differs) =
-            let some : p ≢ 0 = store-not-0 ev n (limits .accepted) store in
+            let some : p ≢ 0 = store-not-0 ev n (limits .accepted) (limits .begun) store in
             row-same p (λ k low. earlier p k (omega arith) (omega arith) (omega arith))
             (rows .stores p (omega arith) store)
 
@@ -277,7 +278,7 @@ module _ (ev : ℕ → Event) (n : ℕ) where
         signal-row : (s : ℕ) → s < suc n → Signal ev s → (s ≡ n) ⊎ (s ≢ n) → SignalRow ev l′ s
         signal-row s below signal (inl is-n) = rw is-n (signals (rw is-n at signal))
         signal-row s below signal (inr differs) =
-            let some : s ≢ 0 = signal-not-0 ev n (limits .accepted) signal in
+            let some : s ≢ 0 = signal-not-0 ev n (limits .accepted) (limits .begun) signal in
             signal-same s (λ k low. earlier s k (omega arith) (omega arith) low)
             (rows .signals s (omega arith) signal)
 
@@ -296,7 +297,7 @@ module _ (ev : ℕ → Event) (n : ℕ) where
             (p ≡ n) ⊎ (p ≢ n) → getRow l′ p 12 ≡ storeAt ev (suc n) (stretch ev p) (thread ev p) (suc (place ev p))
         by-equality (inl is-n) = false-true (sym no-issue ∙ (rw is-n at store) .test)
         by-equality (inr differs) =
-            let some : p ≢ 0 = store-not-0 ev n (limits .accepted) store in
+            let some : p ≢ 0 = store-not-0 ev n (limits .accepted) (limits .begun) store in
             earlier p (omega arith) (omega arith) ∙ links p (omega arith) store
             ∙ sym
             (store-at-away ev n (stretch ev p) (thread ev p) (suc (place ev p))

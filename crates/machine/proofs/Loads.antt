@@ -89,7 +89,7 @@ module _ (ev : ℕ → Event) (n : ℕ) (w : World) (sim : Sim ev n w) (passes :
   elsewhere :
       waiting ev n ≡ 0 → current ev n ≡ 0 → Issue ev s → s < n → stretch ev s ≡ stretch ev n → ⊥
   elsewhere none-waits none-current store early in-stretch =
-      let some = store-not-0 ev n (sim .limits .accepted) store in
+      let some = store-not-0 ev n (sim .limits .accepted) (sim .limits .begun) store in
       omega (arith, crossing-source ev n fits none-waits none-current some .earlier)
 
   -- ---- what threads have seen, after a load that crosses

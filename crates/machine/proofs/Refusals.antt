@@ -170,7 +170,7 @@ ltb-not a b = by-test (leb b a) refl
 
 module _ (ev : ℕ → Event) (n : ℕ) (w : World) (sim : Sim ev n w) where
   abbrev begun : 0 < n
-  begun = sim .limits .accepted .some-record
+  begun = sim .limits .begun
 
   -- the row of an event past the last is behind the work area's rows
   late-is : leb 32768 (w .state .row) ≡ ltb 2048 n

@@ -58,7 +58,7 @@ none-oldest ev n w sim t = by-order (less? (done ev n t) (issued ev n t))
         → eqb (storeAt ev n (stretch ev n) t (done ev n t)) 0 ≡ eqb (issued ev n t) (done ev n t)
     by-order (inl waits) =
         let is-store = store-at-is ev n (stretch ev n) t (done ev n t) waits .store in
-        ne-eqb _ 0 (store-not-0 ev n accepted is-store)
+        ne-eqb _ 0 (store-not-0 ev n accepted (sim .limits .begun) is-store)
         ∙ sym (ne-eqb (issued ev n t) (done ev n t) (λ same. omega arith))
     by-order (inr none) =
         let below = commits-below-issues ev n accepted n (stretch ev n) t (omega arith) in
@@ -104,7 +104,7 @@ module _ (ev : ℕ → Event) (n : ℕ) (w : World) (sim : Sim ev n w) where
 
   module _ (p : ℕ) (newest : newestAt ev n x t ≡ p) where
     none-waits : (p ≢ 0 → Waits ev n p → ⊥) → waiting ev n ≡ 0
-    none-waits = waiting-none ev n n p (sim .limits .accepted) newest
+    none-waits = waiting-none ev n p (sim .limits .accepted) newest
 
     -- no store waits in an empty queue
     none-queued : issued ev n t ≤ commitsBefore ev n → Waits ev n p → ⊥
@@ -129,7 +129,7 @@ module _ (ev : ℕ → Event) (n : ℕ) (w : World) (sim : Sim ev n w) where
           )
 
       some-store : o ≢ 0
-      some-store = store-not-0 ev n (sim .limits .accepted) (oldest .store)
+      some-store = store-not-0 ev n (sim .limits .accepted) (sim .limits .begun) (oldest .store)
 
       all-later : o ≤ p → Waits ev n p
       all-later later = record {

@@ -35,7 +35,7 @@ standing-by-tests false false false = refl
 
 module _ (ev : ℕ → Event) (n : ℕ) (w : World) (sim : Sim ev n w) where
   abbrev begun : 0 < n
-  begun = sim .limits .accepted .some-record
+  begun = sim .limits .begun
 
   pub store-is : (p : ℕ) → storeW (w .work) (n - 1) p ≡ store? ev n p
   unfolding storeW
@@ -44,7 +44,7 @@ module _ (ev : ℕ → Event) (n : ℕ) (w : World) (sim : Sim ev n w) where
       by-number :
           (p ≡ 0) ⊎ (p ≢ 0) → (p < n) ⊎ (n ≤ p) → Issue ev p ⊎ (issue? ev p ≡ false)
           → storeW (w .work) (n - 1) p ≡ store? ev n p
-      by-number (inl is-0) order (inl store) = absurd (store-not-0 ev n (sim .limits .accepted) store is-0)
+      by-number (inl is-0) order (inl store) = absurd (store-not-0 ev n (sim .limits .accepted) begun store is-0)
       by-number (inl is-0) order (inr no-issue) =
           rw (eq-eqb p 0 is-0, second-fails (ltb p n) (issue? ev p) no-issue) refl
       by-number (inr some) (inr later) role =

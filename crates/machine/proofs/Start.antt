@@ -32,13 +32,13 @@ use Rattle.machine.proofs.Keep.{spares}
 
 module _ (ev : ℕ → Event) (passes : refusal ev 0 ≡ 0) where
   accepted : Accepted ev 1
-  accepted = record { some-record = omega arith; passes = only-first }
+  accepted = record { passes = only-first }
     where
       only-first : (e : ℕ) → e < 1 → refusal ev e ≡ 0
       only-first e inside = let is-0 : e ≡ 0 = omega arith in rw is-0 passes
 
   kind-is : kind ev 0 ≡ 1
-  kind-is = eqb-true (kind ev 0) 1 (begins ev 1 accepted)
+  kind-is = eqb-true (kind ev 0) 1 (begins ev 1 accepted (omega arith))
 
   no-crash : crash? ev 0 ≡ false
   no-crash = rw kind-is refl
@@ -95,7 +95,7 @@ module _ (ev : ℕ → Event) (passes : refusal ev 0 ≡ 0) where
       }
 
   no-store : (p : ℕ) → p < 1 → Issue ev p → ⊥
-  no-store p early store = store-not-0 ev 1 accepted store (omega arith)
+  no-store p early store = store-not-0 ev 1 accepted (omega arith) store (omega arith)
 
   -- ---- over cleared tables
 
@@ -134,8 +134,9 @@ module _ (ev : ℕ → Event) (passes : refusal ev 0 ≡ 0) where
       numbers = record { row-is = omega arith; stretch-is = sym stretch-1; threads-is = refl; locations-is = refl };
       limits = record {
         accepted = accepted;
-        few-threads = few-threads ev 1 accepted;
-        few-locations = few-locations ev 1 accepted;
+        begun = omega arith;
+        few-threads = few-threads ev 1 accepted (omega arith);
+        few-locations = few-locations ev 1 accepted (omega arith);
         few-events = omega arith;
         few-crashes = omega (arith, stretch-1);
       };
@@ -150,7 +151,7 @@ module _ (ev : ℕ → Event) (passes : refusal ev 0 ≡ 0) where
         room = room;
         stores = λ p early store. absurd (no-store p early store);
         others = λ p from-one early _. absurd (omega arith);
-        signals = λ s early signal. absurd (signal-not-0 ev 1 accepted signal (omega arith));
+        signals = λ s early signal. absurd (signal-not-0 ev 1 accepted (omega arith) signal (omega arith));
         no-signals = λ p from-one early _. absurd (omega arith);
       };
       links = λ p early store. absurd (no-store p early store);

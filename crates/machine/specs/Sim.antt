@@ -38,9 +38,10 @@ module _ (ev : ℕ → Event) where
     pub threads-is : st .threads ≡ threads ev
     pub locations-is : st .locations ≡ locations ev
 
-  -- the first n events are an accepted trace, and so these limits hold
+  -- the first n events are an accepted trace that has begun, and so these limits hold
   pub record Limits (n : ℕ) : Type 0 where
     pub accepted : Accepted ev n
+    pub begun : 0 < n
     pub few-threads : threads ev ≤ 8
     pub few-locations : locations ev ≤ 256
     pub few-events : n ≤ 2049

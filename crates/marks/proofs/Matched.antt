@@ -102,8 +102,7 @@ module _ (ev : ℕ → Event) where
         unbroken = none;
         told = λ never. false-true never;
         tells = λ hit.
-            let some-event = marked-over ev n (hit .p) (hit .in-f) .early in
-            let part = prefix ev (suc n) n accepted (omega arith) (omega arith) in
+            let part = prefix ev (suc n) n accepted (omega arith) in
             sym (so-far .no-pair) ∙ hit-bad n part hit;
       }
 
@@ -161,7 +160,7 @@ module _ (ev : ℕ → Event) where
       not-begin passes is-0 =
           let hit = end .told passes in
           let it = marked-over ev (suc n) (hit .p) (sym (same-f (hit .p)) ∙ hit .in-f) in
-          store-not-0 ev (suc n) accepted (it .store) (omega (arith, it .early))
+          store-not-0 ev (suc n) accepted (omega arith) (it .store) (omega (arith, it .early))
 
       unbroken-event : breaks ≡ false → Unbroken ev (suc n) after
       unbroken-event holds = record {
@@ -247,9 +246,9 @@ module _ (ev : ℕ → Event) where
   -- ---- the start
 
   -- no load counts as of the begin of an accepted trace
-  none-at-begin : (N : ℕ) → Accepted ev N → counting ev 0 ≡ []
+  none-at-begin : Accepted ev 1 → counting ev 0 ≡ []
   unfolding counting counted
-  none-at-begin N accepted = rw (begin-no-load ev 0 (begins ev N accepted))
+  none-at-begin accepted = rw (begin-no-load ev 0 (begins ev 1 accepted (omega arith)))
 
   pub match-start : Accepted ev 1 → MarksMatch ev 1 (marksOf (replicate 648 0) (replicate 2048 0))
   unfolding any
@@ -264,7 +263,7 @@ module _ (ev : ℕ → Event) where
       cleared = marksOf (replicate 648 0) (replicate 2048 0)
 
       none : counting ev 0 ≡ []
-      none = none-at-begin 1 accepted
+      none = none-at-begin accepted
 
   -- ---- the ends of an accepted trace of N events
 

@@ -66,7 +66,7 @@ module _ (ev : ℕ → Event) where
   fits N n p accepted within over = record {
     store = over .store;
     early = over .early;
-    from-1 = positive p (store-not-0 ev N accepted (over .store));
+    from-1 = positive p (store-not-0 ev N accepted (omega (arith, over .early)) (over .store));
     to-2047 = omega (arith, event-bound ev N accepted (suc p) (omega (arith, not-last)));
     stretch-from-1 = stretch-some ev p;
     stretch-to-7 = omega (arith, over .over, few-crashes ev N accepted n within);

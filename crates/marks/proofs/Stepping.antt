@@ -80,8 +80,7 @@ module _ (ev : ℕ → Event) where
       by-order q t seen (inr covered) = covered
       by-order q t seen (inl above) =
           let observed = observed→ ev n q seen in
-          let some-record : 0 < n = omega (arith, observed .1 .inside) in
-          let part = prefix ev (suc n) n accepted some-record (omega arith) in
+          let part = prefix ev (suc n) n accepted (omega arith) in
           absurd (omega (arith, clock-in-closure ev n part q t (closure ev n (stretch ev q) t) observed above))
 
   max-regroup : (a b c : ℕ) → max (max a b) c ≡ max a (max b c)

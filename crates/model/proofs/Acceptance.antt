@@ -43,9 +43,8 @@ module _ (ev : ℕ → Event) where
   -- ---- what an event of an accepted trace has passed
 
   -- the first events of an accepted trace are an accepted trace
-  pub prefix : (N n : ℕ) → Accepted ev N → 0 < n → n ≤ N → Accepted ev n
-  prefix N n accepted some within =
-      record { some-record = some; passes = λ e inside. accepted .passes e (omega arith) }
+  pub prefix : (N n : ℕ) → Accepted ev N → n ≤ N → Accepted ev n
+  prefix N n accepted within = record { passes = λ e inside. accepted .passes e (omega arith) }
 
   -- the tests that it failed, by the numbers of the refusals, in the order of `rules`
   pub record Passed (n : ℕ) : Type 0 where
@@ -89,21 +88,24 @@ module _ (ev : ℕ → Event) where
               no-18 = no-18;
             }
 
-    -- event 0 is a begin
-    pub begins : is ev 1 0 ≡ true
-    begins = not-without (eqb 0 0) (is ev 1 0) (passed 0 (accepted .some-record) .no-1) refl
+    -- event 0, if there is any event, is a begin
+    module _ (some-event : 0 < N) where
+      pub begins : is ev 1 0 ≡ true
+      begins = not-without (eqb 0 0) (is ev 1 0) (passed 0 some-event .no-1) refl
 
-    -- so it is no store and no commit: 0, which a search gives that finds none, names neither
-    pub first-is-no-store-no-commit : (issue? ev 0 ≡ false) × (commit? ev 0 ≡ false)
-    first-is-no-store-no-commit =
-        (neither ev 0 1 2 12 (omega arith) (omega arith) begins, neither ev 0 1 3 12 (omega arith) (omega arith) begins)
+      -- so it is no store and no commit: 0, which a search gives that finds none, names neither
+      pub first-is-no-store-no-commit : (issue? ev 0 ≡ false) × (commit? ev 0 ≡ false)
+      first-is-no-store-no-commit = (
+        neither ev 0 1 2 12 (omega arith) (omega arith) begins,
+        neither ev 0 1 3 12 (omega arith) (omega arith) begins,
+      )
 
-    pub store-not-0 : {p : ℕ} → Issue ev p → p ≢ 0
-    store-not-0 store is-0 = false-true (sym (first-is-no-store-no-commit .0) ∙ rw is-0 at (store .test))
+      pub store-not-0 : {p : ℕ} → Issue ev p → p ≢ 0
+      store-not-0 store is-0 = false-true (sym (first-is-no-store-no-commit .0) ∙ rw is-0 at (store .test))
 
-    pub signal-not-0 : {s : ℕ} → Signal ev s → s ≢ 0
-    signal-not-0 signal is-0 =
-        false-true (sym (one-kind ev 0 1 13 (omega arith) begins) ∙ rw is-0 at (signal .test))
+      pub signal-not-0 : {s : ℕ} → Signal ev s → s ≢ 0
+      signal-not-0 signal is-0 =
+          false-true (sym (one-kind ev 0 1 13 (omega arith) begins) ∙ rw is-0 at (signal .test))
 
     -- "event 2,049" is turned away
     pub event-bound : (n : ℕ) → n < N → n ≤ 2048
@@ -310,7 +312,9 @@ module _ (ev : ℕ → Event) where
         by-case (from-past from) = omega (arith, earlier-stretch ev (source ev l) l (from .earlier))
 
         not-first : l ≢ 0
-        not-first is-0 = false-true (sym (begin-no-load ev 0 (begins N accepted)) ∙ rw is-0 at (loads .test))
+        not-first is-0 =
+            let begun = begins N accepted (omega arith) in
+            false-true (sym (begin-no-load ev 0 begun) ∙ rw is-0 at (loads .test))
 
         by-source : (source ev l ≡ 0) ⊎ (source ev l ≢ 0) → source ev l < l
         by-source (inl none) = let later = not-first in omega arith

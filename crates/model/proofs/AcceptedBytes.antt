@@ -115,7 +115,7 @@ module _ (bytes : List ℕ) (all-bytes : AllBytes bytes) where
     -- ITS EVENTS, ENCODED, ARE ITS BYTES
     pub accepted-encoded : bytes ≡ encode (firstEvents bytes N)
     accepted-encoded =
-        sym (take-all (start bytes N) bytes (omega (arith, ended→ bytes N (accepted .ends) .at-end)))
+        sym (take-all (start bytes N) bytes (omega (arith, ended→ bytes N (accepted .ends))))
         ∙ front-encoded N all-passed
 
     pub accepted-two-byte : AllTwoByte (firstEvents bytes N)

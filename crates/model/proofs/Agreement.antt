@@ -259,10 +259,8 @@ module _ {N : ℕ} {ev other : ℕ → Event} (agree : Agree N ev other) where
       )
 
   pub accepted-same : Accepted ev N → Accepted other N
-  accepted-same accepted = record {
-    some-record = accepted .some-record;
-    passes = λ n inside. sym (refusal-same n inside) ∙ accepted .passes n inside;
-  }
+  accepted-same accepted =
+      record { passes = λ n inside. sym (refusal-same n inside) ∙ accepted .passes n inside }
 
   -- ---- happens-before
 

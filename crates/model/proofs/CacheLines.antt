@@ -2,6 +2,7 @@
 -- committed too, and earlier, in the same stretch. In a memory whose lines keep commit order it is then there wherever
 -- observed is; but a counted load observes the one, and a counted load forbids the other.
 use Prim.Native.Nat.{ℕ}
+use native.Mathlib.Omega.{arith}
 use mathlib.Core.Path.{_≡_, sym, _∙_}
 use mathlib.Core.Bool.{Bool}
 use mathlib.Core.Logic.{_≢_}
@@ -23,7 +24,8 @@ module _ (ev : ℕ → Event) (N : ℕ) where
     commit-not-0 : (p : ℕ) → Committed ev N p → commitOf ev N p ≢ 0
     commit-not-0 p committed is-0 =
         false-true
-        (sym (first-is-no-store-no-commit ev N accepted .1) ∙ rw is-0 at (commit-of ev N p committed .commits-it .test))
+        (sym (first-is-no-store-no-commit ev N accepted (omega (arith, commit-of ev N p committed .inside)) .1)
+        ∙ rw is-0 at (commit-of ev N p committed .commits-it .test))
 
     -- WHAT HAPPENS BEFORE A COMMITTED STORE IS COMMITTED FIRST, IN THEIR STRETCH
     pub committed-first : (p q : ℕ) → Before ev p q → Committed ev N q → CommittedFirst ev N p q

@@ -67,7 +67,7 @@ module _ (ev : ℕ → Event) where
       new-head before lands =
           let commits : Commit ev n = record { test = parts (commit? ev n) _ lands .0 } in
           let store = effect ev N n accepted (omega arith) commits .own .store in
-          not-its-head (committed ev n) (landed ev m x) (store-not-0 ev N accepted store)
+          not-its-head (committed ev n) (landed ev m x) (store-not-0 ev N accepted (omega arith) store)
           (landed-once ev N n accepted (omega arith) commits m x before)
 
       by-event :
@@ -135,7 +135,7 @@ module _ (ev : ℕ → Event) where
         not-elsewhere : landsAt ev x n ≡ false → Commit ev n → committed ev n ≢ s
         not-elsewhere fails commits is-s =
             let store = effect ev N n accepted within commits .own .store in
-            let some-store : s ≢ 0 = store-not-0 ev N accepted (rw is-s at store) in
+            let some-store : s ≢ 0 = store-not-0 ev N accepted (omega arith) (rw is-s at store) in
             let at-x : location ev (committed ev n) ≡ x = rw is-s (s-at-x some-store) in
             false-true (sym fails ∙ both _ _ (commits .test) (eq-eqb _ _ at-x))
 
@@ -226,13 +226,13 @@ module _ (ev : ℕ → Event) where
         by-equality : (d ≡ 0) ⊎ (d ≢ 0) → ⊥
         by-equality (inl is-0) =
             let none-before = last-most n (commitsHere ev n) c inside here in
-            store-not-0 ev N accepted (it .own .store) (omega (arith, it .early))
+            store-not-0 ev N accepted (omega arith) (it .own .store) (omega (arith, it .early))
         by-equality (inr some) =
             let found = last-is n (commitsHere ev n) some in
             let of-stretch = parts (commit? ev d && eqb (stretch ev d) (stretch ev n)) _ (found .1) in
             let d-commits : Commit ev d = record { test = parts (commit? ev d) _ (of-stretch .0) .0 } in
             let d-inside : d < N = omega (arith, found .0) in
-            store-not-0 ev N accepted (effect ev N d accepted d-inside d-commits .own .store) none
+            store-not-0 ev N accepted (omega arith) (effect ev N d accepted d-inside d-commits .own .store) none
 
     module _ (n : ℕ) (inside : n < N) (counts : counted ev n ≡ true) where
       -- a store of the chain of the load's location is of an earlier stretch
@@ -290,7 +290,7 @@ module _ (ev : ℕ → Event) where
               source-number = is-commit-of ev n (source ev n) d (effect-commit ev n d (source ev n) before commits it)
 
               by-case : Newer ev n p → ⊥
-              by-case (inl none) = store-not-0 ev N accepted (it .own .store) none
+              by-case (inl none) = store-not-0 ev N accepted (omega arith) (it .own .store) none
               by-case (inr (inl later)) =
                   omega (arith, it .own .in-stretch, commit .in-stretch, stretch-mono ev c d after)
               by-case (inr (inr committed-later)) = omega (arith, source-number, committed-later .1)

@@ -223,7 +223,9 @@ module _ (ev : ℕ → Event) where
         load-settled p n l m (rw from-p at from) same-stretch by-thread in-stretch early within settles
       where
         from : From ev l (source ev l)
-        from = source-from ev N accepted l (omega arith) loads (rw from-p (store-not-0 ev N accepted store))
+        from =
+            source-from ev N accepted l (omega arith) loads
+            (rw from-p (store-not-0 ev N accepted (omega arith) store))
     settled (handed {p} s w signal in-stretch before waits from by-thread wait-in-stretch after early) m within inside
         settles =
         let s-inside : s < N = omega arith in

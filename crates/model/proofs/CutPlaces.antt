@@ -48,7 +48,7 @@ module _ (ev : ℕ → Event) (N : ℕ) (accepted : Accepted ev N) where
             is-finished = earlier;
             at-most-7 = omega (arith, few-crashes ev N accepted N (omega arith));
             of-begin = omega (arith, it .by-t, thread-below ev N accepted (it .p) (it .early) has);
-            at-most-8 = few-threads ev N accepted;
+            at-most-8 = few-threads ev N accepted (omega (arith, it .early));
           }
 
   -- THE REST IS 0: where there is no such place, a choice that explains has no count

@@ -72,7 +72,7 @@ module _ (ev : ℕ → Event) (N : ℕ) (accepted : Accepted ev N) {load p q : �
 
   impossible-is : Before ev p q → line ev p ≡ line ev q → ImpossibleClaims ev (suc load) p q
   impossible-is before one-line =
-      let up-to-load = prefix ev N (suc load) accepted (omega arith) (it .inside) in
+      let up-to-load = prefix ev N (suc load) accepted (it .inside) in
       let first = committed-first ev (suc load) up-to-load p q before (observed-settled .committed) in
       record {
         differ = differs before;

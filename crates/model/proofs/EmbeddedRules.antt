@@ -15,7 +15,7 @@ use Rattle.model.specs.Rules.{beginFits, rules, refusal, Accepted}
 use Rattle.model.specs.Embedding.{Naming, Embedding, Apart, SameEvent, SameBegin}
 use Rattle.model.proofs.Acceptance.{event-bound}
 use Rattle.model.proofs.Ranges.{commit-has-thread, drained-has-thread, skip-on-has-thread, skip-off-has-thread}
-use Rattle.model.proofs.Numberings.{number-zero, kept-lt, kept-le, number-below, number-eqb-zero, number-ltb}
+use Rattle.model.proofs.Numberings.{number-zero, kept-le, number-below, number-eqb-zero, number-ltb}
 use Rattle.model.proofs.EmbeddedTrace.{by-role, stretch-kept, stretch-store, issues-at, commits-before-at}
 use Rattle.model.proofs.EmbeddedTrace.{skipping-kept}
 use Rattle.model.proofs.EmbeddedMachine.{sourceFits-at}
@@ -147,10 +147,7 @@ module _
   pub accepted-part :
       ((e : ℕ) → SameEvent via (via .loads .number e) e) → (N : ℕ) → Accepted whole N
       → Accepted part (via .loads .kept N)
-  accepted-part one-event N accepted = record {
-    some-record = omega (arith, kept-lt (via .loads) 0 N (via .loads .first-stays) (accepted .some-record));
-    passes = passes;
-  }
+  accepted-part one-event N accepted = record { passes = passes }
     where
       passes : (e : ℕ) → e < via .loads .kept N → refusal part e ≡ 0
       passes e inside =

@@ -147,20 +147,20 @@ module _ (xs : List Event) (small : AllTwoByte xs) where
   pub encoded-accepted : Accepted (traceOf xs) (length xs) → AcceptedWith s (length xs)
   encoded-accepted is-accepted = record {
     all-pass = λ e l. passing-record e l (is-accepted .passes e l);
-    ends = ends-there s (length xs) (is-accepted .some-record) ends-behind;
+    ends = ends-there s (length xs) ends-behind;
   }
 
-  accepted-there : 0 < length xs → some (length xs) (turned? xs) ≡ false → AcceptedWith s (length xs)
-  accepted-there some-event none =
-      encoded-accepted (record { some-record = some-event; passes = λ e l. passes e (test (turned? xs e)) l })
+  accepted-there : some (length xs) (turned? xs) ≡ false → AcceptedWith s (length xs)
+  accepted-there none =
+      encoded-accepted (record { passes = λ e l. passes e (test (turned? xs e)) l })
     where
       passes : (e : ℕ) → (turned? xs e ≡ true) ⊎ (turned? xs e ≡ false) → e < length xs → refusal (traceOf xs) e ≡ 0
       passes e (inl turned) l = false-true (sym none ∙ →some (length xs) (turned? xs) e l turned)
       passes e (inr fails) l = eqb-true _ _ (not-false _ fails)
 
-  pub same-reading : 0 < length xs → readingOf s ≡ readingEvents xs
+  pub same-reading : readingOf s ≡ readingEvents xs
   unfolding readingEvents
-  same-reading some-event = by-search (test (some (length xs) (turned? xs)))
+  same-reading = by-search (test (some (length xs) (turned? xs)))
     where
       by-search :
           (some (length xs) (turned? xs) ≡ true) ⊎ (some (length xs) (turned? xs) ≡ false)
@@ -168,7 +168,7 @@ module _ (xs : List Event) (small : AllTwoByte xs) where
       by-search (inl found) =
           let e = first (length xs) (turned? xs) in
           rw found (turned-away-exactly s _ e .1 (turned-away-there e (first-is (length xs) (turned? xs) found)))
-      by-search (inr none) = rw none (accepted-exactly s (length xs) .1 (accepted-there some-event none))
+      by-search (inr none) = rw none (accepted-exactly s (length xs) .1 (accepted-there none))
 
   -- ---- the answer
 

@@ -1,25 +1,26 @@
 -- Demand 3: the computed ruling of every accepted trace is exact, and a trace has one exact ruling. If there is no
 -- pair, the closure is the least choice that explains; if there is one, no choice explains, and the searches find the
 -- first event with a pair and the smallest pair there.
--- In order: a pair or a choice; what the searches find; `exact`, `decided`; `unique`; `broken-stays`: more events mend
--- nothing; `named-load-counts`: the load that a broken ruling names is a counted one; `named-missing`,
--- `named-observed`: what it names are stores.
+-- In order: a pair or a choice, which of no events is 0 everywhere (`nothing-least`, `only-nothing`); what the searches
+-- find; `exact`, `decided`; `unique`; `broken-stays`: more events mend nothing; `named-load-counts`: the load that a
+-- broken ruling names is a counted one; `named-missing`, `named-observed`: what it names are stores.
 use Prim.Native.Nat.{ℕ, zero, suc, _≤_, _<_}
 use native.Mathlib.Omega.{arith}
 use mathlib.Core.Path.{_≡_, sym, _∙_, ap, fun-ext}
 use mathlib.Core.Bool.{true, false}
 use mathlib.Core.Logic.{_⊎_, inl, inr}
 use mathlib.Core.List.{[]}
+use lib.Dec.{ltb}
 use borrow.Author.Tests.{lt-ltb, le-ltb}
 use Rattle.record.specs.declared.events.Event.{Event}
-use Rattle.model.specs.Trace.{commit?, Issue, stretch}
-use Rattle.model.specs.Search.{any}
+use Rattle.model.specs.Trace.{commit?, Issue, stretch, count}
+use Rattle.model.specs.Search.{some, any}
 use Rattle.model.specs.Machine.{counted, counting, counts}
 use Rattle.model.specs.Rules.{Accepted}
-use Rattle.model.specs.Choice.{Ruling, robust, broken, finished, Counted, ExplainsLoad, Robust, Least}
-use Rattle.model.specs.Choice.{Pair, Broken, Exact}
+use Rattle.model.specs.Choice.{Choice, Ruling, robust, broken, finished, Counted, ExplainsLoad, Explains}
+use Rattle.model.specs.Choice.{Robust, Least, Pair, Broken, Exact}
 use Rattle.model.specs.Verdict.{pair?, missing?, bad?, closure, loadOf, missingOf, observedOf, rulingOf}
-use Rattle.model.proofs.Searching.{false-true, test, less?, →some, First, first-is}
+use Rattle.model.proofs.Searching.{false-true, test, either-way, less?, →some, First, first-is}
 use Rattle.model.proofs.Counting.{stretch-mono, count-mono}
 use Rattle.model.proofs.Acceptance.{prefix}
 use Rattle.model.proofs.CountedLoads.{counted-later, counted-step}
@@ -40,16 +41,27 @@ module _ (ev : ℕ → Event) where
       least = closure-least ev N accepted;
     }
 
-  -- no events, no loads
-  robust-at-0 : Robust ev 0
-  robust-at-0 = (
-    λ j t. 0,
-    record {
+  -- no events, no loads: the least choice is 0 everywhere
+  pub nothing-least : Least ev 0 (λ j t. 0)
+  nothing-least = record {
+    explains = record {
       fits = λ j t. omega arith;
       closed = λ p q before inside. absurd (omega arith);
       loads = λ l counts. absurd (omega (arith, counts .inside));
-    },
-  )
+    };
+    least = λ d explains j t. omega arith;
+  }
+
+  -- and no other choice fits
+  finished-at-0 : (j t : ℕ) → finished ev 0 j t ≡ 0
+  unfolding finished count
+  finished-at-0 j t = either-way (ltb j (stretch ev 0)) 0
+
+  pub only-nothing : (c : Choice) → Explains ev 0 c → (j t : ℕ) → c j t ≡ 0
+  only-nothing c explains j t = omega (arith, explains .fits j t, finished-at-0 j t)
+
+  robust-at-0 : Robust ev 0
+  robust-at-0 = (λ j t. 0, nothing-least .explains)
 
   -- each part of an accepted trace has a pair or a choice that explains it
   abbrev HasPair : ℕ → Type 0
@@ -60,7 +72,7 @@ module _ (ev : ℕ → Event) where
   pair-or-choice N (suc n) accepted within = by-test (test (bad? ev (suc n)))
     where
       part : Accepted ev (suc n)
-      part = prefix ev N (suc n) accepted (omega arith) within
+      part = prefix ev N (suc n) accepted within
 
       by-test : (bad? ev (suc n) ≡ true) ⊎ (bad? ev (suc n) ≡ false) → HasPair (suc n) ⊎ Robust ev (suc n)
       by-test (inl bad) = inl (bad→ ev (suc n) part bad)
@@ -91,10 +103,10 @@ module _ (ev : ℕ → Event) where
   abbrev FirstBad : ℕ → ℕ → Type 0
   FirstBad N l = First N (λ l. bad? ev (suc l)) l
 
-  first-bad : (N : ℕ) → Accepted ev N → bad? ev N ≡ true → FirstBad N (loadOf ev N)
-  unfolding loadOf
-  first-bad zero accepted bad = absurd (omega (arith, accepted .some-record))
-  first-bad (suc N) accepted bad =
+  first-bad : (N : ℕ) → bad? ev N ≡ true → FirstBad N (loadOf ev N)
+  unfolding loadOf bad? some
+  first-bad zero bad = false-true bad
+  first-bad (suc N) bad =
       first-is (suc N) (λ l. bad? ev (suc l)) (→some (suc N) (λ l. bad? ev (suc l)) N (omega arith) bad)
 
   module _ (N : ℕ) (accepted : Accepted ev N) where
@@ -108,13 +120,13 @@ module _ (ev : ℕ → Event) where
         by-case : HasPair (suc n) ⊎ Robust ev (suc n) → Robust ev (suc n)
         by-case (inr choice) = choice
         by-case (inl (p, q, pair)) =
-            let bad = →bad ev (suc n) (prefix ev N (suc n) accepted (omega arith) inside) p q pair in
+            let bad = →bad ev (suc n) (prefix ev N (suc n) accepted inside) p q pair in
             absurd (omega (arith, found .smallest n bad))
 
     -- the fields of `Broken`, at the first event with which there is a pair
     broken-at : (l : ℕ) → bad? ev N ≡ true → FirstBad N l → Broken ev N l (missingOf ev (suc l)) (observedOf ev (suc l))
     broken-at l bad found =
-        let part = prefix ev N (suc l) accepted (omega arith) (found .below) in
+        let part = prefix ev N (suc l) accepted (found .below) in
         let smallest = smallest-pair (suc l) part (found .passes) in
         record {
           inside = found .below;
@@ -132,7 +144,7 @@ module _ (ev : ℕ → Event) where
     exact = by-test (test (bad? ev N))
       where
         by-test : (bad? ev N ≡ true) ⊎ (bad? ev N ≡ false) → Exact ev N (rulingOf ev N)
-        by-test (inl bad) = rw bad (broken-at (loadOf ev N) bad (first-bad N accepted bad))
+        by-test (inl bad) = rw bad (broken-at (loadOf ev N) bad (first-bad N bad))
         by-test (inr not-bad) = rw not-bad (closure-is-least N accepted not-bad)
 
     -- a trace is robust or it is not
@@ -250,5 +262,5 @@ module _ (ev : ℕ → Event) where
       {N load missing observed : ℕ} → Accepted ev N → Broken ev N load missing observed
       → CommittedEarlier ev (suc load) observed
   named-observed {N} {load} {missing} {observed} accepted it =
-      observed-is-committed ev (suc load) (prefix ev N (suc load) accepted (omega arith) (it .inside)) observed
+      observed-is-committed ev (suc load) (prefix ev N (suc load) accepted (it .inside)) observed
       (it .pair .observed)

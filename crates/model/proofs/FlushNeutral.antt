@@ -1,7 +1,8 @@
 -- Demand 2: "in an accepted trace flush records never move a verdict, apart from shifting event numbers". Flushes play
 -- no role on which a ruling rests, so what Removing and RemovedBytes say of quiet events holds of them, and of sfences
--- too. In order: a list of events without some of its flushes; the bytes of a trace without some, all, one of its flush
--- records; the bytes of two traces that agree but for flush records; sfence records.
+-- too. Empty bytes, an accepted trace with N = 0, have none of them. In order: a list of events without some of its
+-- flushes; the bytes of a trace without some, all, one of its flush records; the bytes of two traces that agree but for
+-- flush records; sfence records.
 use Prim.Native.Nat.{ℕ, suc, _-_, _<_}
 use native.Mathlib.Omega.{arith}
 use mathlib.Core.Path.{_≡_, sym, ap, _∙_, fun-ext}

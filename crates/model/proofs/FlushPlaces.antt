@@ -55,7 +55,8 @@ module _ (ev : ℕ → Event) (N : ℕ) (accepted : Accepted ev N) (p : ℕ) whe
         one-line : line ev s ≡ line ev q
         one-line =
             ap (λ (x : ℕ). x / 8)
-            (from-location ev (source-from ev N accepted q inside loads (store-not-0 ev N accepted s-store)))
+            (from-location ev
+            (source-from ev N accepted q inside loads (store-not-0 ev N accepted (omega arith) s-store)))
 
         early : s < q
         early = source-early ev N accepted q inside loads

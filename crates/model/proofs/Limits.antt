@@ -1,5 +1,6 @@
--- The limits that hold in an accepted trace: at most eight threads, 256 locations and seven crashes, and every thread
--- and location below what the begin said. These are refusals that its events have passed (proofs/Acceptance.antt).
+-- The limits that hold in an accepted trace: if it has a begin, at most eight threads and 256 locations; at most seven
+-- crashes; and every thread and location below what the begin said. These are refusals that its events have passed
+-- (proofs/Acceptance.antt).
 use Prim.Native.Nat.{ℕ, zero, suc, _≤_, _<_}
 use native.Mathlib.Omega.{arith}
 use mathlib.Core.Path.{_≡_, refl}
@@ -23,7 +24,7 @@ first-stretch ev = refl
 module _ (ev : ℕ → Event) where
   -- one more event that passes
   pub accepted-next : (n : ℕ) → Accepted ev n → refusal ev n ≡ 0 → Accepted ev (suc n)
-  accepted-next n accepted passes-too = record { some-record = omega arith; passes = last-or-earlier }
+  accepted-next n accepted passes-too = record { passes = last-or-earlier }
     where
       last-or-earlier : (e : ℕ) → e < suc n → refusal ev e ≡ 0
       last-or-earlier e inside = by-equality (test (eqb e n))
@@ -35,28 +36,29 @@ module _ (ev : ℕ → Event) where
               accepted .passes e (omega arith)
 
   module _ (N : ℕ) (accepted : Accepted ev N) where
-    -- ---- the begin's fields
+    -- ---- the begin's fields, if there is any event
 
-    begin-fits : beginFits ev 0 ≡ true
-    begin-fits =
-        let past = passed ev N accepted 0 (accepted .some-record) in
-        not-without (is ev 1 0) (beginFits ev 0) (past .no-6) (begins ev N accepted)
+    module _ (some-event : 0 < N) where
+      begin-fits : beginFits ev 0 ≡ true
+      begin-fits =
+          let past = passed ev N accepted 0 some-event in
+          not-without (is ev 1 0) (beginFits ev 0) (past .no-6) (begins ev N accepted some-event)
 
-    threads-fit : within 1 8 (threads ev) ≡ true
-    threads-fit =
-        let both-ranges = parts (eqb (fieldsOf (ev 0) .version) 1 && within 1 8 (threads ev)) _ begin-fits in
-        parts (eqb (fieldsOf (ev 0) .version) 1) _ (both-ranges .0) .1
+      threads-fit : within 1 8 (threads ev) ≡ true
+      threads-fit =
+          let both-ranges = parts (eqb (fieldsOf (ev 0) .version) 1 && within 1 8 (threads ev)) _ begin-fits in
+          parts (eqb (fieldsOf (ev 0) .version) 1) _ (both-ranges .0) .1
 
-    pub some-thread : 1 ≤ threads ev
-    some-thread = leb-true 1 (threads ev) (parts (leb 1 (threads ev)) _ threads-fit .0)
+      pub some-thread : 1 ≤ threads ev
+      some-thread = leb-true 1 (threads ev) (parts (leb 1 (threads ev)) _ threads-fit .0)
 
-    pub few-threads : threads ev ≤ 8
-    few-threads = leb-true (threads ev) 8 (parts (leb 1 (threads ev)) _ threads-fit .1)
+      pub few-threads : threads ev ≤ 8
+      few-threads = leb-true (threads ev) 8 (parts (leb 1 (threads ev)) _ threads-fit .1)
 
-    pub few-locations : locations ev ≤ 256
-    few-locations =
-        let both-ranges = parts (eqb (fieldsOf (ev 0) .version) 1 && within 1 8 (threads ev)) _ begin-fits in
-        leb-true (locations ev) 256 (parts (leb 1 (locations ev)) _ (both-ranges .1) .1)
+      pub few-locations : locations ev ≤ 256
+      few-locations =
+          let both-ranges = parts (eqb (fieldsOf (ev 0) .version) 1 && within 1 8 (threads ev)) _ begin-fits in
+          leb-true (locations ev) 256 (parts (leb 1 (locations ev)) _ (both-ranges .1) .1)
 
     -- ---- an event's thread and location
 

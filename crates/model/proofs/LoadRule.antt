@@ -5,7 +5,7 @@
 use Prim.Native.Nat.{ℕ, zero, suc, _≤_, _<_}
 use native.Mathlib.Omega.{arith}
 use mathlib.Core.Path.{_≡_, refl, sym, _∙_, ap}
-use mathlib.Core.Bool.{Bool, true, false, cond, _&&_}
+use mathlib.Core.Bool.{true, false, cond, _&&_}
 use mathlib.Core.List.{_∷_}
 use mathlib.Core.Logic.{_⊎_, inl, inr, _≢_}
 use lib.Dec.{eqb}
@@ -16,7 +16,7 @@ use Rattle.model.specs.Trace.{thread, location, issue?, commit?, Issue, 
 use Rattle.model.specs.Machine.{beside, commitsBefore, oldest, committed, waits, waiting, commitsHere, current}
 use Rattle.model.specs.Rules.{Accepted}
 use Rattle.model.specs.Stores.{headOf, madeAt, newestAt, landsAt, landed}
-use Rattle.model.proofs.Searching.{test, both, parts, last-is, last-of, last-none}
+use Rattle.model.proofs.Searching.{test, both, parts, either-way, last-is, last-of, last-none}
 use Rattle.model.proofs.Counting.{stretch-mono, count-mono}
 use Rattle.model.proofs.Acceptance.{beside-is, store-not-0}
 use Rattle.model.proofs.StorePlaces.{fails, last-most, Store, committed-store}
@@ -88,10 +88,10 @@ module _ (ev : ℕ → Event) where
       (λ q early passes. rw newest at (newest-most n _ _ q (waits→ n q early passes .made)))
 
   pub waiting-none :
-      (N n p : ℕ) → Accepted ev N → newestAt ev n (location ev n) (thread ev n) ≡ p → (p ≢ 0 → Waits n p → ⊥)
+      (n p : ℕ) → Accepted ev n → newestAt ev n (location ev n) (thread ev n) ≡ p → (p ≢ 0 → Waits n p → ⊥)
       → waiting ev n ≡ 0
   unfolding waiting
-  waiting-none N n p accepted newest never =
+  waiting-none n p accepted newest never =
       last-none n (waits ev n) (λ q early. fails _ (λ passes. no-other q (waits→ n q early passes)))
     where
       no-other : (q : ℕ) → Waits n q → ⊥
@@ -101,7 +101,7 @@ module _ (ev : ℕ → Event) where
           below = rw newest at (newest-most n _ _ q (w .made))
 
           some : p ≢ 0
-          some is-0 = store-not-0 ev N accepted (w .made .store) (omega (arith, below))
+          some is-0 = store-not-0 ev n accepted (omega (arith, w .made .early)) (w .made .store) (omega (arith, below))
 
           made : Made n (location ev n) (thread ev n) p
           made = rw newest at (newest-made n (location ev n) (thread ev n) (λ is-0. some (sym newest ∙ is-0)))
@@ -125,11 +125,7 @@ module _ (ev : ℕ → Event) where
 
   pub committed-zero : committed ev 0 ≡ 0
   unfolding committed last
-  committed-zero = either (oldest ev 0 0)
-    where
-      either : (b : Bool) → _≡_ {A = ℕ} (cond b 0 0) 0
-      either true = refl
-      either false = refl
+  committed-zero = either-way (oldest ev 0 0) 0
 
   -- the last event that commits a store at location x
   abbrev lastCommit : ℕ → ℕ → ℕ
@@ -248,7 +244,8 @@ module _ (ev : ℕ → Event) where
                 committed-store ev N c accepted (omega (arith, here .lands .early)) (here .lands .commits)
 
             last-some : lastCommit n x ≢ 0
-            last-some is-0 = store-not-0 ev N accepted (is-store .store) (omega (arith, is-store .early, below))
+            last-some is-0 =
+                store-not-0 ev N accepted (omega arith) (is-store .store) (omega (arith, is-store .early, below))
 
             lands : Lands n x (lastCommit n x)
             lands = last-lands n x last-some
@@ -266,7 +263,7 @@ module _ (ev : ℕ → Event) where
             is-p = sym (head-is-last n x) ∙ is-head
 
             some : p ≢ 0
-            some is-0 = store-not-0 ev N accepted (head .store) (is-p ∙ is-0)
+            some is-0 = store-not-0 ev N accepted (omega arith) (head .store) (is-p ∙ is-0)
 
             in-stretch : stretch ev p ≡ stretch ev n
             in-stretch =

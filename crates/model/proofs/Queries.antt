@@ -1,13 +1,13 @@
 -- The order query is exact: of two stores it answers same, before, after or neither exactly as happens-before has them.
 -- The clock of a store covers another exactly if they are equal or the other happens before it.
-use Prim.Native.Nat.{ℕ, _≤_}
+use Prim.Native.Nat.{ℕ, _≤_, _<_}
 use native.Mathlib.Omega.{arith}
-use mathlib.Core.Path.{_≡_, sym, _∙_}
+use mathlib.Core.Path.{_≡_, refl, sym, _∙_}
 use mathlib.Core.Bool.{true, false, _&&_, not}
 use mathlib.Core.Logic.{_⊎_, inl, inr, _≢_, _↔_}
-use mathlib.Core.List.{List}
+use mathlib.Core.List.{List, []}
 use lib.Dec.{eqb, ltb}
-use borrow.Author.Tests.{eqb-true, eqb-false, ne-eqb, le-ltb, not-true}
+use borrow.Author.Tests.{eqb-true, eqb-false, ne-eqb, ltb-true, le-ltb, not-true}
 use Rattle.record.specs.declared.events.Event.{Event}
 use Rattle.record.specs.Tests.{_gives_else_}
 use Rattle.model.specs.Trace.{Issue}
@@ -20,7 +20,7 @@ use Rattle.model.specs.Demand.{Stands}
 use Rattle.model.proofs.Searching.{false-true, test, both, parts}
 use Rattle.model.proofs.Ordering.{before-lt}
 use Rattle.model.proofs.Clocks.{covers-exactly}
-use Rattle.model.proofs.TurnedAway.{accepted-exactly, turned-away-exactly}
+use Rattle.model.proofs.NoBytes.{begun-accepted-exactly, begun-away, begun-none}
 
 module _ (ev : ℕ → Event) where
   pub before-exactly : (p q : ℕ) → Issue ev p → Issue ev q → (before? ev p q ≡ true) ↔ Before ev p q
@@ -77,20 +77,26 @@ pub ordered-as-demanded :
     → Stands (events bytes) p q (orderOf bytes work p q)
 unfolding orderOf
 ordered-as-demanded bytes N work p q accepted enough p-store q-store =
-    rw (le-ltb work 32768 enough, accepted-exactly bytes N .1 accepted)
+    let inside = ltb-true p N (parts (ltb p N) _ p-store .0) in
+    rw (le-ltb work 32768 enough, begun-accepted-exactly bytes N .1 (accepted, omega arith))
     (standing-exact (events bytes) N p q p-store q-store)
 
--- a number that names no store of an accepted trace is refused with 16, and a trace that is turned away with its number
+-- a number that names no store of an accepted trace with a record is refused with 16; a trace that is turned away with
+-- its number; and no bytes, whatever the numbers, with 1
 pub no-store-refused :
-    (bytes : List ℕ) (N work p q : ℕ) → AcceptedWith bytes N → 32768 ≤ work
+    (bytes : List ℕ) (N work p q : ℕ) → AcceptedWith bytes N → 0 < N → 32768 ≤ work
     → (store? (events bytes) N p && store? (events bytes) N q) ≡ false → orderOf bytes work p q ≡ refused 16 0
 unfolding orderOf
-no-store-refused bytes N work p q accepted enough no-store =
-    rw (le-ltb work 32768 enough, accepted-exactly bytes N .1 accepted, no-store)
+no-store-refused bytes N work p q accepted some-record enough no-store =
+    rw (le-ltb work 32768 enough, begun-accepted-exactly bytes N .1 (accepted, some-record), no-store)
 
 pub order-refused :
     (bytes : List ℕ) (k e work p q : ℕ) → TurnedAwayWith bytes k e → 32768 ≤ work
     → orderOf bytes work p q ≡ refused k e
 unfolding orderOf
 order-refused bytes k e work p q turned enough =
-    rw (le-ltb work 32768 enough, turned-away-exactly bytes k e .1 turned)
+    rw (le-ltb work 32768 enough, begun-away bytes k e turned)
+
+pub no-bytes-refused : (work p q : ℕ) → 32768 ≤ work → orderOf [] work p q ≡ refused 1 0
+unfolding orderOf
+no-bytes-refused work p q enough = rw (le-ltb work 32768 enough, begun-none [] refl)

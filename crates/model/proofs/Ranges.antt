@@ -80,8 +80,8 @@ module _ (ev : ℕ → Event) where
   module _ (N : ℕ) (accepted : Accepted ev N) where
     pub thread-bound : (n : ℕ) → n < N → hasThread? ev n ≡ true → thread ev n < 8
     thread-bound n inside has =
-        omega (arith, thread-below ev N accepted n inside has, few-threads ev N accepted)
+        omega (arith, thread-below ev N accepted n inside has, few-threads ev N accepted (omega arith))
 
     pub location-bound : (n : ℕ) → n < N → hasLocation? ev n ≡ true → location ev n < 256
     location-bound n inside has =
-        omega (arith, location-below ev N accepted n inside has, few-locations ev N accepted)
+        omega (arith, location-below ev N accepted n inside has, few-locations ev N accepted (omega arith))

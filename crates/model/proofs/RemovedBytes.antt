@@ -7,6 +7,7 @@ use native.Mathlib.Omega.{arith}
 use mathlib.Core.Path.{_≡_, refl, ap, _∙_}
 use mathlib.Core.Bool.{Bool, true}
 use mathlib.Core.List.{List}
+use mathlib.Core.Logic.{_⊎_, inl, inr}
 use lib.ListN.{length}
 use Rattle.record.specs.declared.events.Event.{Event}
 use Rattle.record.specs.Fields.{fieldsOf, TwoByte}
@@ -19,9 +20,10 @@ use Rattle.model.specs.Answers.{shareOf}
 use Rattle.model.specs.Reading.{events, firstEvents, encode, AcceptedWith}
 use Rattle.model.specs.Judge.{ruledAnswer, judgeOf, cutAfter}
 use Rattle.model.specs.Flushes.{carry, shifted, SameVerdict, kept, number, without, taken}
+use Rattle.model.proofs.Searching.{less?}
 use Rattle.model.proofs.Tabulating.{tabulate-length}
 use Rattle.model.proofs.Roles.{Quiet}
-use Rattle.model.proofs.Numberings.{number-below, kept-le}
+use Rattle.model.proofs.Numberings.{number-below, kept-le, kept-lt}
 use Rattle.model.proofs.Moving.{moved-two-byte}
 use Rattle.model.proofs.AcceptedLists.{source-two-byte}
 use Rattle.model.proofs.Taking.{length-kept}
@@ -29,8 +31,8 @@ use Rattle.model.proofs.Exactness.{named-missing, named-observed}
 use Rattle.model.proofs.Encoding.{AllTwoByte, encoded-accepted}
 use Rattle.model.proofs.AcceptedBytes.{accepted-encoded, accepted-two-byte, accepted-list}
 use Rattle.model.proofs.Carrying.{SameRuling, carried-ruling, carried-share, carried-answer, carried-cut}
-use Rattle.model.proofs.Removing.{numbering, there, removed-accepted, removed-exact, removed-finished}
-use Rattle.model.proofs.Removing.{removed-fault}
+use Rattle.model.proofs.Removing.{numbering, first-stays, there, removed-accepted, removed-exact}
+use Rattle.model.proofs.Removing.{removed-finished, removed-fault}
 
 module _
     (es : List Event) (accepted : Accepted (traceOf es) (length es))
@@ -79,9 +81,19 @@ module _
         kept-le (numbering es accepted out? quiet) (length es),
       )
 
-  -- "Events after begin"
+  -- "Events after begin": the begin, if there is one, stays
   more-events : length es - 1 ≡ length short - 1 + taken out? es
-  more-events = omega (arith, not-longer, removed-accepted es accepted out? quiet .some-record)
+  more-events = by-length (less? 0 (length es))
+    where
+      by-length : (0 < length es) ⊎ (length es ≤ 0) → length es - 1 ≡ length short - 1 + taken out? es
+      by-length (inr none) = omega (arith, not-longer)
+      by-length (inl some-event) =
+          omega (
+            arith,
+            not-longer,
+            length-kept out? (kept out? es) es,
+            kept-lt (numbering es accepted out? quiet) 0 (length es) (first-stays es accepted out? quiet) some-event,
+          )
 
   ruled-shifted :
       (v : Ruling) → Exact (traceOf short) (length short) v

@@ -3,7 +3,7 @@
 -- two stores is carried over alike. What stays of the list is a part of it (specs/Embedding.antt): an accepted load's
 -- source is a store or event 0, and both stay.
 -- In order: the embedding; what follows from it.
-use Prim.Native.Nat.{ℕ, suc}
+use Prim.Native.Nat.{ℕ, suc, _≤_, _<_}
 use mathlib.Core.Path.{_≡_, refl, sym, _∙_, ap}
 use mathlib.Core.Bool.{Bool, true, false}
 use mathlib.Core.List.{List}
@@ -21,7 +21,7 @@ use Rattle.model.specs.Answers.{faultOf}
 use Rattle.model.specs.Flushes.{carry, shiftedFault, kept, number, without}
 use Rattle.model.specs.Embedding.{Numbering, everything, Role, Embedding, Finds, Apart, SameEvent, SameBegin}
 use Rattle.model.specs.Embedding.{Cover}
-use Rattle.model.proofs.Searching.{same?, test, false-true, excluded}
+use Rattle.model.proofs.Searching.{same?, less?, test, false-true, excluded}
 use Rattle.model.proofs.Roles.{Quiet}
 use Rattle.model.proofs.Acceptance.{begins}
 use Rattle.model.proofs.Moving.{Renumbered, moved-is, no-source}
@@ -51,9 +51,15 @@ module _
   inside n past =
       excluded (out? n) (crash? whole n) (λ out. quiet n out .no-crash) (rw (List·getD-eq-default es Crash past))
 
+  -- so does event 0, a begin if there is any event
   pub first-stays : out? 0 ≡ false
-  first-stays =
-      excluded (out? 0) (begin? whole 0) (λ out. quiet 0 out .no-begin) (begins whole (length es) accepted)
+  first-stays = by-length (less? 0 (length es))
+    where
+      by-length : (0 < length es) ⊎ (length es ≤ 0) → out? 0 ≡ false
+      by-length (inl some-event) =
+          excluded (out? 0) (begin? whole 0) (λ out. quiet 0 out .no-begin)
+          (begins whole (length es) accepted some-event)
+      by-length (inr none) = inside 0 none
 
   whole-finds : Finds whole
   whole-finds = accepted-finds es accepted

@@ -7,6 +7,7 @@ use native.Mathlib.Omega.{arith}
 use mathlib.Core.Path.{_≡_, refl, sym, _∙_, ap}
 use mathlib.Core.Bool.{true}
 use mathlib.Core.List.{List}
+use mathlib.Core.Logic.{_⊎_, inl, inr, _≢_}
 use lib.ListN.{length}
 use lib.Dec.{eqb}
 use Rattle.record.specs.declared.events.Event.{Event}
@@ -21,6 +22,7 @@ use Rattle.model.specs.Judge.{ruledAnswer, judgeOf, cutAfter}
 use Rattle.model.specs.Flushes.{carryBy, shiftedBy}
 use Rattle.model.specs.Locked.{locked?, asLoad, asStore, replaced, unlocked, lockedBefore, unlockedLoad}
 use Rattle.model.specs.Locked.{unlockedStore, bareFault, bare, SameBareVerdict}
+use Rattle.model.proofs.Searching.{same?}
 use Rattle.model.proofs.Numberings.{injective-eqb}
 use Rattle.model.proofs.Faults.{by-kind}
 use Rattle.model.proofs.Tabulating.{tabulate-length, tabulate-at}
@@ -48,10 +50,15 @@ module _ {f g : ℕ → ℕ} {short long : List Event} (by : Replacement f g sho
       )
       (by-kind bareFault bareFault refl refl (eqb p q) (eqb (line (traceOf short) p) (line (traceOf short) q)) _ _ refl)
 
-  module _ (n : ℕ) (longer : length long ≡ length short + n) where
+  -- n records more; none, where there is no record
+  module _ (n : ℕ) (longer : length long ≡ length short + n) (of-none : length short ≡ 0 → n ≡ 0) where
     -- "Events after begin"
     more-events : length long - 1 ≡ length short - 1 + n
-    more-events = omega (arith, by .same .short-accepted .some-record)
+    more-events = by-length (same? (length short) 0)
+      where
+        by-length : (length short ≡ 0) ⊎ (length short ≢ 0) → length long - 1 ≡ length short - 1 + n
+        by-length (inl none) = omega (arith, of-none none)
+        by-length (inr some) = omega arith
 
     ruled-bare :
         (v : Ruling) → Exact (traceOf short) (length short) v
@@ -76,7 +83,8 @@ module _ (bytes : List ℕ) (all-bytes : AllBytes bytes) (N : ℕ) (accepted : A
   es-accepted = accepted-list bytes all-bytes N accepted
 
   module _
-      {f g : ℕ → ℕ} {long : List Event} (by : Replacement f g es long) (n : ℕ) (longer : length long ≡ N + n) where
+      {f g : ℕ → ℕ} {long : List Event} (by : Replacement f g es long)
+      (n : ℕ) (longer : length long ≡ N + n) (of-none : N ≡ 0 → n ≡ 0) where
     es-small : AllTwoByte es
     es-small = accepted-two-byte bytes all-bytes N accepted
 
@@ -93,7 +101,8 @@ module _ (bytes : List ℕ) (all-bytes : AllBytes bytes) (N : ℕ) (accepted : A
             (work cut : ℕ) → bare (judgeOf (encode long) work cut) ≡ shiftedBy f g bareFault n (judgeOf bytes work cut)
         answer work cut =
             carried-answer (by .same) es-small (by .two-byte es-small) bare (shiftedBy f g bareFault n) (λ k. refl)
-            (ruled-bare by n (longer ∙ ap (λ m. m + n) (sym es-length))) work cut
+            (ruled-bare by n (longer ∙ ap (λ m. m + n) (sym es-length)) (λ none. of-none (sym es-length ∙ none)))
+            work cut
             ∙ ap (λ (s : List ℕ). shiftedBy f g bareFault n (judgeOf s work cut)) as-encoded
 
         cut-buffer : (work : ℕ) (cut : List ℕ) → cutAfter (encode long) work cut ≡ cutAfter bytes work cut
@@ -117,10 +126,10 @@ module _ (bytes : List ℕ) (all-bytes : AllBytes bytes) (N : ℕ) (accepted : A
     longer-by-2 = rw es-length at (length-replaced es k there)
 
     pub replaced-bytes-accepted : AcceptedWith (encode (replaced k es)) (N + 2)
-    replaced-bytes-accepted = bytes-accepted one 2 longer-by-2
+    replaced-bytes-accepted = bytes-accepted one 2 longer-by-2 (λ none. absurd (omega arith))
 
     pub replaced-verdict : SameBareVerdict (asLoad k) (asStore k) 2 (encode (replaced k es)) bytes
-    replaced-verdict = bytes-verdict one 2 longer-by-2
+    replaced-verdict = bytes-verdict one 2 longer-by-2 (λ none. absurd (omega arith))
 
   -- ---- all of them
 
@@ -132,9 +141,13 @@ module _ (bytes : List ℕ) (all-bytes : AllBytes bytes) (N : ℕ) (accepted : A
     longer-by-all : length (unlocked es) ≡ N + 2 * lockedBefore es N
     longer-by-all = length-unlocked es ∙ ap (λ (m : ℕ). m + 2 * lockedBefore es m) es-length
 
+    none-locked : N ≡ 0 → 2 * lockedBefore es N ≡ 0
+    unfolding lockedBefore
+    none-locked none = rw none
+
     pub all-replaced-bytes-accepted : AcceptedWith (encode (unlocked es)) (N + 2 * lockedBefore es N)
-    all-replaced-bytes-accepted = bytes-accepted all (2 * lockedBefore es N) longer-by-all
+    all-replaced-bytes-accepted = bytes-accepted all (2 * lockedBefore es N) longer-by-all none-locked
 
     pub all-replaced-verdict :
         SameBareVerdict (unlockedLoad es) (unlockedStore es) (2 * lockedBefore es N) (encode (unlocked es)) bytes
-    all-replaced-verdict = bytes-verdict all (2 * lockedBefore es N) longer-by-all
+    all-replaced-verdict = bytes-verdict all (2 * lockedBefore es N) longer-by-all none-locked

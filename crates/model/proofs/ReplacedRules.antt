@@ -194,7 +194,7 @@ module _
     -- THE LONGER TRACE IS ACCEPTED
     pub replaced-accepted : Accepted (traceOf (replaced k es)) (length (replaced k es))
     replaced-accepted =
-        rw (length-replaced es k inside) (record { some-record = omega arith; passes = λ n. passes (place k n) })
+        rw (length-replaced es k inside) (record { passes = λ n. passes (place k n) })
 
     -- ---- two-byte fields
 

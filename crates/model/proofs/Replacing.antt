@@ -120,7 +120,8 @@ module _
       by-zero : (k ≡ 0) ⊎ (k ≢ 0) → 0 < k
       by-zero (inr differs) = omega arith
       by-zero (inl is) =
-          let begin-kind : kind part 0 ≡ 1 = eqb-true (kind part 0) 1 (begins part (length es) accepted) in
+          let begun = begins part (length es) accepted (omega arith) in
+          let begin-kind : kind part 0 ≡ 1 = eqb-true (kind part 0) 1 begun in
           let locked-kind : kind part 0 ≡ 12 = rw is at of-kind in
           absurd (omega arith)
 

@@ -257,7 +257,7 @@ module _ (ev : ℕ → Event) where
         put = →puts p (forbids .store) (forbids .to-it) (forbids .earlier) is-in
 
         not-newer : (d : ℕ) → d < l → Puts d (source ev l) → put .d ≤ d → Newer ev l p → ⊥
-        not-newer d before it later (inl none) = store-not-0 ev N accepted (it .store) none
+        not-newer d before it later (inl none) = store-not-0 ev N accepted (omega arith) (it .store) none
         not-newer d before it later (inr (inl less)) =
             omega (
               arith,

@@ -2,7 +2,7 @@
 -- in the closure after one event more; that a pair is a forbidden store in the closure; and that a pair stays one, so
 -- that the ruling of a broken trace is that of its first records.
 -- In order: the steps; hits; the stores that a program marks; pairs, event by event; the ruling.
-use Prim.Native.Nat.{ℕ, zero, suc, _≤_, _<_, max}
+use Prim.Native.Nat.{ℕ, suc, _≤_, _<_, max}
 use native.Mathlib.Omega.{arith}
 use mathlib.Core.Path.{_≡_, refl, sym, _∙_}
 use mathlib.Core.Bool.{Bool, true, false, cond, _&&_, _||_, not}
@@ -10,7 +10,7 @@ use mathlib.Core.Logic.{_⊎_, inl, inr, _≢_}
 use lib.Dec.{eqb, ltb}
 use borrow.Author.Tests.{eqb-true, eqb-false, eq-eqb, ne-eqb, ltb-true, lt-ltb, not-true}
 use Rattle.record.specs.declared.events.Event.{Event}
-use Rattle.model.specs.Search.{some, any, most, first}
+use Rattle.model.specs.Search.{some, any, first}
 use Rattle.model.specs.Trace.{thread, source, commit?, Issue, stretch, commits, place}
 use Rattle.model.specs.Machine.{counting, counts}
 use Rattle.model.specs.Rules.{Accepted}
@@ -85,18 +85,13 @@ module _ (ev : ℕ → Event) where
       in
       rw passes (rw from in-clock)
 
-  some-event : (n j t i : ℕ) → i < closure ev n j t → 0 < n
-  unfolding closure most
-  some-event zero j t i below = absurd (omega arith)
-  some-event (suc n) j t i below = omega arith
-
   module _ (n j t : ℕ) (accepted : Accepted ev (suc n)) where
-    earlier-part : 0 < n → Accepted ev n
-    earlier-part some-record = prefix ev (suc n) n accepted some-record (omega arith)
+    earlier-part : Accepted ev n
+    earlier-part = prefix ev (suc n) n accepted (omega arith)
 
     still-in : (i : ℕ) → i < closure ev n j t → i < closure ev (suc n) j t
     still-in i below =
-        let it = in-some-clock ev n (earlier-part (some-event n j t i below)) j t i below in
+        let it = in-some-clock ev n earlier-part j t i below in
         let (l, counts, observes) = it .observed in
         let still = counted-later ev n (suc n) l (omega arith) counts in
         rw (it .in-j) at (clock-in-closure ev (suc n) accepted (it .q) t i (l, still, observes) (it .in-clock))
@@ -122,8 +117,7 @@ module _ (ev : ℕ → Event) where
             (q l : ℕ) → Observes ev l q → stretch ev q ≡ j → i < vc ev q t
             → (counts ev n l ≡ true) ⊎ Counted ev n l → (i < closure ev n j t) ⊎ (i < asked)
         by-load q l observes in-j in-clock (inr before) =
-            let part = earlier-part (omega (arith, before .inside)) in
-            inl (rw in-j at (clock-in-closure ev n part q t i (l, before, observes) in-clock))
+            inl (rw in-j at (clock-in-closure ev n earlier-part q t i (l, before, observes) in-clock))
         by-load q l observes in-j in-clock (inl now) =
             inr
             (→greatest (λ l. raise l j t) (counting ev n) i l now (→raised l q j t i observes in-j in-clock))
@@ -269,9 +263,9 @@ module _ (ev : ℕ → Event) where
 
   -- ---- pairs, event by event
 
-  bad-stays : (N n : ℕ) → Accepted ev N → 0 < n → n ≤ N → bad? ev n ≡ true → bad? ev N ≡ true
-  bad-stays N n accepted some-record within bad =
-      let (p, q, pair) = bad→ ev n (prefix ev N n accepted some-record within) bad in
+  bad-stays : (N n : ℕ) → Accepted ev N → n ≤ N → bad? ev n ≡ true → bad? ev N ≡ true
+  bad-stays N n accepted within bad =
+      let (p, q, pair) = bad→ ev n (prefix ev N n accepted within) bad in
       →bad ev N accepted p q (wider-pair ev n N p q within pair)
 
   -- ---- the ruling
@@ -288,8 +282,8 @@ module _ (ev : ℕ → Event) where
         by-order : (m < n) ⊎ (n ≤ m) → n ≤ m
         by-order (inr not-earlier) = not-earlier
         by-order (inl earlier) =
-            let part = prefix ev N n accepted (omega arith) (omega arith) in
-            false-true (sym fine ∙ bad-stays n (suc m) part (omega arith) earlier bad-there)
+            let part = prefix ev N n accepted (omega arith) in
+            false-true (sym fine ∙ bad-stays n (suc m) part earlier bad-there)
 
     load-is : loadOf ev N ≡ n
     unfolding loadOf
@@ -300,4 +294,4 @@ module _ (ev : ℕ → Event) where
     -- whatever follows, the ruling is that of the records up to the first with a pair
     pub broken-ruling : rulingOf ev N ≡ broken n (missingOf ev (suc n)) (observedOf ev (suc n))
     unfolding rulingOf
-    broken-ruling = rw (bad-stays N (suc n) accepted (omega arith) inside bad, load-is)
+    broken-ruling = rw (bad-stays N (suc n) accepted inside bad, load-is)

@@ -77,6 +77,11 @@ pub excluded : (a b : Bool) → (a ≡ true → b ≡ false) → b ≡ true → 
 excluded true b excludes passes = false-true (sym (excludes refl) ∙ passes)
 excluded false b excludes passes = refl
 
+-- where a test decides between one number and the same
+pub either-way : (b : Bool) (n : ℕ) → cond b n n ≡ n
+either-way true n = refl
+either-way false n = refl
+
 -- ---- numbers, decided
 
 pub same? : (m n : ℕ) → (m ≡ n) ⊎ (m ≢ n)

@@ -5,7 +5,7 @@ use Prim.Native.Nat.{ℕ, _<_}
 use mathlib.Core.Path.{_≡_, refl, ap₂}
 use mathlib.Core.Bool.{Bool, true, _&&_}
 use mathlib.Core.List.{List, [], _∷_, map}
-use lib.ListN.{length, getD, replicate}
+use lib.ListN.{getD, replicate}
 use lib.Dec.{ltb}
 use borrow.Author.Tests.{ltb-true}
 use Rattle.record.specs.declared.events.Event.{Event}
@@ -47,9 +47,9 @@ outcomeOfEvents xs =
 
 -- ---- a list of sessions
 
--- there is an event, and each has two-byte fields
+-- each event has two-byte fields
 abbrev pub writable : List Event → Bool
-writable xs = ltb 0 (length xs) && every twoByte? xs
+writable xs = every twoByte? xs
 
 abbrev pub allWritable : List (List Event) → Bool
 allWritable [] = true
@@ -71,10 +71,8 @@ each-two-byte xs passes =
 outcome-encoded : (xs : List Event) → writable xs ≡ true → outcomeOf (encode xs) ≡ outcomeOfEvents xs
 unfolding judgeOf cutAfter
 outcome-encoded xs passes =
-    let fits = parts (ltb 0 (length xs)) _ passes in
-    let small = each-two-byte xs (fits .1) in
-    let reading = same-reading xs small (ltb-true _ _ (fits .0)) in
-    rw (reading, same-answer xs small, same-cut xs small)
+    let small = each-two-byte xs passes in
+    rw (same-reading xs small, same-answer xs small, same-cut xs small)
 
 -- what the definitions say of the bytes is what is computed of the events
 pub outcome-all :

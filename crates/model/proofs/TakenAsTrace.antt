@@ -64,7 +64,7 @@ module _ (bytes : List ℕ) (N : ℕ) (whole : AcceptedWith bytes N) (e : ℕ) (
         passing-there (recordsTo bytes e) i (p .x) (p .next) (read-alike i earlier (p .x) (p .next) (p .is-read))
         (sym (refusal-same first-agree i earlier) ∙ p .passes);
     ends =
-        ends-there (recordsTo bytes e) (suc e) (omega arith)
+        ends-there (recordsTo bytes e) (suc e)
         (rw (records-to-front bytes e)
         (start-front bytes (start bytes (suc e)) (suc e) (omega arith) each-read
         ∙ sym (length-take-le (start bytes (suc e)) bytes (start-inside bytes (suc e)))));
@@ -153,7 +153,7 @@ module _
           let settled = named-observed (events bytes) trace is-broken in
           let order = at-or-before-le (events bytes) missing observed (is-broken .pair .order) in
           fault-same (first-agree bytes (apart .N) (apart .whole) load (is-broken .inside))
-          (prefix (events bytes) (apart .N) (suc load) trace (omega arith) (is-broken .inside)) missing observed
+          (prefix (events bytes) (apart .N) (suc load) trace (is-broken .inside)) missing observed
           (omega (arith, settled .early)) (settled .early) (named-missing (events bytes) is-broken) (settled .store)
 
       last-event : suc load - 1 ≡ load
@@ -174,7 +174,7 @@ module _
   load-not-begin : load ≢ 0
   load-not-begin is-0 =
       let loads = counted-crosses (events bytes) load (named-load-counts (events bytes) is-broken) .loads in
-      let begun = begins (events bytes) (apart .N) trace in
+      let begun = begins (events bytes) (apart .N) trace (omega (arith, is-broken .inside)) in
       false-true (sym (begin-no-load (events bytes) 0 begun) ∙ rw is-0 at (loads .test))
 
   -- THE RECORDS BEFORE IT, TAKEN AS A TRACE, ARE ROBUST
@@ -186,7 +186,7 @@ module _
       some = let not-0 = load-not-begin in omega arith
 
       part : Accepted (events bytes) load
-      part = prefix (events bytes) (apart .N) load trace some (omega (arith, is-broken .inside))
+      part = prefix (events bytes) (apart .N) load trace (omega (arith, is-broken .inside))
 
       next : suc (load - 1) ≡ load
       next = omega (arith, some)

@@ -5,12 +5,12 @@
 use Prim.Native.Nat.{ℕ, zero, suc, _*_, _≤_, _<_}
 use native.Mathlib.Omega.{arith}
 use mathlib.Core.Path.{_≡_, refl, sym, ap, _∙_}
-use mathlib.Core.Bool.{Bool, true, false, not, and-false}
+use mathlib.Core.Bool.{Bool, true, false, not}
 use mathlib.Core.Logic.{_⊎_, inl, inr, _≢_, _↔_}
 use mathlib.Core.List.{List}
 use lib.ListN.{length}
-use lib.Dec.{eqb, ltb}
-use borrow.Author.Tests.{eqb-true, eq-eqb, ne-eqb, ltb-true, lt-ltb, not-true, not-false}
+use lib.Dec.{eqb}
+use borrow.Author.Tests.{eqb-true, eq-eqb, ne-eqb, not-true, not-false}
 use Rattle.record.specs.declared.events.Event.{Event}
 use Rattle.record.specs.Answers.{event, refused}
 use Rattle.record.specs.Parts.{start}
@@ -23,7 +23,7 @@ use Rattle.model.specs.Rules.{refusal, Accepted}
 use Rattle.model.specs.Reading.{refusalIn, events, Found, noRecord, refusedBy, passing, endsAt, recordAt}
 use Rattle.model.specs.Reading.{passing?, stop, accepted, turnedAway, readingAt, readingOf}
 use Rattle.model.specs.Reading.{AcceptedWith, TurnedAwayWith}
-use Rattle.model.proofs.Searching.{false-true, test, parts, less?, →some, First, first-is}
+use Rattle.model.proofs.Searching.{false-true, test, less?, →some, First, first-is}
 
 -- ---- what is found is one of three
 
@@ -55,33 +55,32 @@ module _ (bytes : List ℕ) where
   -- ---- what is found at number n, by what reading answers there
 
   module _ (n : ℕ) where
-    pub ends-there : 0 < n → start bytes n ≡ length bytes → recordAt bytes n ≡ noRecord
+    pub ends-there : start bytes n ≡ length bytes → recordAt bytes n ≡ noRecord
     unfolding recordAt
-    ends-there some-record ends = simp (lt-ltb 0 n some-record, eq-eqb (start bytes n) (length bytes) ends)
+    ends-there ends = simp (eq-eqb (start bytes n) (length bytes) ends)
 
-    -- a record that is read is there
-    not-ended : (x : Event) (next : ℕ) → readAt bytes (start bytes n) ≡ event x next → endsAt bytes n ≡ false
-    not-ended x next is =
-        let inside : start bytes n ≢ length bytes =
-        λ same. omega (arith, read-grows bytes n x next is, start-inside bytes (suc n))
-        in
-        rw (ne-eqb (start bytes n) (length bytes) inside) (and-false (ltb 0 n))
+    not-ended : start bytes n ≢ length bytes → endsAt bytes n ≡ false
+    not-ended inside = ne-eqb (start bytes n) (length bytes) inside
 
     pub unread-there :
-        (k e : ℕ) → endsAt bytes n ≡ false → readAt bytes (start bytes n) ≡ refused k e → k ≢ 0
+        (k e : ℕ) → start bytes n ≢ length bytes → readAt bytes (start bytes n) ≡ refused k e → k ≢ 0
         → recordAt bytes n ≡ refusedBy k
     unfolding recordAt
-    unread-there k e inside is some-number = rw (inside, is, ne-eqb k 0 some-number)
+    unread-there k e inside is some-number = rw (not-ended inside, is, ne-eqb k 0 some-number)
 
     module _ (x : Event) (next : ℕ) (is : readAt bytes (start bytes n) ≡ event x next) where
+      -- a record that is read is there
+      read-inside : start bytes n ≢ length bytes
+      read-inside same = omega (arith, read-grows bytes n x next is, start-inside bytes (suc n))
+
       pub forbidden-there :
           (k : ℕ) → refusal (events bytes) n ≡ k → k ≢ 0 → recordAt bytes n ≡ refusedBy k
       unfolding recordAt
-      forbidden-there k forbids some-number = rw (not-ended x next is, is, forbids, ne-eqb k 0 some-number)
+      forbidden-there k forbids some-number = rw (not-ended read-inside, is, forbids, ne-eqb k 0 some-number)
 
       pub passing-there : refusal (events bytes) n ≡ 0 → recordAt bytes n ≡ passing
       unfolding recordAt
-      passing-there passes = rw (not-ended x next is, is, passes)
+      passing-there passes = rw (not-ended read-inside, is, passes)
 
     -- ---- and back
 
@@ -91,11 +90,6 @@ module _ (bytes : List ℕ) where
       pub next : ℕ
       pub is-read : readAt bytes (start bytes n) ≡ event x next
       pub passes : refusal (events bytes) n ≡ 0
-
-    -- the bytes end right behind the first n records
-    pub record Ended : Type 0 where
-      pub some-record : 0 < n
-      pub at-end : start bytes n ≡ length bytes
 
     abbrev some? : ℕ → Bool
     some? k = not (eqb k 0)
@@ -120,12 +114,12 @@ module _ (bytes : List ℕ) where
             let number : unread ≡ k = rw is in
             absurd (omega arith)
 
-    pub ended→ : recordAt bytes n ≡ noRecord → Ended
+    -- the bytes end right behind the first n records
+    pub ended→ : recordAt bytes n ≡ noRecord → start bytes n ≡ length bytes
     unfolding recordAt
     ended→ h =
-        let ends = first-applies (endsAt bytes n) (some? unread) (some? forbidden) unread forbidden h in
-        let both-hold = parts (ltb 0 n) _ ends in
-        record { some-record = ltb-true 0 n (both-hold .0); at-end = eqb-true _ _ (both-hold .1) }
+        eqb-true (start bytes n) (length bytes)
+        (first-applies (endsAt bytes n) (some? unread) (some? forbidden) unread forbidden h)
 
   -- ---- the search ends
 
@@ -233,5 +227,4 @@ module _ (bytes : List ℕ) where
 
   -- the events of an accepted trace's bytes are an accepted trace
   pub accepted-events : (N : ℕ) → AcceptedWith bytes N → Accepted (events bytes) N
-  accepted-events N a =
-      record { some-record = ended→ N (a .ends) .some-record; passes = λ n l. passed→ n (a .all-pass n l) .passes }
+  accepted-events N a = record { passes = λ n l. passed→ n (a .all-pass n l) .passes }

@@ -54,7 +54,7 @@ module _ (ev : ℕ → Event) (N : ℕ) (lent after : List ℕ) where
   abbrev pub Claims : answers.Answer → Type 0
   -- an accepted trace, with buffers of the right size, is not refused
   Claims (answers.refused number event) = ⊥
-  -- "Robust fills the cut buffer with the least such choice"
+  -- "Robust fills the cut buffer with the least such choice"; so it does for a trace of no records, N = 0
   Claims (answers.robust events share) =
       (c : Choice) × Least ev N c × (after ≡ answers.cutOf c)
       × (events ≡ N - 1) × (share ≡ answers.shareOf c (finished ev N))

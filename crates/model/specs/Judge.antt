@@ -11,7 +11,7 @@ use Rattle.model.specs.Trace.{issue?}
 use Rattle.model.specs.Choice.{Ruling, robust, broken, finished}
 use Rattle.model.specs.Clocks.{covers?}
 use Rattle.model.specs.Verdict.{rulingOf}
-use Rattle.model.specs.Reading.{events, Reading, accepted, turnedAway, readingOf}
+use Rattle.model.specs.Reading.{events, Reading, accepted, turnedAway, readingOf, begunReading}
 use Rattle.model.specs.Answers.{cutOf, shareOf, faultOf}
 use Rattle.model.specs.Answers as answers
 
@@ -30,7 +30,8 @@ cleared work = replicate 32768 0 ++ drop 32768 work
 -- ---- judging
 
 module _ (ev : ℕ → Event) (N : ℕ) where
-  -- the answer to an accepted trace of N records; "Events after begin"
+  -- the answer to an accepted trace of N records; "Events after begin", and of no records, which have no begin either,
+  -- `events 0` (document 02, job 6): N - 1 is 0 there
   abbrev pub ruledAnswer : Ruling → answers.Answer
   ruledAnswer (robust c) = answers.robust (N - 1) (shareOf c (finished ev N))
   ruledAnswer (broken load missing observed) =
@@ -93,10 +94,10 @@ abbrev pub readingStanding : List ℕ → ℕ → ℕ → Reading → answers.St
 readingStanding bytes p q (turnedAway k e) = answers.refused k e
 readingStanding bytes p q (accepted N) = standing (events bytes) N p q
 
--- the answer to the query about p and q: "14, [..] then per record [..] then 16"
+-- the answer to the query about p and q: "14, [..] then per record [..] then 16"; empty bytes are 1, ahead of 16
 unfoldable pub orderOf : List ℕ → ℕ → ℕ → ℕ → answers.Standing
 orderOf bytes work p q =
-    smallWork work gives answers.refused 14 0 else readingStanding bytes p q (readingOf bytes)
+    smallWork work gives answers.refused 14 0 else readingStanding bytes p q (begunReading bytes)
 
 -- the work area after a query
 unfoldable pub orderWorkAfter : List ℕ → List ℕ

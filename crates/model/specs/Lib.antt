@@ -1,7 +1,8 @@
 -- What a reader has to believe of this crate, in the papers' order:
 --   Search         `bit`, `any` and `member` (what counts as of an event), `last`
 --   Trace, Machine, Rules, HappensBefore, Choice
---   Reading        `eventIn`, `refusalIn`, `events`, `Found`, `endsAt`, `recordAt`, `AcceptedWith`, `TurnedAwayWith`
+--   Reading        `eventIn`, `refusalIn`, `events`, `Found`, `endsAt`, `recordAt`, `AcceptedWith`, `TurnedAwayWith`;
+--                  of `begunReading` that empty bytes are turned away
 --   Windows        but for what computes
 --   CacheLines
 --   Answers        but for `faultOf`
@@ -9,8 +10,8 @@
 --                  `cutAfter` and `orderOf` that 14 and 15 come first; of `readingStanding` that the trace's refusal is
 --                  next; of `store?` and `standing` that then comes 16
 --   Demand
--- and, for theorems that no contract cites, Memory, Flushes, Locked, of Reading `firstEvents` and `encode`, and of
--- Windows `PlaceIn`, `Has` and `Reaches`.
+-- and, for theorems that no contract cites, Memory, Flushes, Locked, of Reading `firstEvents`, `encode` and
+-- `BeginsOtherwise`, and of Windows `PlaceIn`, `Has` and `Reaches`.
 --
 -- What only computes, and the theorem that says what:
 --   Search         `some`, `firstFrom`, `first`, `most`: proofs/Searching.antt

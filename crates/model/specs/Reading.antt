@@ -1,14 +1,16 @@
 -- From bytes to events, and which traces are turned away: document 01, "The trace" and "When a trace is turned away".
+-- Document 02, job 6: "For judging, empty bytes mean a trace with no events [..] Other calls still turn it away."
 use Prim.Native.Nat.{ℕ, suc, _<_}
 use mathlib.Core.Path.{_≡_}
 use mathlib.Core.List.{List, [], _∷_, _++_}
-use mathlib.Core.Bool.{Bool, true, false, _&&_, not}
+use mathlib.Core.Bool.{Bool, true, false, not}
+use mathlib.Core.Logic.{_≢_}
 use lib.ListN.{length}
-use lib.Dec.{eqb, ltb}
+use lib.Dec.{eqb}
 use Rattle.record.specs.declared.events.Event.{Event}
 use Rattle.record.specs.declared.events.Event.the-variants.{Crash}
 use Rattle.record.specs.Answers.{Answer, refused, event, wrote}
-use Rattle.record.specs.Events.{recordOf}
+use Rattle.record.specs.Events.{kindOf, recordOf}
 use Rattle.record.specs.Parts.{start}
 use Rattle.record.specs.Reading.{readAt}
 use Rattle.record.specs.Tests.{_gives_else_}
@@ -46,14 +48,14 @@ encode (e ∷ es) = recordOf e ++ encode es
 pub data Found : Type 0 where
   -- no record: the trace ends there
   noRecord : Found
-  -- a record that is turned away, with its refusal's number; no bytes at all are 1, "no record", at number 0
+  -- a record that is turned away, with its refusal's number
   refusedBy : ℕ → Found
   -- a record that is read, and whose event no rule forbids
   passing : Found
 
--- the bytes end right behind the records before number e, of which there is at least one
+-- the bytes end right behind the records before number e; no bytes do so at number 0
 abbrev pub endsAt : List ℕ → ℕ → Bool
-endsAt bytes e = ltb 0 e && eqb (start bytes e) (length bytes)
+endsAt bytes e = eqb (start bytes e) (length bytes)
 
 -- what is found at number e
 unfoldable pub recordAt : List ℕ → ℕ → Found
@@ -78,7 +80,8 @@ unfoldable pub stop : List ℕ → ℕ
 stop bytes = first (suc (length bytes)) (λ e. not (passing? (recordAt bytes e)))
 
 -- "A trace is accepted if no refusal over its records (1 to 13 here) applies", to which document 02, job 4, adds 18:
--- accepted, with the number of its records; or turned away, with the refusal's number and the event number
+-- accepted, with the number of its records, 0 of no bytes; or turned away, with the refusal's number and the event
+-- number
 pub data Reading : Type 0 where
   accepted : ℕ → Reading
   turnedAway : ℕ → ℕ → Reading
@@ -90,10 +93,16 @@ readingAt e (refusedBy k) = turnedAway k e
 -- never found there: `stop-is` of proofs/TurnedAway.antt
 readingAt e passing = turnedAway 0 e
 
+-- what judging makes of the bytes
 unfoldable pub readingOf : List ℕ → Reading
 readingOf bytes =
     let e = stop bytes in
     readingAt e (recordAt bytes e)
+
+-- what the other calls about a whole trace make of them: of empty bytes "Other calls still turn it away", with 1, "no
+-- record"
+unfoldable pub begunReading : List ℕ → Reading
+begunReading bytes = eqb (length bytes) 0 gives turnedAway 1 0 else readingOf bytes
 
 -- ---- the same, as relations: `accepted-exactly`, `turned-away-exactly` of proofs/TurnedAway.antt join the two
 
@@ -107,3 +116,11 @@ module _ (bytes : List ℕ) where
   pub record TurnedAwayWith (k e : ℕ) : Type 0 where
     pub earlier-pass : (i : ℕ) → i < e → recordAt bytes i ≡ passing
     pub number : recordAt bytes e ≡ refusedBy k
+
+  -- "bytes that begin with some other record": their first record can be read, and is no begin. "1 in judging only for"
+  -- these: `judged-1-exactly` of proofs/NoBytes.antt
+  pub record BeginsOtherwise : Type 0 where
+    pub other : Event
+    pub next : ℕ
+    pub is-read : readAt bytes 0 ≡ event other next
+    pub no-begin : kindOf other ≢ 1

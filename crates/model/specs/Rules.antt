@@ -68,7 +68,6 @@ module _ (ev : ℕ → Event) where
   abbrev pub refusal : ℕ → ℕ
   refusal n = answer (rules n)
 
-  -- no rule turns away any of the first N events, of which there is at least one
+  -- no rule turns away any of the first N events. N may be 0: document 02, job 6, "a trace with no events"
   pub record Accepted (N : ℕ) : Type 0 where
-    pub some-record : 0 < N
     pub passes : (n : ℕ) → n < N → refusal n ≡ 0

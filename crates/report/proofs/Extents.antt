@@ -1,6 +1,7 @@
 -- How many records of a trace can be read, and its threads and finished stretches. `extent-of-accepted`, at the end:
--- of an accepted trace with N records these are the threads of its begin, 1 to 8, and its crashes, at most 7. Before it
--- the laws of the loop that counts: nothing counted, one record more, a record that cannot be read.
+-- of an accepted trace with N records these are the threads of its begin, 1 to 8, and its crashes, at most 7; of no
+-- bytes, which have no begin, there are none of either. Before it the laws of the loop that counts: nothing counted,
+-- one record more, a record that cannot be read.
 use Prim.Native.Nat.{ℕ, suc, _+_, _-_, _≤_, _<_, min}
 use native.Mathlib.Omega.{arith}
 use mathlib.Core.Path.{_≡_, refl, sym, ap, _∙_}
@@ -24,7 +25,8 @@ use Rattle.model.specs.Rules.{Accepted}
 use Rattle.model.specs.Reading.{eventIn, events, AcceptedWith}
 use Rattle.model.proofs.Searching.{false-true, →some, First, first-is, less?, same?}
 use Rattle.model.proofs.Counting.{stretch-mono}
-use Rattle.model.proofs.TurnedAway.{passed→, Ended, ended→, four-bytes-each, accepted-events}
+use Rattle.model.proofs.TurnedAway.{passed→, ended→, four-bytes-each, accepted-events}
+use Rattle.model.proofs.NoBytes.{no-records-exactly}
 use Rattle.model.proofs.Limits.{some-thread, few-threads, few-crashes}
 use Rattle.report.specs.Extent.{unread, readable, threadsOf, finishedOf}
 
@@ -141,7 +143,8 @@ module _ (bytes : List ℕ) where
   -- what a report needs of an accepted trace with N records: by the bounds it leaves no thread and no stretch out
   pub record Extent (N : ℕ) : Type 0 where
     pub threads-are : threadsOf bytes ≡ threads (events bytes)
-    pub some-thread : 1 ≤ threadsOf bytes
+    pub some-thread : 0 < N → 1 ≤ threadsOf bytes
+    pub no-threads : N ≡ 0 → threadsOf bytes ≡ 0
     pub at-most-8 : threadsOf bytes ≤ 8
     pub finished-are : finishedOf bytes ≡ stretch (events bytes) N - 1
     pub at-most-7 : finishedOf bytes ≤ 7
@@ -152,7 +155,8 @@ module _ (bytes : List ℕ) where
       record {
         threads-are = refl;
         some-thread = some-thread (events bytes) N trace;
-        at-most-8 = few-threads (events bytes) N trace;
+        no-threads = none-named;
+        at-most-8 = by-records (less? 0 N);
         finished-are = rw records-are (omega (arith, few-crashes (events bytes) N trace N (omega arith)));
         at-most-7 = omega arith;
       }
@@ -160,15 +164,24 @@ module _ (bytes : List ℕ) where
       trace : Accepted (events bytes) N
       trace = accepted-events bytes N accepted
 
+      none-named : N ≡ 0 → threads (events bytes) ≡ 0
+      none-named is-0 =
+          let empty = no-records-exactly bytes .0 (rw is-0 at accepted) in
+          sym (threads-unread 1 (sym (read-past-end bytes 0 (omega arith))))
+
+      by-records : (0 < N) ⊎ (N ≤ 0) → threads (events bytes) ≤ 8
+      by-records (inl some-record) = few-threads (events bytes) N trace some-record
+      by-records (inr none) = omega (arith, none-named (omega arith))
+
       all-read : (e : ℕ) → e < N → unread bytes e ≡ false
       all-read e l = let p = passed→ bytes e (accepted .all-pass e l) in is-read e (p .x) (p .next) (p .is-read)
 
-      ended : Ended bytes N
+      ended : start bytes N ≡ length bytes
       ended = ended→ bytes N (accepted .ends)
 
       at-end : unread bytes N ≡ true
-      at-end = is-unread N 1 (sym (read-past-end bytes (start bytes N) (omega (arith, ended .at-end))))
+      at-end = is-unread N 1 (sym (read-past-end bytes (start bytes N) (omega (arith, ended))))
 
       records-are : readable bytes ≡ N
       records-are =
-          readable-is N (omega (arith, four-bytes-each bytes N (accepted .all-pass), ended .at-end)) all-read at-end
+          readable-is N (omega (arith, four-bytes-each bytes N (accepted .all-pass), ended)) all-read at-end

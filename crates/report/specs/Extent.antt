@@ -1,5 +1,6 @@
 -- How many threads a trace names and how many stretches it finishes, of all bytes. `extent-of-accepted` of
--- proofs/Extents.antt: of an accepted trace with N records these are the threads of its begin and `stretch N - 1`.
+-- proofs/Extents.antt: of an accepted trace with N records these are the threads of its begin and `stretch N - 1`; of
+-- empty bytes 0 and 0.
 use Prim.Native.Nat.{ℕ, suc, _-_, min}
 use mathlib.Core.Bool.{Bool, not}
 use mathlib.Core.List.{List}

@@ -53,7 +53,8 @@ fn finished_in(trace: &[u8]) -> u16
 }
 
 // The threads and the finished stretches of a trace, read up to the first record that cannot be read. Of an accepted
-// trace these are the threads of its begin and its crashes; of others what specs/Extent.antt says.
+// trace these are the threads of its begin and its crashes, of empty bytes 0 and 0; of others what specs/Extent.antt
+// says.
 pub fn shape_of(trace: &[u8]) -> Shape
     ensures { λ r. ⌜ (r .threads ≡ threadsOf (now (trace .entry))) × (r .finished ≡ finishedOf (now (trace .entry))) ⌝ }
 {

@@ -206,7 +206,7 @@ module _
       -- a source that is not below p is a store, or a signal
       meets-at : p ≤ s → Load ev n ⊎ Wait ev n → Meets ev n
       meets-at late (inl loads) =
-          let some-p = store-not-0 ev N accepted p-store in
+          let some-p = store-not-0 ev N accepted (omega arith) p-store in
           loads-store loads (from-store ev (source-from ev N accepted n (omega arith) loads (λ none. omega arith)))
       meets-at late (inr waits) = waits-signal waits (wait-signalled ev N accepted n (omega arith) waits .signal)
 
