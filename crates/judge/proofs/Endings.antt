@@ -5,12 +5,13 @@ use mathlib.Core.Path.{_≡_, refl, sym, ap, _∙_, subst}
 use mathlib.Core.Bool.{Bool, true, false}
 use mathlib.Core.Logic.{_⊎_, inl, inr, _≢_}
 use mathlib.Core.List.{List}
-use Prim.Native.Nat.{ℕ, suc, _-_, _≤_, _<_}
+use Prim.Native.Nat.{ℕ, _-_, _≤_, _<_}
 use native.Mathlib.Omega.{arith}
 use borrow.Author.Tests.{eq-eqb, ne-eqb}
-use lib.ListN.{length}
+use lib.ListN.{length, replicate}
 use lib.Dec.{eqb}
 use Rattle.record.specs.Tests.{_gives_else_}
+use Rattle.record.proofs.Frames.{clash}
 use Rattle.model.specs.declared.Kind.the-variants.{Flush, Impossible}
 use Rattle.model.specs.declared.Order.the-variants as order
 use Rattle.model.specs.declared.Verdict.{Verdict}
@@ -23,12 +24,12 @@ use Rattle.model.specs.Choice.{Ruling, robust, broken, Exact}
 use Rattle.model.specs.Choice as choice
 use Rattle.model.specs.Verdict.{rulingOf}
 use Rattle.model.specs.Windows.{windowOf}
-use Rattle.model.specs.Reading.{Reading, accepted, turnedAway, events, readingOf, TurnedAwayWith}
+use Rattle.model.specs.Reading.{Reading, accepted, turnedAway, events, begunReading}
 use Rattle.model.specs.Judge.{ruledAnswer, readingAnswer, readingCut, store?, standing, readingStanding}
 use Rattle.model.proofs.Searching.{false-true, same?}
 use Rattle.model.proofs.Ordering.{before-lt, at-or-before-le}
 use Rattle.model.proofs.Exactness.{exact, named-missing, named-observed}
-use Rattle.model.proofs.TurnedAway.{accepted-exactly, turned-away-exactly, accepted-events}
+use Rattle.model.proofs.NoBytes.{begun-away, begun-accepted-exactly}
 use Rattle.area.specs.Cells.{oneLineW}
 use Rattle.area.proofs.ReadBack.{up-is}
 use Rattle.area.proofs.SameLine.{one-line-is}
@@ -46,6 +47,10 @@ use Rattle.judge.specs.Runs.{worldOf, AllRead, Stopped, AnswersAsDefined
 use Rattle.judge.specs.Judging.{evidenceAt}
 use Rattle.judge.specs.Standings.{standBy, standingAfter}
 use Rattle.judge.specs.Verdicts.{kindBy, verdictAfter, cutFrom}
+
+-- numbers that were all cleared, as many as were lent
+pub all-cleared : (l : List ℕ) (m n : ℕ) → l ≡ replicate m 0 → m ≡ n → l ≡ replicate n 0
+all-cleared l m n cleared size = cleared ∙ ap (λ (i : ℕ). replicate i 0) size
 
 -- of an answer: whether it is a refusal, how that reads of a query, and the events after the begin otherwise
 abbrev refused? : answers.Answer → Bool
@@ -72,38 +77,26 @@ module _ (bytes : List ℕ) where
   -- what is answered, and what becomes of the cut buffer
   abbrev pub AnsweredWithCut : Verdict → List ℕ → List ℕ → Type 0
   AnsweredWithCut v cut cut' =
-      (answers.verdictAnswer v ≡ readingAnswer bytes (readingOf bytes))
-      × (cut' ≡ readingCut bytes cut (readingOf bytes))
+      (answers.verdictAnswer v ≡ readingAnswer bytes (begunReading bytes))
+      × (cut' ≡ readingCut bytes cut (begunReading bytes))
 
   -- ---- a record that is turned away
 
-  module _ (k e : ℕ) (away : TurnedAwayWith bytes k e) where
-    is-turned-away : readingOf bytes ≡ turnedAway k e
-    is-turned-away = turned-away-exactly bytes k e .1 away
-
+  module _ (k e : ℕ) (away : begunReading bytes ≡ turnedAway k e) where
     pub refused-with-cut : (cut : List ℕ) → AnsweredWithCut (Refused k e) cut cut
-    refused-with-cut cut = (rw is-turned-away refl, rw is-turned-away refl)
+    refused-with-cut cut = (rw away refl, rw away refl)
 
     -- such a trace is not accepted
     pub refused-answers : (work : List ℕ) → AnswersAsDefined bytes (Refused k e) work
-    refused-answers work = record {
-      answer = rw is-turned-away refl;
-      rows = λ N whole.
-          absurd
-          (no-records N (sym (accepted-exactly bytes N .1 whole) ∙ is-turned-away)
-          (accepted-events bytes N whole .some-record));
-    }
-      where
-        no-records : (N : ℕ) → accepted N ≡ turnedAway k e → suc 0 ≤ N → ⊥
-        no-records N same some = omega (arith, ap recordsIn same)
+    refused-answers work = record { answer = rw away refl; rows = λ N whole. absurd (clash cc) }
 
   -- ---- all records of an accepted trace
 
   module _
       (threads locations N : ℕ) (tables : List ℕ) (m : Marks) (work : List ℕ)
       (all : AllRead bytes threads locations N tables m work) where
-    is-accepted : readingOf bytes ≡ accepted N
-    is-accepted = accepted-exactly bytes N .1 (all .accepted)
+    is-accepted : begunReading bytes ≡ accepted N
+    is-accepted = begun-accepted-exactly bytes N .1 (all .accepted, all .state .limits .begun)
 
     whole : Accepted (events bytes) N
     whole = all .state .limits .accepted
@@ -113,11 +106,12 @@ module _ (bytes : List ℕ) where
 
     -- the rows after a run that answers v
     rows-there :
-        (v : Verdict) → answers.verdictAnswer v ≡ readingAnswer bytes (readingOf bytes) → AnswersAsDefined bytes v work
+        (v : Verdict) → answers.verdictAnswer v ≡ readingAnswer bytes (begunReading bytes)
+        → AnswersAsDefined bytes v work
     rows-there v answer-is = record {
       answer = answer-is;
       rows = λ M also.
-          let same : N ≡ M = ap recordsIn (sym is-accepted ∙ accepted-exactly bytes M .1 also) in
+          let same : N ≡ M = ap recordsIn (sym is-accepted ∙ also) in
           (w, (refl, subst (λ (K : ℕ). Sim (events bytes) K w) same (all .state)));
     }
 
@@ -223,7 +217,7 @@ module _ (bytes : List ℕ) where
             all-answers threads locations n tables m work all cut right-size,
           )
       over (inr not-1) =
-          let away = stopped .turned-away not-1 in
+          let away = begun-away bytes k n (stopped .turned-away not-1) in
           rw (ne-eqb k 1 not-1) (refused-with-cut k n away cut, refused-answers k n away work)
 
       pub stopped-with-cut :
@@ -237,9 +231,9 @@ module _ (bytes : List ℕ) where
 
   module _ (v : Verdict) (work : List ℕ) (answers-it : AnswersAsDefined bytes v work) (p q : ℕ) where
     -- of an accepted trace of N records: 16, or what the rows say
-    module _ (N : ℕ) (is : readingOf bytes ≡ accepted N) where
+    module _ (N : ℕ) (is : begunReading bytes ≡ accepted N) where
       there : (w : World) × ((w .work ≡ work) × Sim (events bytes) N w)
-      there = answers-it .rows N (accepted-exactly bytes N .0 is)
+      there = answers-it .rows N is
 
       by-stores :
           (p-store q-store : Bool) → store? (events bytes) N p ≡ p-store → store? (events bytes) N q ≡ q-store
@@ -273,7 +267,7 @@ module _ (bytes : List ℕ) where
     ruled-events N (broken l m o) = refl
 
     accepted-standing :
-        (N : ℕ) → readingOf bytes ≡ accepted N → (u : Verdict)
+        (N : ℕ) → begunReading bytes ≡ accepted N → (u : Verdict)
         → answers.verdictAnswer u ≡ readingAnswer bytes (accepted N)
         → answers.orderAnswer (standingAfter u work p q) ≡ standing (events bytes) N p q
     accepted-standing N is (Refused k e) answer-is =
@@ -291,11 +285,11 @@ module _ (bytes : List ℕ) where
     refused-standing k e (Broken count load missing observed kind) answer-is = false-true (ap refused? answer-is)
 
     -- THE ANSWER AFTER A RUN IS THE DEFINITIONS'
-    pub standing-is : answers.orderAnswer (standingAfter v work p q) ≡ readingStanding bytes p q (readingOf bytes)
-    standing-is = by-reading (readingOf bytes) refl (answers-it .answer)
+    pub standing-is : answers.orderAnswer (standingAfter v work p q) ≡ readingStanding bytes p q (begunReading bytes)
+    standing-is = by-reading (begunReading bytes) refl (answers-it .answer)
       where
         by-reading :
-            (r : Reading) → readingOf bytes ≡ r → answers.verdictAnswer v ≡ readingAnswer bytes r
+            (r : Reading) → begunReading bytes ≡ r → answers.verdictAnswer v ≡ readingAnswer bytes r
             → answers.orderAnswer (standingAfter v work p q) ≡ readingStanding bytes p q r
         by-reading (turnedAway k e) is answer-is = refused-standing k e v answer-is
         by-reading (accepted N) is answer-is = accepted-standing N is v answer-is

@@ -42,7 +42,7 @@ use Rattle.judge.specs.Judging.{Stepped}
 module _ (ev : ℕ → Event) (n : ℕ) (w : World) (sim : Sim ev n w) where
   -- the number of the event is the one whose row begins here
   pub event-here : eventAt (w .state .row) ≡ n
-  event-here = omega (arith, sim .numbers .row-is, sim .limits .accepted .some-record)
+  event-here = omega (arith, sim .numbers .row-is, sim .limits .begun)
 
 -- ---- the marks after the event, by the definitions
 

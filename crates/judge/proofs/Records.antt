@@ -2,19 +2,16 @@
 -- other takes the run on by one record. Where no record is left reading answers 1, which no rule of a later event does.
 -- In order: reading taken apart; what turns record n away; the first record; a later one; what is left of the run.
 use mathlib.Core.Path.{_≡_, refl, sym, ap, _∙_, subst}
-use mathlib.Core.Bool.{Bool, true, false, and-false}
+use mathlib.Core.Bool.{Bool, true, false}
 use mathlib.Core.Logic.{_⊎_, inl, inr, _≢_}
 use mathlib.Core.List.{List}
 use Prim.Native.Nat.{ℕ, suc, _+_, _≤_, _<_, _-_}
 use native.Mathlib.Omega.{arith}
 use native.Mathlib.Nat.{not-suc-le-zero}
-use borrow.Author.Tests.{ne-eqb, eqb-true, eqb-false}
-use lib.Dec.{eqb, leb, ltb}
+use borrow.Author.Tests.{eqb-true, eqb-false}
+use lib.Dec.{eqb}
 use lib.ListN.{length}
 use Rattle.record.specs.declared.events.Event.{Event}
-use Rattle.record.specs.declared.events.Event.the-variants.{Begin, Issue, Commit, Load, Clflush, Clwb}
-use Rattle.record.specs.declared.events.Event.the-variants.{Sfence, Mfence, Crash, SkipOn, SkipOff, Locked}
-use Rattle.record.specs.declared.events.Event.the-variants.{Signal, Wait}
 use Rattle.record.specs.declared.events.Fields.{Fields}
 use Rattle.record.specs.declared.reading.Read.{Read}
 use Rattle.record.specs.declared.reading.Read.the-variants.{Record, Refused}
@@ -29,15 +26,14 @@ use Rattle.record.specs.Fields.{fieldsOf}
 use Rattle.record.proofs.Scans.{refusals-some, scan-read, scan-refused}
 use Rattle.record.proofs.Starts.{read-next, read-grows, read-past-end, one-past-end, start-inside}
 use Rattle.model.specs.Rules.{refusal}
-use Rattle.model.specs.Reading.{eventIn, refusalIn, events, passing, endsAt, recordAt, TurnedAwayWith}
-use Rattle.model.proofs.Searching.{test}
+use Rattle.model.specs.Reading.{eventIn, refusalIn, events, passing, recordAt, turnedAway, begunReading}
+use Rattle.model.specs.Reading.{TurnedAwayWith}
+use Rattle.model.proofs.Searching.{same?, test}
 use Rattle.model.proofs.TurnedAway.{passed→, ends-there, unread-there, forbidden-there, passing-there}
+use Rattle.model.proofs.NoBytes.{begun-none, begun-away, no-begin-first}
 use Rattle.area.specs.Cells.{eventAt}
-use Rattle.machine.specs.Arms.{byKind}
-use Rattle.machine.specs.Twin.{State, World, world, threadAt, started, fitsW, signalledW}
-use Rattle.machine.specs.Turning.{empty, loadRule, lockedRule, commitRule, fenceRule, skipRule, signalRule, waitRule}
-use Rattle.machine.specs.Turning.{threadFits, placeFits}
-use Rattle.machine.specs.Turning.{onThread, onPlace, refusalK, refusalW, countsW, beginRefusal}
+use Rattle.machine.specs.Twin.{World, world, started}
+use Rattle.machine.specs.Turning.{refusalW, countsW, beginRefusal}
 use Rattle.machine.specs.Effects.{stepW}
 use Rattle.machine.specs.declared.state.Step.{Step}
 use Rattle.machine.specs.Outcomes.{Outcome, outcome, stepO}
@@ -58,66 +54,6 @@ use Rattle.judge.proofs.Judging.{event-here}
 -- the cursor before the next record
 abbrev pub cursor : ℕ → ℕ → ℕ → Cursor
 cursor j row at = record { stretch = j; row = row; at = at }
-
--- ---- no rule of a later event has number 1
-
-place-not-1 :
-    (fits late no-thread : Bool) (r : ℕ) → r ≢ 1
-    → _≢_ {A = ℕ} (fits gives r else late gives 13 else no-thread gives 7 else 8) 1
-place-not-1 true late no-thread r other = other
-place-not-1 false true no-thread r other = λ is. omega arith
-place-not-1 false false true r other = λ is. omega arith
-place-not-1 false false false r other = λ is. omega arith
-
-pick-not-1 : (b : Bool) (k r : ℕ) → k ≢ 1 → r ≢ 1 → (b gives k else r) ≢ 1
-pick-not-1 true k r first second = first
-pick-not-1 false k r first second = second
-
-on-place-not-1 : (st : State) (t x r : ℕ) → r ≢ 1 → onPlace st t x r ≢ 1
-on-place-not-1 st t x r =
-    place-not-1 (placeFits (st .threads) (st .locations) (st .row) t x) (leb 32768 (st .row)) (leb (st .threads) t) r
-
-on-thread-not-1 : (st : State) (t r : ℕ) → r ≢ 1 → onThread st t r ≢ 1
-on-thread-not-1 st t r =
-    place-not-1 (threadFits (st .threads) (st .row) t) (leb 32768 (st .row)) (leb (st .threads) t) r
-
-0-not-1 : _≢_ {A = ℕ} 0 1
-0-not-1 is-1 = omega arith
-
-rule-not-1 : (w : World) (e : Event) → refusalW w e ≢ 1
-unfolding refusalK byKind
-rule-not-1 w (Begin v a b) = λ is-1. omega arith
-rule-not-1 w (Issue t x) = on-place-not-1 (w .state) t x 0 0-not-1
-rule-not-1 w (Commit t) =
-    on-thread-not-1 (w .state) t (commitRule w t)
-    (pick-not-1 (empty (threadAt w t)) 10 0 (λ is-1. omega arith) 0-not-1)
-rule-not-1 w (Load t x s) =
-    on-place-not-1 (w .state) t x (loadRule w t x s) (pick-not-1 (fitsW w t x s) 0 9 0-not-1 (λ is-1. omega arith))
-rule-not-1 w (Clflush t x) = on-place-not-1 (w .state) t x 0 0-not-1
-rule-not-1 w (Clwb t x) = on-place-not-1 (w .state) t x 0 0-not-1
-rule-not-1 w (Sfence t) = on-thread-not-1 (w .state) t 0 0-not-1
-rule-not-1 w (Mfence t) =
-    on-thread-not-1 (w .state) t (fenceRule w 8 t)
-    (pick-not-1 (empty (threadAt w t)) 0 11 0-not-1 (λ is-1. omega arith))
-rule-not-1 w Crash =
-    pick-not-1 (leb 32768 (w .state .row)) 13 _ (λ is-1. omega arith)
-    (pick-not-1 (eqb (w .state .stretch) 8) 13 0 (λ is-1. omega arith) 0-not-1)
-rule-not-1 w (SkipOn t) =
-    on-thread-not-1 (w .state) t (skipRule w 10 t)
-    (pick-not-1 (threadAt w t .skip) 12 0 (λ is-1. omega arith) 0-not-1)
-rule-not-1 w (SkipOff t) =
-    on-thread-not-1 (w .state) t (skipRule w 11 t)
-    (pick-not-1 (threadAt w t .skip) 0 12 0-not-1 (λ is-1. omega arith))
-rule-not-1 w (Locked t x s) =
-    on-place-not-1 (w .state) t x (lockedRule w t x s)
-    (pick-not-1 (eqb (threadAt w t .oldest) 0) (loadRule w t x s) 11
-    (pick-not-1 (fitsW w t x s) 0 9 0-not-1 (λ is-1. omega arith)) (λ is-1. omega arith))
-rule-not-1 w (Signal t) =
-    on-thread-not-1 (w .state) t (signalRule w t)
-    (pick-not-1 (eqb (threadAt w t .oldest) 0) 0 11 0-not-1 (λ is-1. omega arith))
-rule-not-1 w (Wait t s) =
-    on-thread-not-1 (w .state) t (waitRule w s)
-    (pick-not-1 (signalledW w s) 0 18 0-not-1 (λ is-1. omega arith))
 
 module _ (bytes : List ℕ) where
   -- ---- what reading answered, taken apart
@@ -149,7 +85,8 @@ module _ (bytes : List ℕ) where
 
     module _ (all-pass : (e : ℕ) → e < n → recordAt bytes e ≡ passing) where
       unread-away :
-          (k e : ℕ) → endsAt bytes n ≡ false → readAt bytes (start bytes n) ≡ refused k e → TurnedAwayWith bytes k n
+          (k e : ℕ) → start bytes n ≢ length bytes → readAt bytes (start bytes n) ≡ refused k e
+          → TurnedAwayWith bytes k n
       unread-away k e inside is =
           record { earlier-pass = all-pass; number = unread-there bytes n k e inside is (unread-some k e is) }
 
@@ -177,12 +114,19 @@ module _ (bytes : List ℕ) where
   none-earlier : (e : ℕ) → e < 0 → recordAt bytes e ≡ passing
   none-earlier e inside = absurd (not-suc-le-zero inside)
 
-  began-ended : (k : ℕ) → k ≢ 0 → TurnedAwayWith bytes k 0 → Began bytes (beginEnded k)
+  began-ended : (k : ℕ) → k ≢ 0 → begunReading bytes ≡ turnedAway k 0 → Began bytes (beginEnded k)
   began-ended k some-number away = record { passes = λ none. absurd (some-number none); turned-away = λ _. away }
 
-  pub first-unread : (k e : ℕ) → readAt bytes 0 ≡ refused k e → Began bytes (beginEnded k)
+  pub first-unread : (k : ℕ) → readAt bytes 0 ≡ refused k 0 → Began bytes (beginEnded k)
   unfolding start
-  first-unread k e is = began-ended k (unread-some 0 k e is) (unread-away 0 none-earlier k e refl is)
+  first-unread k is = began-ended k (unread-some 0 k 0 is) (by-size (same? (length bytes) 0))
+    where
+      by-size : (length bytes ≡ 0) ⊎ (length bytes ≢ 0) → begunReading bytes ≡ turnedAway k 0
+      by-size (inl none) =
+          let number : k ≡ 1 = ap refusalIn (sym is ∙ sym (read-past-end bytes 0 (omega arith))) in
+          begun-none bytes none ∙ rw number refl
+      by-size (inr some) =
+          begun-away bytes k 0 (unread-away 0 none-earlier k 0 (λ same. some (sym same)) is)
 
   pub first-forbidden :
       (k : ℕ) (x : Event) (past : ℕ) → readAt bytes 0 ≡ event x past → beginRefusal x ≡ k → k ≢ 0
@@ -190,8 +134,9 @@ module _ (bytes : List ℕ) where
   unfolding start
   first-forbidden k x past is-read is some-number =
       began-ended k some-number
+      (begun-away bytes k 0
       (forbidden-away 0 none-earlier k x past is-read
-      (sym (begin-refusals (events bytes)) ∙ (ap beginRefusal (event-is 0 x past is-read) ∙ is)) some-number)
+      (sym (begin-refusals (events bytes)) ∙ (ap beginRefusal (event-is 0 x past is-read) ∙ is)) some-number))
 
   -- what an accepted begin says
   abbrev begunBy : Fields → ℕ → Begun
@@ -242,20 +187,14 @@ module _ (bytes : List ℕ) where
     at-event x past is = event-is n x past (read-there (event x past) is)
 
     -- the trace ends here exactly where reading answers 1
-    still-inside : (readAt bytes at ≡ refused 1 0 → ⊥) → endsAt bytes n ≡ false
-    still-inside not-1 =
-        let differs : start bytes n ≢ length bytes =
-        λ same. not-1 (sym (read-past-end bytes at (omega (arith, reached .position))))
-        in
-        rw (ne-eqb (start bytes n) (length bytes) differs) (and-false (ltb 0 n))
+    still-inside : (readAt bytes at ≡ refused 1 0 → ⊥) → start bytes n ≢ length bytes
+    still-inside not-1 same = not-1 (sym (read-past-end bytes at (omega (arith, reached .position))))
 
     all-read : length bytes ≤ at → AllRead bytes threads locations n tables m work
     all-read past = record {
       accepted = record {
         all-pass = reached .all-pass;
-        ends =
-            ends-there bytes n (reached .state .limits .accepted .some-record)
-            (omega (arith, start-inside bytes n, reached .position));
+        ends = ends-there bytes n (omega (arith, start-inside bytes n, reached .position));
       };
       stretch = t .stretch;
       row = t .row;
@@ -281,7 +220,9 @@ module _ (bytes : List ℕ) where
         → readAt bytes at ≡ event x past → refusalW w x ≡ k → k ≢ 0
         → Stopped bytes threads locations n k tables' m' work'
     later-forbidden k tables' m' work' x past is-read is some-number = record {
-      all-read = λ is-1. absurd (rule-not-1 w x (is ∙ is-1));
+      all-read = λ is-1.
+          let first = no-begin-first (events bytes) n (rule-is x past is-read ∙ (is ∙ is-1)) .0 in
+          absurd (omega (arith, reached .state .limits .begun));
       turned-away = λ _.
           forbidden-away n (reached .all-pass) k x past (read-there (event x past) is-read)
           (rule-is x past is-read ∙ is) some-number;

@@ -9,7 +9,8 @@ use Prim.Native.Nat.{_≤_}
 use Rattle.record.specs.Parts.{start}
 use Rattle.model.specs.declared.Verdict.{Verdict}
 use Rattle.model.specs.Answers.{verdictAnswer}
-use Rattle.model.specs.Reading.{events, passing, recordAt, readingOf, AcceptedWith, TurnedAwayWith}
+use Rattle.model.specs.Reading.{events, passing, recordAt, accepted, turnedAway, begunReading}
+use Rattle.model.specs.Reading.{AcceptedWith, TurnedAwayWith}
 use Rattle.model.specs.Judge.{readingAnswer}
 use Rattle.machine.specs.declared.state.Machine.{Machine}
 use Rattle.machine.specs.Twin.{World, stateOf, world}
@@ -82,9 +83,10 @@ module _ (bytes : List ℕ) where
     pub passes :
         b .refusal ≡ 0 → (work : List ℕ) → 32768 ≤ length work
         → Reached (b .threads) (b .locations) 1 (startedAt (b .at)) noTables noMarks work
-    pub turned-away : b .refusal ≢ 0 → TurnedAwayWith bytes (b .refusal) 0
+    pub turned-away : b .refusal ≢ 0 → begunReading bytes ≡ turnedAway (b .refusal) 0
 
-  -- at the end: the verdict is the definitions', and of an accepted trace the work area has the rows of its stores
+  -- at the end: the verdict is the definitions', empty bytes being turned away, and of an accepted trace the work area
+  -- has the rows of its stores
   pub record AnswersAsDefined (v : Verdict) (work : List ℕ) : Type 0 where
-    pub answer : verdictAnswer v ≡ readingAnswer bytes (readingOf bytes)
-    pub rows : (N : ℕ) → AcceptedWith bytes N → (w : World) × ((w .work ≡ work) × Sim (events bytes) N w)
+    pub answer : verdictAnswer v ≡ readingAnswer bytes (begunReading bytes)
+    pub rows : (N : ℕ) → begunReading bytes ≡ accepted N → (w : World) × ((w .work ≡ work) × Sim (events bytes) N w)

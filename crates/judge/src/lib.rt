@@ -6,7 +6,7 @@ ghost use mathlib.Core.Bool.{true};
 ghost use Prim.Native.Nat.{ℕ, _≤_};
 ghost use lib.ListN.{length, replicate};
 ghost use Rattle.model.specs.Answers.{verdictAnswer, orderAnswer};
-ghost use Rattle.model.specs.Reading.{events, readingOf, AcceptedWith};
+ghost use Rattle.model.specs.Reading.{events, readingOf, begunReading, AcceptedWith};
 ghost use Rattle.model.specs.Judge.{readingAnswer, readingCut, judgeOf, cutAfter, workAfter};
 ghost use Rattle.model.specs.Judge.{readingStanding, orderOf, orderWorkAfter, store?};
 ghost use Rattle.model.specs.Demand.{Claims, Stands};
@@ -21,7 +21,8 @@ use model::Verdict;
 
 // ---- judging
 
-// The judging over a work area of 32,768 numbers and a cut buffer of 56.
+// The judging over a work area of 32,768 numbers and a cut buffer of 56. Empty bytes are a trace with no events: its
+// least choice is 0 everywhere, and since there is no store, the share is 100.
 fn judge_over(trace: &[u8], area: &mut [u16], cut: &mut [u16]) -> Verdict
     requires { ⌜ length (now area) ≡ 32768 ⌝ }
     requires { ⌜ length (now cut) ≡ 56 ⌝ }
@@ -30,6 +31,14 @@ fn judge_over(trace: &[u8], area: &mut [u16], cut: &mut [u16]) -> Verdict
         ≡ readingCut (now (trace .entry)) (now (cut .entry)) (readingOf (now (trace .entry)))) ⌝ }
     ensures { λ _. ⌜ now (area .exit) ≡ replicate 32768 0 ⌝ }
 {
+    if trace.len() == 0 {
+        area::clear(area);
+        area::clear(cut);
+        return Verdict::Robust {
+            events: 0,
+            share: 100,
+        };
+    }
     let r = run::run(trace, area, cut);
     area::clear(area);
     r
@@ -37,7 +46,8 @@ fn judge_over(trace: &[u8], area: &mut [u16], cut: &mut [u16]) -> Verdict
 
 // Whether a choice of crash points, one per thread and stretch and closed under happens-before, explains the trace's
 // counted loads. The work area is at least 32,768 numbers, else refusal 14; the cut buffer is 56, else 15; then the
-// trace's own refusals. A robust trace's least choice goes to the cut buffer, which is else as lent.
+// trace's own refusals. A robust trace's least choice goes to the cut buffer, which is else as lent. Empty
+// bytes are a robust trace with no events.
 pub fn judge(trace: &[u8], work: &mut [u16], cut: &mut [u16]) -> Verdict
     ensures answer { λ r. ⌜ (verdictAnswer r
         ≡ judgeOf (now (trace .entry)) (length (now (work .entry))) (length (now (cut .entry)))) ⌝ }
@@ -70,7 +80,7 @@ pub fn judge(trace: &[u8], work: &mut [u16], cut: &mut [u16]) -> Verdict
 fn order_over(trace: &[u8], area: &mut [u16], first: u16, second: u16) -> Order
     requires { ⌜ length (now area) ≡ 32768 ⌝ }
     ensures { λ r. ⌜ (orderAnswer r
-        ≡ readingStanding (now (trace .entry)) first second (readingOf (now (trace .entry)))) ⌝ }
+        ≡ readingStanding (now (trace .entry)) first second (begunReading (now (trace .entry)))) ⌝ }
     ensures { λ _. ⌜ now (area .exit) ≡ replicate 32768 0 ⌝ }
 {
     let mut cut: [u16; 56] = [0; 56];
@@ -81,7 +91,7 @@ fn order_over(trace: &[u8], area: &mut [u16], first: u16, second: u16) -> Order
 }
 
 // How the store that event `first` issues stands to that of event `second`. The work area is at least 32,768 numbers,
-// else refusal 14; then the trace's own refusals; then 16 for a number that is no issue.
+// else refusal 14; then 1 for empty bytes, and the trace's own refusals; then 16 for a number that is no issue.
 pub fn order(trace: &[u8], work: &mut [u16], first: u16, second: u16) -> Order
     ensures answer { λ r. ⌜ orderAnswer r ≡ orderOf (now (trace .entry)) (length (now (work .entry))) first second ⌝ }
     ensures work { λ _. ⌜ now (work .exit) ≡ orderWorkAfter (now (work .entry)) ⌝ }

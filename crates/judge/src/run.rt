@@ -3,7 +3,7 @@ ghost use mathlib.Core.Path.{_≡_};
 ghost use lib.ListN.{length};
 ghost use Rattle.record.specs.Answers.{readAnswer};
 ghost use Rattle.area.specs.Cells.{eventAt};
-ghost use Rattle.model.specs.Reading.{refusalIn, readingOf};
+ghost use Rattle.model.specs.Reading.{refusalIn, begunReading};
 ghost use Rattle.model.specs.Judge.{readingCut};
 ghost use Rattle.marks.specs.Marks.{marksOf};
 ghost use Rattle.judge.specs.Runs.{beginEnded, startedAt, numberIn, Began, Reached, After, AnswersAsDefined};
@@ -148,14 +148,14 @@ fn judge_record(
     })
 }
 
-// All records, and the verdict. The machine's tables and the marks are arrays of this call, so that the compiler knows
-// them apart from the work area; and the work area is lent on at a constant length, so that it drops the tests of that
-// length from every read and store.
+// All records, and the verdict; empty bytes are refused with 1. The machine's tables and the marks are arrays of this
+// call, so that the compiler knows them apart from the work area; and the work area is lent on at a constant length, so
+// that it drops the tests of that length from every read and store.
 pub(crate) fn run(trace: &[u8], work: &mut [u16], cut: &mut [u16]) -> Verdict
     requires { ⌜ (length (now work) ≡ 32768) × (length (now cut) ≡ 56) ⌝ }
     ensures { λ r. ⌜ AnswersAsDefined (now (trace .entry)) r (now (work .exit)) ⌝ }
     ensures { λ _. ⌜ (now (cut .exit)
-        ≡ readingCut (now (trace .entry)) (now (cut .entry)) (readingOf (now (trace .entry)))) ⌝ }
+        ≡ readingCut (now (trace .entry)) (now (cut .entry)) (begunReading (now (trace .entry)))) ⌝ }
 {
     let size: usize = 32768;
     let b = begin(trace);

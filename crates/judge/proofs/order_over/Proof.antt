@@ -1,11 +1,9 @@
 -- `order_over` meets its contract: what is answered after the run is what the definitions say (proofs/Endings.antt),
 -- and then the area is cleared.
 use mathlib.Core.Path.{ap, _∙_}
-use Prim.Native.Nat.{ℕ}
 use borrow.Author.Needs.{needs}
-use lib.ListN.{replicate}
 use Rattle.model.specs.Answers.{orderAnswer}
-use Rattle.judge.proofs.Endings.{standing-is}
+use Rattle.judge.proofs.Endings.{all-cleared, standing-is}
 use Rattle.judge.proofs.order_over.Statement.{statement}
 use Rattle.judge.proofs.order_over.Tie as tie
 
@@ -34,7 +32,7 @@ returns c =
       ap orderAnswer (at-standing .standing .ensures)
           ∙ standing-is (entry .args .trace .now) (ran .result) (ran .last .1 .0) (ran .ensures .0) (entry .args .first)
           (entry .args .second),
-      at-clear .clear .ensures ∙ ap (λ (n : ℕ). replicate n 0) (ran .kept .1 .0 ∙ entry .pre),
+      all-cleared _ _ 32768 (at-clear .clear .ensures) (ran .kept .1 .0 ∙ entry .pre),
     )
 
 pub order-over-spec : {M : Type 1} → statement M

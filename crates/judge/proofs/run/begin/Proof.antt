@@ -37,7 +37,7 @@ returns c =
     was-refused bytes (at-read .read-at .result) 0 (told .0 .0) k (at-read .read-at .ensures) (told .1)
     (at-number .number-of .ensures)
     in
-    rw (c .refuse .ensures) (first-unread bytes k 0 unread)
+    rw (c .refuse .ensures) (first-unread bytes k unread)
 
 fields-of-requires : tie.Need-fields-of-requires
 fields-of-requires c κs = search needs

@@ -10,7 +10,7 @@ use lib.ListN.{length, take, drop}
 use lib.Seq.{take-all, drop-length, length-take-le}
 use Rattle.area.specs.Cells.{eventAt}
 use Rattle.model.specs.declared.Verdict.{Verdict}
-use Rattle.model.specs.Reading.{readingOf}
+use Rattle.model.specs.Reading.{begunReading}
 use Rattle.model.specs.Judge.{readingCut}
 use Rattle.marks.specs.Marks.{Marks, marksOf}
 use Rattle.judge.specs.declared.run.Begun.{Begun}
@@ -56,7 +56,7 @@ answered :
     → end ≡ record { number = k; event = n }
     → v ≡ verdictAfter bytes end tables m part
     → cut' ≡ cutFrom end (m .counts) cut
-    → AnswersAsDefined bytes v work × (cut' ≡ readingCut bytes cut₀ (readingOf bytes))
+    → AnswersAsDefined bytes v work × (cut' ≡ readingCut bytes cut₀ (begunReading bytes))
 answered bytes threads locations n k tables m work part cut₀ cut cut' end v stopped size lent all end-is v-is cut-is =
     rw (v-is, cut-is, end-is, all, lent) (
       stopped-answers bytes threads locations n k tables m work stopped cut₀ size,
