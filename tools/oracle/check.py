@@ -7,15 +7,18 @@ from __future__ import annotations
 
 from collections import Counter
 from dataclasses import replace
+from itertools import product
 from typing import Optional
 
 import generate
 import oracle
 import sessions
 from check_lines import check_kind, check_renamed, line_features
+from lines import verdict_lines
 from oracle import Answer, Broken, Event, Machine, Refused, Robust, Window
 
 NAMED = {oracle.LOCKED: ", locked", oracle.SIGNAL: ", signal", oracle.WAIT: ", wait"}  # kinds counted apart
+NOTHING = Robust(0, (0,) * oracle.CUT_NUMBERS, 100)  # "robust, all-zero cut, share 100, `events 0`"
 
 
 def read_events(data: bytes) -> list[Event]:
@@ -57,11 +60,11 @@ def check_neutral(events: list[Event], answer: Answer, dropped: set[int]) -> Non
     """ "in an accepted trace flush records never move a verdict, apart from shifting event numbers", nor do the other
     records that are dropped here. """
     shorter, new = without(events, dropped)
-    other = oracle.judge(shorter)
+    other, last = oracle.judge(shorter), max(new.values(), default=0)
     if isinstance(answer, Robust):
-        assert other == Robust(max(new.values()), answer.cut, answer.share)
+        assert other == Robust(last, answer.cut, answer.share)
     else:
-        assert other == Broken(max(new.values()), new[answer.load], new[answer.missing], new[answer.observed],
+        assert other == Broken(last, new[answer.load], new[answer.missing], new[answer.observed],
                                answer.kind, answer.primary, carried(answer.windows, new))
 
 
@@ -225,7 +228,9 @@ def brought_by_observed(data: bytes, events: list[Event], p: int, q: int) -> boo
 
 
 def check_order(data: bytes, m: Machine) -> None:
-    """The order answers fit each other, and what happens before has a smaller number and is committed earlier."""
+    """The order answers fit each other, and what happens before has a smaller number and is committed earlier. A query
+    of 0, which is no issue, gets 16; of no bytes it is turned away with 1."""
+    assert oracle.order(data, 0, 0) == Refused(16 if data else 1, 0)
     opposite = {"before": "after", "after": "before", "same": "same", "neither": "neither"}
     for p in m.stores.values():
         for q in m.stores.values():
@@ -249,12 +254,29 @@ def check_records(data: bytes) -> None:
         number += 1
 
 
+def check_first(data: bytes, answer: Answer) -> None:
+    """ "1 in judging only for bytes that begin with some other record." """
+    first = oracle.read_record(data)
+    assert (answer == Refused(1, 0)) == (isinstance(first, Event) and first.kind != oracle.BEGIN)
+
+
+def check_no_bytes(answer: Answer) -> None:
+    """ "For judging, empty bytes mean a trace with no events: robust, all-zero cut, share 100, `events 0`. Other calls
+    still turn it away." No stretch is finished, so there is no cut line. """
+    assert answer == oracle.judge_closure(b"") == NOTHING
+    assert verdict_lines(b"") == ["events 0", "verdict robust", "share 100"]
+    assert oracle.read_record(b"") == Refused(1, 0) and oracle.record_part(b"", 0) == b""
+    for first, second in product((0, 1, 2, 65535), repeat=2):
+        assert oracle.order(b"", first, second) == Refused(1, 0)
+
+
 def check_refusal(data: bytes, answer: Refused) -> None:
-    """The records before the refused one are accepted, and bytes after it change nothing unless bytes were missing."""
+    """The records before the refused one, which may be none, are accepted, and bytes after it change nothing unless
+    bytes were missing. The order query gets the same refusal."""
     if answer.number != 2:
-        assert oracle.judge(data + b"\x02\x00\x09\x00") == answer or not data
-    if answer.event > 0:
-        assert not isinstance(oracle.run(oracle.prefix(data, answer.event - 1)), Refused)
+        assert oracle.judge(data + b"\x02\x00\x09\x00") == answer
+    assert not isinstance(oracle.run(oracle.prefix(data, answer.event - 1)), Refused)
+    assert oracle.order(data, 0, 0) == answer
 
 
 def features(m: Machine, answer: Answer) -> list[str]:
@@ -341,6 +363,7 @@ def window_features(m: Machine, answer: Broken) -> list[str]:
 def check(data: bytes, answer: Answer, counts: Counter) -> None:
     """All checks of one session."""
     check_records(data)
+    check_first(data, answer)
     assert oracle.judge_closure(data) == answer
     if isinstance(answer, Refused):
         last = oracle.read_record(oracle.record_part(data, answer.event))
@@ -349,6 +372,10 @@ def check(data: bytes, answer: Answer, counts: Counter) -> None:
         check_refusal(data, answer)
         return
     events, m = read_events(data), oracle.run(data)
+    counts["no bytes"] += not data
+    counts["a begin alone"] += len(events) == 1
+    if not data:
+        check_no_bytes(answer)
     counts[f"broken {answer.kind}" if isinstance(answer, Broken) else "robust"] += 1
     counts.update(features(m, answer) + line_features(m, answer) + check_renamed(events, m, answer))
     flushes = of_kinds(events, (oracle.CLFLUSH, oracle.CLFLUSHOPT))

@@ -55,12 +55,11 @@ def check_kind(m: Machine, answer: Broken) -> None:
 
 
 def renamed(events: list[Event], new: Callable[[int], int], locations: int) -> bytes:
-    """The trace with other locations."""
-    version, threads, _ = events[0].fields
-    changed = [Event(event.kind, tuple(new(value) if name == "location" else value
+    """The trace with other locations, and so many in its begin, if it has one."""
+    changed = [Event(event.kind, tuple(new(value) if name == "location" else locations if name == "locations" else value
                                        for name, value in zip(oracle.KINDS[event.kind][1], event.fields)))
-               for event in events[1:]]
-    return generate.encode_all([Event(oracle.BEGIN, (version, threads, locations)), *changed])
+               for event in events]
+    return generate.encode_all(changed)
 
 
 def check_renamed(events: list[Event], m: Machine, answer: Answer) -> list[str]:

@@ -111,17 +111,23 @@ def place_of_fault(rng: Random, events: list[Event], number: int) -> int:
     return rng.randint(crashes[0] + 1 if number == 18 and crashes and rng.random() < 0.7 else 1, len(events))
 
 
+def without_begin(rng: Random, events: list[Event]) -> bytes:
+    """ "bytes that begin with some other record" than a begin: all records behind it, the first of them alone, or one
+    of them in front of it. """
+    others = events[1:]
+    return encode_all(rng.choice([others, others, others[:1], [rng.choice(others), *events]]))
+
+
 def with_fault(rng: Random, limits: Limits, number: int) -> bytes:
     """An accepted trace with one record put in, taken out or changed so that a wanted refusal may apply."""
     events = Builder(rng, limits).build()
     at = place_of_fault(rng, events, number)
     front, rest = encode_all(events[:at]), encode_all(events[at:])
     if number == 1:
-        return b"" if rng.random() < 0.2 else encode_all(events[1:])
-    if number == 2:
-        return front + wrong_bytes(rng, 2)
-    if number in (3, 4):
-        return (front if rng.random() < 0.8 else b"") + wrong_bytes(rng, number) + rest
+        return without_begin(rng, events)
+    if number in (2, 3, 4):
+        readable = front if rng.random() < 0.8 else b""
+        return readable + wrong_bytes(rng, number) + (b"" if number == 2 else rest)
     if number == 6:
         fields = rng.choice([(1, 0, 2), (1, 9, 2), (1, 1, 0), (1, 1, 257), (0, 1, 2), (2, 1, 2), (256, 1, 2),
                              (1, 257, 1), (1, 1, 513), (65535, 65535, 65535)])
@@ -148,9 +154,10 @@ def near_miss(rng: Random, limits: Limits) -> bytes:
 # ---- Damaged and random bytes ----
 
 def damaged(rng: Random, limits: Limits) -> bytes:
-    """A trace with a changed, lost or added byte, or with records swapped, doubled or lost; or random bytes."""
+    """A trace with a changed, lost or added byte, or with records swapped, doubled or lost; or random bytes, some of
+    them one to three only."""
     events = Builder(rng, limits).build()
-    data, way = bytearray(encode_all(events)), rng.randrange(9)
+    data, way = bytearray(encode_all(events)), rng.randrange(10)
     at, record = rng.randrange(len(data)), rng.randrange(1, len(events))
     if way == 0:
         data[at] = rng.choice([0, 1, 2, 4, 6, 8, rng.randrange(256)])
@@ -165,12 +172,14 @@ def damaged(rng: Random, limits: Limits) -> bytes:
     elif way == 5:
         data = data[:10] + bytes(rng.randrange(15) for _ in range(rng.randrange(20)))
     elif way == 6:
-        events[record:record + 2] = reversed(events[record:record + 2])
+        data = bytearray(rng.choice([0, 0, 1, 2, 8, rng.randrange(256)]) for _ in range(rng.randint(1, 3)))
     elif way == 7:
+        events[record:record + 2] = reversed(events[record:record + 2])
+    elif way == 8:
         events.insert(record, rng.choice(events))
     else:
         del events[record]
-    return encode_all(events) if way >= 6 else bytes(data)
+    return encode_all(events) if way >= 7 else bytes(data)
 
 
 # ---- The stream of sessions ----
@@ -203,7 +212,10 @@ def handed_over(m: Machine, answer: Answer) -> bool:
 
 
 def accepted(rng: Random, limits: Limits) -> bytes:
-    """An accepted trace; several are tried to get what is drawn from WISHES, so that the verdicts are balanced."""
+    """An accepted trace; several are tried to get what is drawn from WISHES, so that the verdicts are balanced. One in
+    a hundred is no bytes ("empty bytes mean a trace with no events") or a begin alone."""
+    if rng.random() < 0.01:
+        return rng.choice([b"", encode_all(Builder(rng, limits).events)])
     wish = rng.choice(WISHES)
     for _ in range(20):
         data = encode_all(Builder(rng, limits).build())

@@ -7,7 +7,7 @@ from oracle import MAX_INPUT, Answer, Broken, Refused, judge, run
 
 def answer_lines(answer: Answer, finished: int, threads: int) -> list[str]:
     """The lines of the program `verdict` for an answer: "one cut line per finished stretch: its number, then each
-    thread's count"; "`refused` gives number and event, and is then the only line". """
+    thread's count", so none for no bytes; "`refused` gives number and event, and is then the only line". """
     if isinstance(answer, Refused):
         return [f"refused {answer.number} {answer.event}"]
     if isinstance(answer, Broken):

@@ -1,8 +1,8 @@
 """Wrong judges, and how many generated sessions tell each from the oracle: `python3 mutants.py SEED COUNT [switches]`.
 
 Each wrong judge replaces one or two functions of the oracle; judge_closure then runs with them. Those of hand-overs are
-in wrong_hand_overs.py, those of cache lines in wrong_lines.py. A wrong judge with count 0 would show that the generator
-misses an error.
+in wrong_hand_overs.py, those of cache lines in wrong_lines.py, those of no bytes in wrong_empty.py. A wrong judge with
+count 0 would show that the generator misses an error.
 """
 
 from __future__ import annotations
@@ -15,10 +15,11 @@ from typing import Callable, Iterator, Optional
 import generate
 import oracle
 from oracle import Event, Load, Machine, Refused, Store
+from wrong_empty import EMPTY
 from wrong_hand_overs import HAND_OVERS, signals_before
 from wrong_lines import LINES
 
-TRUE = {name: getattr(oracle, name) for name in ("directly_before", "happens_before", "forbids", "observes",
+TRUE = {name: getattr(oracle, name) for name in ("run", "directly_before", "happens_before", "forbids", "observes",
                                                 "legal_sources", "take_effect", "general_refusal", "own_refusal",
                                                 "smallest_pair", "robust_answer", "broken_answer", "first_place",
                                                 "last_place", "window", "order", "line", "kind_of", "COMMITS")}
@@ -339,7 +340,7 @@ MUTANTS: dict[str, dict[str, object]] = {
     "locked: its own store forbidden": {"forbids": own_store_forbidden},
     "locked: first place inside": {"first_place": first_at_locked},
     "locked: brings nothing": {"first_place": locked_brings_nothing},
-} | HAND_OVERS | LINES
+} | HAND_OVERS | LINES | EMPTY
 
 
 @contextmanager
@@ -356,7 +357,7 @@ def replaced(functions: dict[str, object]) -> Iterator[None]:
 
 def differs(data: bytes, answer: oracle.Answer, functions: dict[str, object]) -> bool:
     """Whether the wrong judge gives another answer; one that stumbles counts too. One that is wrong in queries is asked
-    those that name a signal or a wait."""
+    queries, too."""
     with replaced(functions):
         try:
             return oracle.judge_closure(data) != answer or ("order" in functions and queries_differ(data))
@@ -365,9 +366,12 @@ def differs(data: bytes, answer: oracle.Answer, functions: dict[str, object]) ->
 
 
 def queries_differ(data: bytes) -> bool:
-    """Whether a query that names a signal or a wait of an accepted trace gets another answer than 16."""
-    m = oracle.run(data)
-    numbers = [] if isinstance(m, Refused) else [*m.signals, *(wait.event for wait in m.waits)]
+    """Whether a query gets another answer than it must: 16, if it names a signal or a wait of an accepted trace; the
+    trace's own refusal; 1, if there are no bytes."""
+    m = oracle.run(data) if data else Refused(1, 0)
+    if isinstance(m, Refused):
+        return any(oracle.order(data, number, number) != m for number in (0, 1, 65535))
+    numbers = [*m.signals, *(wait.event for wait in m.waits)]
     return any(oracle.order(data, number, number) != Refused(16, 0) for number in numbers)
 
 

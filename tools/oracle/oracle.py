@@ -3,8 +3,8 @@
 Every function states one sentence of document 01 ("A judge of store order across crashes") and computes it in the
 most direct way: queues are queues, happens-before is a graph search, and the verdict comes from trying all choices.
 The windows of a flush fault are document 02's, job 1; locked operations, kind 12, are its job 2; signals and waits,
-kinds 13 and 14, its job 4; pairs on one cache line its job 5. Refusals 14 and 15 (sizes of lent buffers) are not
-treated here.
+kinds 13 and 14, its job 4; pairs on one cache line its job 5; no bytes its job 6. Refusals 14 and 15 (sizes of lent
+buffers) are not treated here.
 """
 
 from __future__ import annotations
@@ -93,11 +93,12 @@ class Wait:
 
 @dataclass
 class Machine:
-    """ "The trace starts with empty queues, no skips and no commits." Stretches are "numbered from 1". """
+    """ "The trace starts with empty queues, no skips and no commits." Stretches are "numbered from 1". Before the
+    begin, so for "a trace with no events" too (job 6), there are no threads and no locations, and `events 0`. """
 
     threads: int = 0
     locations: int = 0
-    events: int = -1  # number of the last event; "Events after begin"
+    events: int = 0  # number of the last event; "Events after begin"
     stretch: int = 1
     queues: list[deque[int]] = field(default_factory=list)
     memory: dict[int, list[int]] = field(default_factory=dict)  # location -> stores committed in this stretch
@@ -130,7 +131,8 @@ def legal_sources(m: Machine, thread: int, location: int) -> tuple[list[int], bo
 
 
 def general_refusal(m: Machine, number: int, event: Event) -> int:
-    """ "Order: ... 1, 5, 13, 6, 7, 8, and the kind's own rule": the refusal before the kind's own rule, or 0. """
+    """ "Order: ... 1, 5, 13, 6, 7, 8, and the kind's own rule": the refusal before the kind's own rule, or 0. Job 6: "1
+    in judging only for bytes that begin with some other record." """
     if number == 0 and event.kind != BEGIN:
         return 1
     if number > 0 and event.kind == BEGIN:
@@ -220,9 +222,8 @@ def take_effect(m: Machine, number: int, event: Event) -> None:
 
 def run(data: bytes) -> Union[Machine, Refused]:
     """ "A record that can't be read ends the judging there with its refusal." "A trace is accepted if no refusal over
-    its records (1 to 13 here) applies", nor 18. """
-    if not data:
-        return Refused(1, 0)
+    its records (1 to 13 here) applies", nor 18. Job 6: "For judging, empty bytes mean a trace with no events": no
+    refusal applies over no records. """
     m, at, number = Machine(), 0, 0
     while at < len(data):
         record = frame_at(data, at)
@@ -238,7 +239,7 @@ def run(data: bytes) -> Union[Machine, Refused]:
 
 
 def prefix(data: bytes, last: int) -> bytes:
-    """The bytes of "records 0 to" `last`, for a trace that has them."""
+    """The bytes of "records 0 to" `last`, for a trace that has them; none for -1."""
     at = 0
     for _ in range(last + 1):
         at += 2 + number_at(data, at)
@@ -281,8 +282,9 @@ def happens_before(m: Machine) -> dict[int, set[int]]:
 
 def order(data: bytes, first: int, second: int) -> Union[str, Refused]:
     """ "The order query takes a trace, a work area and two event numbers: before, after, same, neither."
-    The trace's own refusal comes first, then 16: "query number is no issue". """
-    m = run(data)
+    The trace's own refusal comes first, then 16: "query number is no issue". Job 6, of empty bytes: "Other calls still
+    turn it away", with 1, "no record". """
+    m = run(data) if data else Refused(1, 0)
     if isinstance(m, Refused):
         return m
     if first not in m.stores or second not in m.stores:
@@ -325,7 +327,7 @@ def choices_size(m: Machine) -> int:
 
 def all_choices(m: Machine) -> Iterator[Choice]:
     """ "A choice gives each finished stretch and thread a count (the thread's crash point), at most its commits
-    there" """
+    there": where no stretch is finished there is one, of no counts. """
     return product(*(range(commits_at(m, place) + 1) for place in places(m)))
 
 
@@ -412,7 +414,8 @@ def least(choices: list[Choice]) -> Choice:
 
 def robust_answer(m: Machine, choice: Choice) -> Robust:
     """ "stretch j, thread t stands at 8 × (j − 1) + t, the rest 0. Share: the percentage of stores committed in
-    finished stretches that are in the least choice, rounded down; 100 if there are none." """
+    finished stretches that are in the least choice, rounded down; 100 if there are none." So for "a trace with no
+    events", job 6: "robust, all-zero cut, share 100, `events 0`". """
     cut = [0] * CUT_NUMBERS
     for (stretch, thread), count in zip(places(m), choice):
         cut[8 * (stretch - 1) + thread] = count

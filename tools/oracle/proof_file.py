@@ -6,6 +6,7 @@ python3 proof_file.py windows > ../../crates/model/proofs/CasesOfWindows.antt
 python3 proof_file.py locked > ../../crates/model/proofs/CasesOfLocked.antt
 python3 proof_file.py handed > ../../crates/model/proofs/CasesOfHandOver.antt
 python3 proof_file.py one_line > ../../crates/model/proofs/CasesOfOneLine.antt
+python3 proof_file.py no_bytes > ../../crates/model/proofs/CasesOfNoBytes.antt
 python3 proof_file.py random SEED COUNT > ../../crates/model/proofs/RandomSessions.antt
 
 The expected answers of the random sessions come from the brute force of oracle.py; those of all others are the ones
@@ -23,7 +24,7 @@ import generate
 import oracle
 from lines import lines_with_windows
 from oracle import Event, Refused
-from sessions import CASES, ERRORS, HANDED, LOCKED, ONE_LINE, WINDOWS
+from sessions import CASES, ERRORS, HANDED, LOCKED, NO_BYTES, ONE_LINE, WINDOWS
 
 CONSTRUCTORS = {oracle.BEGIN: "Begin", oracle.ISSUE: "Issue", oracle.COMMIT: "Commit", oracle.LOAD: "Load",
                 oracle.CLFLUSH: "Clflush", oracle.CLFLUSHOPT: "Clwb", oracle.SFENCE: "Sfence", oracle.MFENCE: "Mfence",
@@ -31,10 +32,10 @@ CONSTRUCTORS = {oracle.BEGIN: "Begin", oracle.ISSUE: "Issue", oracle.COMMIT: "Co
                 oracle.SIGNAL: "Signal", oracle.WAIT: "Wait"}
 
 LISTS = {"cases": CASES, "trade": ERRORS, "windows": WINDOWS, "locked": LOCKED, "handed": HANDED,
-         "one_line": ONE_LINE}
+         "one_line": ONE_LINE, "no_bytes": NO_BYTES}
 THEOREMS = {"cases": "cases-1-to-11", "trade": "errors-of-the-trade", "windows": "windows-as-worked",
             "locked": "locked-as-worked", "handed": "handed-as-worked", "one_line": "one-line-as-worked",
-            "random": "random-sessions"}
+            "no_bytes": "no-bytes-as-worked", "random": "random-sessions"}
 
 # What stands on top of the file, and behind it SHOWN.
 HEADERS = {
@@ -55,6 +56,9 @@ HEADERS = {
     "one_line": """Document 02, job 5, "Two stores on one line": a session for each thing that puts missing and observed
         on one line or on two, or decides between the kinds. The definitions give their bytes the answers that follow
         from documents 01 and 02, and the cut buffers.""",
+    "no_bytes": """Document 02, job 6, "A recorder that never started": no bytes, and bytes that are nearly none, each
+        with what tells it from them. The definitions give them the answers that follow from documents 01 and 02, and
+        the cut buffers. Some are no records, so the answers are computed from the bytes themselves.""",
     "random": """Random sessions: the definitions give their bytes the answers of an independent brute force over all
         choices (tools/oracle).""",
 }
@@ -96,6 +100,33 @@ computed = refl
 pub %s : map outcomeOf sessions ≡ answers
 unfolding traces
 %s = ap (map outcomeOf) (sym encoded) ∙ (outcome-all traces refl ∙ computed)"""
+
+
+# The same for bytes that need not be records.
+BYTES_IMPORTS = """use mathlib.Core.Path.{_≡_, refl}
+use mathlib.Core.List.{List, [], _∷_, map}
+use Prim.Native.Nat.{ℕ}
+use Rattle.record.specs.Reading.{readAt, readFirst, readFramed, frame}
+use Rattle.record.specs.Parts.{start, sizeAt}
+use Rattle.record.specs.Table.{rowOf}
+use Rattle.record.specs.Fields.{eventOf}
+use Rattle.model.specs.Search.{some, any, first, firstFrom, most}
+use Rattle.model.specs.Trace.{stretch, count}
+use Rattle.model.specs.Machine.{counted, counting}
+use Rattle.model.specs.Rules.{answer, rules}
+use Rattle.model.specs.Choice.{finished}
+use Rattle.model.specs.Verdict.{forbidden?, observed?, pair?, missing?, bad?, closure, rulingOf}
+use Rattle.model.specs.Answers.{%s}
+use Rattle.model.specs.Answers.{tabulate, cutOf, sum, shareOf}
+use Rattle.model.specs.Reading.{events, recordAt, stop, readingOf}
+use Rattle.model.specs.Judge.{judgeOf, cutAfter}
+use Rattle.model.proofs.Sessions.{%s, Outcome, outcomeOf}"""
+
+BYTES_THEOREM = """pub %s : map outcomeOf sessions ≡ answers
+unfolding sessions answers judgeOf cutAfter readingOf stop recordAt events some any first firstFrom most answer rules
+    readAt readFirst readFramed frame start sizeAt rowOf eventOf stretch count counted counting finished forbidden?
+    observed? pair? missing? bad? closure rulingOf tabulate cutOf sum shareOf
+%s = refl"""
 
 
 def events_of(data: bytes) -> list[Event]:
@@ -210,6 +241,18 @@ def proof_file(which: str, listed: list[tuple[str, bytes, list[str]]]) -> str:
         THEOREM % (name, name)]) + "\n"
 
 
+def bytes_file(which: str, listed: list[tuple[str, bytes, list[str]]]) -> str:
+    """The whole file of bytes that need not be records."""
+    bytes_ = [(title, wrapped(map(str, data), "    ")) for title, data, _ in listed]
+    answers = [(title, shown_answer(lines)) for title, _, lines in listed]
+    entries = [entry for _, entry in answers]
+    return "\n\n".join([
+        header(which) + "\n" + BYTES_IMPORTS % (named("refused robust", entries), named("lent zeros", entries)),
+        "-- the bytes\n" + "pub " + table("sessions", "(List ℕ)", bytes_),
+        "-- the answers, and the cut buffers afterwards\n" + "pub " + table("answers", "Outcome", answers),
+        BYTES_THEOREM % (THEOREMS[which], THEOREMS[which])]) + "\n"
+
+
 def random_sessions(seed: int, count: int) -> list[tuple[str, bytes, list[str]]]:
     """Sessions that can be read whole, with the brute force's lines."""
     drawn = generate.generate(seed, 4 * count, generate.Limits())
@@ -219,23 +262,24 @@ def random_sessions(seed: int, count: int) -> list[tuple[str, bytes, list[str]]]
 
 
 def readable(data: bytes) -> bool:
-    """The bytes are records of known kinds, one behind the other, at least one."""
+    """The bytes are records of known kinds, one behind the other, or none."""
     at = 0
     while at < len(data):
         event = oracle.read_record(data[at:])
         if isinstance(event, Refused):
             return False
         at += len(oracle.encode(event))
-    return at > 0
+    return True
 
 
 def main() -> None:
     """Print the file."""
     which = sys.argv[1]
-    if which in LISTS:
-        print(proof_file(which, [(name, data, lines.split(" / ")) for name, data, lines in LISTS[which]]), end="")
-    else:
+    if which == "random":
         print(proof_file(which, random_sessions(int(sys.argv[2]), int(sys.argv[3]))), end="")
+        return
+    listed = [(name, data, lines.split(" / ")) for name, data, lines in LISTS[which]]
+    print((bytes_file if which == "no_bytes" else proof_file)(which, listed), end="")
 
 
 if __name__ == "__main__":

@@ -83,7 +83,7 @@ def decode(record: bytes) -> Union[Event, int]:
 
 def read_record(data: bytes) -> Union[Event, Refused]:
     """ "Reading one record alone, the first of the bytes given, ignores what follows it and gives its event, or
-    1 (no bytes), 2, 3 or 4, with event 0." """
+    1 (no bytes), 2, 3 or 4, with event 0." Document 02, job 6, of empty bytes: "Other calls still turn it away." """
     if not data:
         return Refused(1, 0)
     record = frame_at(data, 0)

@@ -16,8 +16,8 @@ import generate
 import oracle
 from lines import lines_with_windows
 from oracle import Refused
-from sessions import CASES, EDGES, ERRORS, HANDED, LOCKED, LOOKUPS, MORE_REFUSALS, ONE_LINE, ORDERS, REFUSALS, WINDOWS
-from sessions import show, without_windows
+from sessions import CASES, EDGES, ERRORS, HANDED, LOCKED, LOOKUPS, MORE_REFUSALS, NO_BYTES, ONE_LINE, ORDERS
+from sessions import REFUSALS, WINDOWS, body, show, without_windows
 
 LONGEST = 32767  # the program's room for a trace; the program `verdict` is run on longer input by tests/verdict
 SEED = 2027
@@ -43,7 +43,7 @@ def listed() -> list[Pair]:
     for name, data, expected in CASES + REFUSALS + MORE_REFUSALS + EDGES + ERRORS:
         if len(data) <= LONGEST:
             pairs += judged("j", name, data, without_windows(expected))
-    for name, data, expected in WINDOWS + LOCKED + LOOKUPS + HANDED + ONE_LINE:
+    for name, data, expected in WINDOWS + LOCKED + LOOKUPS + HANDED + ONE_LINE + NO_BYTES:
         pairs += judged("w", name, data, expected.split(" / "))
     for name, data, first, second, answer in ORDERS:
         pairs.append((f"# order: {name}", [f"# order: {name}"]))
@@ -53,11 +53,13 @@ def listed() -> list[Pair]:
 
 def with_buffers() -> list[Pair]:
     """ "14, 15; then per record"; "refusals 14 and 15 touch nothing"; a refusal and broken leave the cut buffer as
-    lent; afterwards the work area's "first 32,768 are 0 and the rest untouched". No number of a buffer is 0 before. """
+    lent; afterwards the work area's "first 32,768 are 0 and the rest untouched". No number of a buffer is 0 before. Of
+    no bytes, document 02, job 6: "robust, all-zero cut, share 100, `events 0`". """
     robust, broken, refused = CASES[1][1], CASES[0][1], CASES[7][1]
     lines = {data: without_windows(expected) for _, data, expected in CASES}
     cleared, kept = 32768, 0
-    cut_of_robust = 56 - 1
+    cut_of_robust, cut_of_none = 56 - 1, 56
+    none = ["events 0", "verdict robust", "share 100"]
     table = [
         ("work area of 32,767 numbers", 32767, 56, robust, ["refused 14 0"], kept, 0),
         ("no work area", 0, 56, robust, ["refused 14 0"], kept, 0),
@@ -71,7 +73,13 @@ def with_buffers() -> list[Pair]:
         ("robust, with a larger work area", 32770, 56, robust, lines[robust], cleared, cut_of_robust),
         ("broken", 32769, 56, broken, lines[broken], cleared, 0),
         ("refused", 32769, 56, refused, lines[refused], cleared, 0),
-        ("no bytes", 32768, 56, b"", ["refused 1 0"], cleared, 0),
+        ("no bytes", 32768, 56, b"", none, cleared, cut_of_none),
+        ("a larger work area for no bytes", 32770, 56, b"", none, cleared, cut_of_none),
+        ("a work area of 32,767 numbers for no bytes", 32767, 56, b"", ["refused 14 0"], kept, 0),
+        ("a cut buffer of 55 numbers for no bytes", 32768, 55, b"", ["refused 15 0"], kept, 0),
+        ("a cut buffer of 57 numbers for no bytes", 32768, 57, b"", ["refused 15 0"], kept, 0),
+        ("neither buffer for no bytes: 14 before 15", 0, 0, b"", ["refused 14 0"], kept, 0),
+        ("a crash and no begin", 32768, 56, body("X"), ["refused 1 0"], cleared, 0),
     ]
     pairs: list[Pair] = []
     for name, work, cut, data, expected, work_zeros, cut_zeros in table:
@@ -90,12 +98,13 @@ def random_judged() -> list[Pair]:
 
 
 def random_ordered() -> list[Pair]:
-    """Order queries between the first five stores of random accepted sessions, and to a number that is no store."""
+    """Order queries between the first five stores of random accepted sessions, and to a number that is no store; of a
+    session without stores one from 1 to 0."""
     pairs: list[Pair] = []
     for data, _ in generate.generate(SEED + 1, RANDOM_ORDERED, generate.Limits(only="accepted")):
         pairs.append(("# order: " + show(data), ["# order: " + show(data)]))
         stores = sorted(oracle.run(data).stores)[:5]
-        for first in stores:
+        for first in stores or [1]:
             for second in stores + [0]:
                 answer = lines_of(oracle.order(data, first, second))
                 pairs.append((f"o{first:04x}{second:04x}{data.hex()}", answer))

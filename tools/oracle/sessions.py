@@ -38,7 +38,9 @@ def show_event(event: Event) -> str:
 
 
 def show(data: bytes) -> str:
-    """A trace in the notation, for messages; unreadable bytes are shown in hexadecimal."""
+    """A trace in the notation, for messages; unreadable bytes are shown in hexadecimal, no bytes as such."""
+    if not data:
+        return "(no bytes)"
     words, at = [], 0
     while at < len(data):
         event = oracle.read_record(data[at:])
@@ -97,9 +99,9 @@ CASES: list[tuple[str, bytes, str]] = [
     ("case 11, from 2", session(CASE_11 + " L0.0<2"), "events 6 / verdict robust / cut 1 0 1 / share 50"),
 ]
 
-# Every example of the refusal table that is a trace (14 to 17 are no matter of the trace; 16 and 17 are below).
+# Every example of the refusal table that is a trace (14 to 17 are no matter of the trace; 16 and 17 are below), but for
+# the example of 1, empty bytes: they are judged by document 02, job 6, and stand under NO_BYTES.
 REFUSALS: list[tuple[str, bytes, str]] = [
-    ("refusal 1, empty", b"", "refused 1 0"),
     ("refusal 1, first is no begin", body("X"), "refused 1 0"),
     ("refusal 2", raw("08 00 01"), "refused 2 0"),
     ("refusal 3", B + raw("02 00 63 00"), "refused 3 1"),
@@ -560,6 +562,47 @@ ONE_LINE: list[tuple[str, bytes, str]] = [
     ("a refusal outranks it", session("I0.0 C0 I0.1 C0 X L0.0<0 L0.1<3 C0"), "refused 10 8"),
 ]
 
+# Document 02, job 6, "A recorder that never started": what the session shows, bytes, lines as above. "1 in judging only
+# for bytes that begin with some other record."; the order of refusals is document 01's.
+NO_BYTES: list[tuple[str, bytes, str]] = [
+    ("no bytes, as a recorder leaves that never started: no events, no stretch to cut, no store, so the share is 100",
+     b"", "events 0 / verdict robust / share 100"),
+    ("a begin alone is judged alike: the begin is none of the events behind it", B,
+     "events 0 / verdict robust / share 100"),
+    ("a begin of eight threads and 256 locations alone: no stretch is finished, so there is no cut line",
+     begin(8, 256), "events 0 / verdict robust / share 100"),
+    ("a begin and a crash: a stretch is finished, which has a cut line; there is no store, so the share is 100",
+     B + body("X"), "events 1 / verdict robust / cut 1 0 / share 100"),
+    ("the single byte 00 is not empty: a length takes two bytes, so it ends inside a record", raw("00"), "refused 2 0"),
+    ("the single byte 08, where a begin would start, ends inside a record too", raw("08"), "refused 2 0"),
+    ("a length of 0 and nothing behind it: under 2, which goes before missing bytes", raw("00 00"), "refused 4 0"),
+    ("sixteen zeros, as a file made ready for a recorder may hold, are not empty: a length of 0", raw("00" * 16),
+     "refused 4 0"),
+    ("a length of 2 and nothing behind it: the record's two bytes are missing", raw("02 00"), "refused 2 0"),
+    ("a begin without its last byte: the recorder started, and its bytes end inside a record", B[:-1], "refused 2 0"),
+    ("a crash without its last byte: bytes that end inside a record go before a first record that is no begin",
+     raw("02 00 09"), "refused 2 0"),
+    ("a crash alone begins with some other record than a begin", body("X"), "refused 1 0"),
+    ("an issue first is some other record too; that there is no begin goes before its thread", body("I0.0"),
+     "refused 1 0"),
+    ("a locked operation first: that there is no begin goes before its thread, location and source", body("R0.0<0"),
+     "refused 1 0"),
+    ("a wait first: that there is no begin goes before the signal that it lacks", body("W0<0"), "refused 1 0"),
+    ("the records of case 7 without their begin: the first one decides, whatever they would show behind it",
+     body("I0.0 C0 X L0.0<1 L0.0<0"), "refused 1 0"),
+    ("a first record of the unknown kind 99: that goes before its being no begin", raw("02 00 63 00"), "refused 3 0"),
+    ("a first record of kind 0 is of an unknown kind, and no end of the trace", raw("02 00 00 00"), "refused 3 0"),
+    ("a crash of length 4 first: the wrong length goes before its being no begin", raw("04 00 09 00 00 00"),
+     "refused 4 0"),
+    ("a crash and then a begin: the first record is no begin, and a later one does not mend it", body("X") + B,
+     "refused 1 0"),
+    ("a crash first and one byte behind it: the judging ends at the first record, and not at the byte",
+     body("X") + raw("00"), "refused 1 0"),
+    ("a begin of 9 threads alone is a begin, and out of range", begin(9, 2), "refused 6 0"),
+    ("a begin whose fields are all 0 is a begin, and out of range", begin(0, 0, version=0), "refused 6 0"),
+    ("a begin and one byte: the bytes end inside the record behind the begin, event 1", B + raw("08"), "refused 2 1"),
+]
+
 # Order queries: name, trace, first, second, expected answer.
 ORDERS: list[tuple[str, bytes, int, int, object]] = [
     ("query 0", B, 0, 0, Refused(16, 0)),
@@ -596,6 +639,13 @@ ORDERS: list[tuple[str, bytes, int, int, object]] = [
     ("a hand-over to a locked operation", session("I0.0 C0 S0 W1<3 R1.1<0"), 1, 5, "before"),
     ("a hand-over, then a load", session("I0.0 C0 S0 W1<3 I1.1 C1 L2.1<5 I2.0"), 1, 8, "before"),
     ("a hand-over before a crash orders nothing behind it", session("I0.0 C0 S0 W1<3 X I0.0 I1.1"), 6, 7, "neither"),
+    ("no bytes, by 0 and 0: turned away with 1, ahead of 16", b"", 0, 0, Refused(1, 0)),
+    ("no bytes, by 1 and 1: turned away, and not the same", b"", 1, 1, Refused(1, 0)),
+    ("no bytes, by 1 and 2: turned away, and not neither", b"", 1, 2, Refused(1, 0)),
+    ("no bytes, by 65,535 and 0: turned away whatever the numbers", b"", 65535, 0, Refused(1, 0)),
+    ("a begin alone, by 1 and 1: it has a record, and 1 is no issue", B, 1, 1, Refused(16, 0)),
+    ("a crash alone, by 1 and 1: the first record is no begin", body("X"), 1, 1, Refused(1, 0)),
+    ("the single byte 00, by 0 and 0: it ends inside a record", raw("00"), 0, 0, Refused(2, 0)),
 ]
 
 
@@ -606,6 +656,8 @@ def record_checks() -> list[tuple[str, bool]]:
     signal, wait = raw("04 00 0d 00 01 00"), raw("06 00 0e 00 01 00 03 00")
     return [
         ("read: no bytes", oracle.read_record(b"") == Refused(1, 0)),
+        ("frame: record 0 of no bytes", oracle.record_part(b"", 0) == b""),
+        ("frame: record 65,535 of no bytes", oracle.record_part(b"", 65535) == b""),
         ("read: ignores what follows", oracle.read_record(body("C0") + b"\0\0") == Event(oracle.COMMIT, (0,))),
         ("read: ranges are the judge's matter", oracle.read_record(oracle.encode(large)) == large),
         ("read: locked operation", oracle.read_record(locked) == Event(oracle.LOCKED, (1, 2, 3))),
@@ -637,7 +689,7 @@ def self_test() -> list[tuple[str, bool]]:
     results: list[tuple[str, bool]] = []
     judges: list[tuple[str, Callable]] = [("judge", oracle.judge), ("judge_closure", oracle.judge_closure)]
     by_document_01 = CASES + REFUSALS + MORE_REFUSALS + EDGES + ERRORS
-    for name, data, expected in by_document_01 + WINDOWS + LOCKED + LOOKUPS + HANDED + ONE_LINE:
+    for name, data, expected in by_document_01 + WINDOWS + LOCKED + LOOKUPS + HANDED + ONE_LINE + NO_BYTES:
         for label, judging in judges:
             results.append((f"{name} ({label})", " / ".join(lines_with_windows(data, judging)) == expected))
     for name, data, first, second, answer in ORDERS:
