@@ -83,5 +83,6 @@ pub mod CasesOfWindows
 pub mod CasesOfLocked
 pub mod CasesOfHandOver
 pub mod CasesOfOneLine
+pub mod CasesOfNoBytes
 pub mod NoTrace
 pub mod RandomSessions
