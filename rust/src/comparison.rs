@@ -34,6 +34,9 @@ pub struct Counts {
     pub robust: u64,
     /// Traces judged robust whose least choice has a store in.
     pub robust_with_stores: u64,
+    /// Traces of no bytes. Of each, all is compared that is asked of other traces now and then: order queries, reading,
+    /// framing, buffers of a wrong size, and the verdict by trying all choices.
+    pub no_bytes: u64,
     /// Traces judged broken by a contradiction.
     pub contradiction: u64,
     /// Traces judged broken by a missing flush.
@@ -110,7 +113,8 @@ impl Comparison {
         Comparison { work: vec![0; WORK + EXTRA], cut: vec![0; 2 * CUT], fast: Fast::new(), counts: Counts::default() }
     }
 
-    /// Compares all that is asked of one trace. The random numbers choose the checks that are made now and then.
+    /// Compares all that is asked of one trace. The random numbers choose the checks that are made now and then; of no
+    /// bytes each is made.
     ///
     /// # Errors
     ///
@@ -118,7 +122,9 @@ impl Comparison {
     pub fn check(&mut self, trace: &[u8], random: &Random) -> Result<(), String> {
         let accepted = reference::accept(trace);
         let expected = accepted.as_ref().map(Accepted::verdict).map_err(|refusal| *refusal);
+        let at_times = |times| trace.is_empty() || random.once_in(times);
         self.count(&expected);
+        self.counts.no_bytes += u64::from(trace.is_empty());
         self.check_judge(trace, &expected, random)?;
         same("fast judge", self.fast.judge(trace), expected)?;
         if let Ok(verdict) = &expected {
@@ -127,21 +133,21 @@ impl Comparison {
             self.count_locked(&events, verdict);
             self.count_waits(&events, verdict);
         }
-        if random.once_in(2) {
+        if at_times(2) {
             self.check_all_choices(trace, &expected)?;
         }
         match &accepted {
             Ok(accepted) => self.check_orders(trace, accepted, &expected, random)?,
-            Err(refusal) if random.once_in(4) => {
+            Err(refusal) if at_times(4) => {
                 let [first, second] = [0, 1].map(|_| random.between(0, 20));
                 self.check_order(trace, first, second, Err(*refusal), random)?;
             }
             Err(_) => {}
         }
-        if random.once_in(16) {
+        if at_times(16) {
             self.check_wrong_buffers(trace, random)?;
         }
-        if random.once_in(8) {
+        if at_times(8) {
             self.check_records(trace, random)?;
         }
         Ok(())
@@ -251,17 +257,14 @@ impl Comparison {
 
     /// The reference against itself: the verdict by trying all choices.
     fn check_all_choices(&mut self, trace: &[u8], expected: &Result<Verdict, Refusal>) -> Result<(), String> {
-        match reference::judge_by_all_choices(trace, CHOICES) {
-            Some(answer) if answer.is_ok() => {
-                self.counts.all_choices += 1;
-                self.counts.all_choices_broken += u64::from(matches!(answer, Ok(Verdict::Broken { .. })));
-                same("reference by all choices", &answer, expected)
-            }
-            _ => Ok(()),
-        }
+        let Some(answer) = reference::judge_by_all_choices(trace, CHOICES) else { return Ok(()) };
+        self.counts.all_choices += u64::from(answer.is_ok());
+        self.counts.all_choices_broken += u64::from(matches!(answer, Ok(Verdict::Broken { .. })));
+        same("reference by all choices", &answer, expected)
     }
 
-    /// Order queries on an accepted trace: all pairs if it is small, else one, which may be that of the evidence.
+    /// Order queries on an accepted trace: if it is small, or no bytes, all pairs and a pair of any numbers, else one
+    /// pair, which may be that of the evidence.
     fn check_orders(
         &mut self,
         trace: &[u8],
@@ -277,6 +280,8 @@ impl Comparison {
                     self.check_order(trace, first, second, accepted.order(first, second), random)?;
                 }
             }
+            let [first, second] = [0, 1].map(|_| random.between(0, u16::MAX));
+            self.check_order(trace, first, second, accepted.order(first, second), random)?;
         } else if random.once_in(2) {
             let [first, second] = match *expected {
                 Ok(Verdict::Broken { missing, observed, .. }) if random.once_in(4) => [missing, observed],

@@ -155,7 +155,7 @@ impl Fast {
         }
     }
 
-    /// Judges a trace.
+    /// Judges a trace. No bytes are a trace with no events.
     ///
     /// # Errors
     ///
@@ -184,12 +184,30 @@ impl Fast {
     /// Reads the begin and sets the tables back. Gives the bytes behind it.
     fn begin<'a>(&mut self, trace: &'a [u8]) -> Result<&'a [u8], u16> {
         let Some(record) = trace.first_chunk::<10>().filter(|record| header(record) == HEADERS[1]) else {
-            return Err(if trace.is_empty() { 1 } else { unreadable(trace).unwrap_or(1) });
+            return self.no_begin(trace);
         };
         let [version, threads, locations] = [4, 6, 8].map(|at| field(record, at));
         if version != 1 || !(1..=8).contains(&threads) || !(1..=256).contains(&locations) {
             return Err(6);
         }
+        self.set_back(threads, locations);
+        Ok(&trace[10..])
+    }
+
+    /// Bytes that start with no begin: none are a trace with no events, threads and locations; others are refused. On
+    /// its own, so that a begin is read with no test for it.
+    #[cold]
+    fn no_begin<'a>(&mut self, trace: &'a [u8]) -> Result<&'a [u8], u16> {
+        if !trace.is_empty() {
+            return Err(unreadable(trace).unwrap_or(1));
+        }
+        self.set_back(0, 0);
+        Ok(trace)
+    }
+
+    /// Sets the tables back for a trace of so many threads and locations.
+    #[inline(always)]
+    fn set_back(&mut self, threads: u16, locations: u16) {
         self.thread_count = threads;
         self.locations.clear();
         self.locations.resize(locations.into(), UNTOUCHED);
@@ -202,7 +220,6 @@ impl Fast {
         self.committed = 0;
         self.evidence = None;
         self.next_call();
-        Ok(&trace[10..])
     }
 
     /// Gives the call a number that no store or signal in the table has.

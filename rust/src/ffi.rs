@@ -1,7 +1,8 @@
 //! The C interface of the proved library, call by call. This is the only module with unsafe code.
 //!
-//! Each function here takes slices, so the pointers that reach the library are never NULL, are aligned, and do not
-//! overlap where something is written. The answers are the numbers of `include/gorbuzte.h`, as they come.
+//! Each function here takes slices, so the pointers that reach the library are never NULL, not even those of no bytes,
+//! are aligned, and do not overlap where something is written. The answers are the numbers of `include/gorbuzte.h`, as
+//! they come.
 
 /// The number of numbers of an answer to [`judge`].
 pub const ANSWER: usize = 26;
@@ -35,7 +36,8 @@ extern "C" {
 
 /// Judges a trace. The answer is: refusal, its event, verdict (1 robust, 2 broken), events, share, load, missing,
 /// observed, kind (1 contradiction, 2 flush, 3 impossible), primary thread + 1, then for each of eight threads the
-/// first and the last place of its window; what the verdict does not have is 0.
+/// first and the last place of its window; what the verdict does not have is 0. No bytes are robust: of their answer
+/// only verdict and share, 100, are not 0.
 pub fn judge(trace: &[u8], work: &mut [u16], cut: &mut [u16]) -> [u16; ANSWER] {
     let mut answer = [0; ANSWER];
     // SAFETY: each pointer and length is of a slice or an array of the size that the header names; the three that are
@@ -54,7 +56,8 @@ pub fn judge(trace: &[u8], work: &mut [u16], cut: &mut [u16]) -> [u16; ANSWER] {
     answer
 }
 
-/// How two stores stand. The answer is: refusal, its event, standing (1 before, 2 after, 3 same, 4 neither).
+/// How two stores stand. The answer is: refusal, its event, standing (1 before, 2 after, 3 same, 4 neither). No bytes
+/// are refused with 1.
 pub fn order(trace: &[u8], work: &mut [u16], first: u16, second: u16) -> [u16; 3] {
     let mut answer = [0; 3];
     // SAFETY: as in `judge`.

@@ -1,5 +1,5 @@
-//! Makes traces for comparisons: accepted ones, near misses of every refusal, damaged and random bytes, and traces at
-//! the limits. A trace depends only on a seed and its number.
+//! Makes traces for comparisons: accepted ones, no bytes among them, near misses of every refusal, damaged and random
+//! bytes, and traces at the limits. A trace depends only on a seed and its number.
 
 mod damage;
 mod draft;
@@ -13,6 +13,9 @@ use std::cell::Cell;
 
 /// The largest number of a kind.
 const KINDS: u16 = 14;
+
+/// One in so many accepted traces of few events has no bytes.
+const NO_BYTES: usize = 170;
 
 /// A small pseudorandom generator (splitmix64).
 #[derive(Clone, Debug)]
@@ -62,15 +65,15 @@ impl Random {
 /// How a trace was made.
 #[derive(Clone, Copy, Debug, PartialEq, Eq)]
 pub enum Family {
-    /// An accepted trace of few events.
+    /// An accepted trace of few events, or no bytes, which are a trace with no events.
     Small,
     /// An accepted trace of up to 2,048 events.
     Large,
     /// A trace with a record that some rule turns away.
     NearMiss,
-    /// A trace whose bytes were damaged.
+    /// A trace whose bytes were damaged; of no bytes, often a few that are no record.
     Damaged,
-    /// Random bytes or random records.
+    /// Random bytes, seldom none, or random records.
     Random,
     /// A trace at a limit, or one past it.
     Limit,
@@ -129,8 +132,13 @@ impl Generator {
         }
     }
 
-    /// An accepted trace of few events. Each third one has many hand-overs by signals, which take more events.
+    /// An accepted trace of few events, or no bytes. Each third one has many hand-overs by signals, which take more
+    /// events.
     fn small(&mut self, random: &Random) {
+        if random.once_in(NO_BYTES) {
+            self.draft.bytes.clear();
+            return;
+        }
         let events = match random.below(20) {
             0 => random.between(40, 120),
             1..=2 => random.between(0, 17),

@@ -21,6 +21,18 @@
 //! assert_eq!(cut[0], 1);
 //! ```
 //!
+//! The file of a recorder that never started is empty. For judging, no bytes are a trace with no events; other calls
+//! turn them away:
+//!
+//! ```
+//! use gorbuzte::{frame, judge, order, read_at, Refusal, Verdict, CUT};
+//!
+//! assert_eq!(judge(&[]), Ok(Verdict::Robust { events: 0, share: 100, cut: [0; CUT] }));
+//! assert_eq!(order(&[], 0, 0), Err(Refusal { number: 1, event: 0 }));
+//! assert_eq!(read_at(&[], 0), Err(Refusal { number: 1, event: 0 }));
+//! assert_eq!(frame(&[], 0), None);
+//! ```
+//!
 //! Two more judges answer the same question in plain Rust: [`reference`](mod@reference) states the rules one by one and
 //! is slow, [`fast`] is written for speed. [`comparison`] runs all three over the traces that [`generator`] makes.
 

@@ -26,10 +26,13 @@ const EVENTS: u16 = 2_048;
 pub struct Accepted {
     machine: Machine,
     precedence: Precedence,
-    events: u16,
+    /// The number of records, the begin included.
+    records: u16,
 }
 
-/// "A trace is accepted if no refusal over its records (1 to 13 here) applies." Document 02, job 4, adds 18.
+/// "A trace is accepted if no refusal over its records (1 to 13 here) applies." Document 02, job 4, adds 18. Job 6:
+/// "For judging, empty bytes mean a trace with no events", so one with no records, and "1 in judging only for bytes
+/// that begin with some other record." Calls other than judging turn this trace away themselves.
 ///
 /// # Errors
 ///
@@ -37,7 +40,7 @@ pub struct Accepted {
 pub fn accept(trace: &[u8]) -> Result<Accepted, Refusal> {
     let mut machine = Machine::new();
     let (mut at, mut event) = (0, 0);
-    while at < trace.len() || event == 0 {
+    while at < trace.len() {
         let refused = |number| Refusal { number, event };
         let (record, next) = read_at(trace, at).map_err(|refusal| refused(refusal.number))?;
         machine.step(event, &record).map_err(refused)?;
@@ -45,10 +48,12 @@ pub fn accept(trace: &[u8]) -> Result<Accepted, Refusal> {
         event += 1;
     }
     let precedence = Precedence::new(&machine);
-    Ok(Accepted { machine, precedence, events: event - 1 })
+    Ok(Accepted { machine, precedence, records: event })
 }
 
 /// The verdict on a trace. The least choice is taken as what the observed stores and all stores before them need.
+/// Document 02, job 6, says of empty bytes: "robust, all-zero cut, share 100, `events 0`." Here that follows from there
+/// being no counted load and no store.
 ///
 /// # Errors
 ///
@@ -61,13 +66,13 @@ pub fn judge(trace: &[u8]) -> Result<Verdict, Refusal> {
 ///
 /// # Errors
 ///
-/// The refusal (1 to 13 or 18) if the trace is not accepted, "then 16": "query number is no issue".
+/// The refusal (1 to 13 or 18) if the trace is not accepted, 1 for no bytes too, "then 16": "query number is no issue".
 pub fn order(trace: &[u8], first: u16, second: u16) -> Result<Order, Refusal> {
     accept(trace)?.order(first, second)
 }
 
 /// The verdict on a trace, found by trying every choice on the trace and, if there is none, on the records 0 to e for
-/// each e. Gives `None` if the trace has more than `limit` choices.
+/// each e. Gives `None` if the trace has more than `limit` choices. No bytes have no finished stretch, so one choice.
 #[must_use]
 pub fn judge_by_all_choices(trace: &[u8], limit: usize) -> Option<Result<Verdict, Refusal>> {
     let whole = match accept(trace) {
@@ -93,18 +98,22 @@ impl Accepted {
         for load in self.machine.loads.iter().filter(|load| load.counted) {
             explanation.add(&demand_of(&self.machine, load), &self.precedence);
             if explanation.fails() {
-                return self.broken(load.event, &explanation.observed, &explanation.forbidden, self.events);
+                return self.broken(load.event, &explanation.observed, &explanation.forbidden, self.events());
             }
         }
         self.robust(explanation.counts(&self.machine))
     }
 
-    /// "two event numbers: before, after, same, neither"
+    /// "two event numbers: before, after, same, neither". Document 02, job 6, on empty bytes: "Other calls still turn
+    /// it away." That is 1, "no record", and 16 comes behind it.
     ///
     /// # Errors
     ///
-    /// 16, "query number is no issue"; "14, 15, 16 and 17 carry 0".
+    /// 1 if there is no record; 16, "query number is no issue"; "14, 15, 16 and 17 carry 0".
     pub fn order(&self, first: u16, second: u16) -> Result<Order, Refusal> {
+        if self.records == 0 {
+            return Err(Refusal { number: 1, event: 0 });
+        }
         let store = |event| self.machine.store_of(event).ok_or(Refusal { number: 16, event: 0 });
         let (first, second) = (store(first)?, store(second)?);
         Ok(if first == second {
@@ -118,6 +127,11 @@ impl Accepted {
         })
     }
 
+    /// "Events after begin"; of a trace with no records, which has no begin either, `events 0`.
+    fn events(&self) -> u16 {
+        self.records.saturating_sub(1)
+    }
+
     /// "Share: the percentage of stores committed in finished stretches that are in the least choice, rounded down; 100
     /// if there are none."
     fn robust(&self, cut: [u16; CUT]) -> Verdict {
@@ -125,7 +139,7 @@ impl Accepted {
         let committed = self.machine.stores.iter().filter(finished).count();
         let inside: usize = cut.iter().map(|&count| usize::from(count)).sum();
         let share = (100 * inside).checked_div(committed).unwrap_or(100);
-        Verdict::Robust { events: self.events, share: share.try_into().expect("at most 100"), cut }
+        Verdict::Robust { events: self.events(), share: share.try_into().expect("at most 100"), cut }
     }
 
     /// "Missing is a store that some counted load of those records forbids, observed one that some counted load there
@@ -175,13 +189,13 @@ impl Accepted {
     /// "Load is the smallest event number for which records 0 to load, taken as a trace, have none either."
     fn broken_by_prefixes(&self, trace: &[u8]) -> Verdict {
         let mut end = 0;
-        for load in 0..=self.events {
+        for load in 0..=self.events() {
             end += frame(trace, load.into()).expect("a record of an accepted trace").len();
             let prefix = accept(&trace[..end]).expect("records 0 to load of an accepted trace");
             if prefix.least_by_all_choices().is_none() {
                 let mut sets = Explanation::new(&prefix.machine);
                 prefix.demands().iter().for_each(|demand| sets.mark(demand));
-                return prefix.broken(load, &sets.observed, &sets.forbidden, self.events);
+                return prefix.broken(load, &sets.observed, &sets.forbidden, self.events());
             }
         }
         panic!("the whole trace has no choice, and yet each of its prefixes has one");

@@ -15,14 +15,16 @@ pub const LARGEST_RECORD: usize = 10;
 /// The numbers of the refusals over the records of a trace.
 pub const REFUSALS: [u16; 14] = [1, 2, 3, 4, 5, 6, 7, 8, 9, 10, 11, 12, 13, 18];
 
-/// What the judge says of an accepted trace.
+/// What the judge says of an accepted trace. No bytes are one with no events: robust, with a share of 100 and a cut of
+/// zeros.
 #[derive(Clone, Copy, Debug, PartialEq, Eq)]
 pub enum Verdict {
     /// A closed choice of crash points explains all counted loads.
     Robust {
-        /// The number of events after the begin.
+        /// The number of events after the begin; of no bytes 0.
         events: u16,
-        /// The percentage of the stores committed in finished stretches that are in the least choice, rounded down.
+        /// The percentage of the stores committed in finished stretches that are in the least choice, rounded down; 100
+        /// if there are none.
         share: u16,
         /// The least choice: the count of stretch j (from 1), thread t (from 0) stands at 8 * (j - 1) + t.
         cut: [u16; CUT],
@@ -75,7 +77,8 @@ pub struct Window {
 /// Why a trace, a call or a record is turned away.
 #[derive(Clone, Copy, Debug, PartialEq, Eq)]
 pub struct Refusal {
-    /// The number of the refusal, 1 to 18.
+    /// The number of the refusal, 1 to 18. In judging, 1 is for bytes that begin with another record than a begin; the
+    /// order query gives it for no bytes too, and reading for these alone.
     pub number: u16,
     /// The number of the event that is turned away; 0 for the refusals 14 to 17.
     pub event: u16,

@@ -3,11 +3,13 @@
 use crate::ffi;
 use crate::types::{Event, Kind, Order, Refusal, Verdict, Window, Windows, CUT, THREADS, WORK};
 
-/// Judges a trace. Each call allocates a work area; [`Judge`] keeps one for many calls.
+/// Judges a trace. No bytes are a trace with no events, which is robust. Each call allocates a work area; [`Judge`]
+/// keeps one for many calls.
 ///
 /// # Errors
 ///
-/// The refusal (1 to 13 or 18) if the trace is not accepted.
+/// The refusal (1 to 13 or 18) if the trace is not accepted; 1 is for bytes that begin with another record than a
+/// begin.
 pub fn judge(trace: &[u8]) -> Result<Verdict, Refusal> {
     Judge::new().judge(trace)
 }
@@ -17,7 +19,8 @@ pub fn judge(trace: &[u8]) -> Result<Verdict, Refusal> {
 ///
 /// # Errors
 ///
-/// The refusal (1 to 13 or 18) if the trace is not accepted, or 16 if one of the numbers is no issue's (kind 2 or 12).
+/// The refusal (1 to 13 or 18) if the trace is not accepted, 1 for no bytes too, or 16 if one of the numbers is no
+/// issue's (kind 2 or 12).
 pub fn order(trace: &[u8], first: u16, second: u16) -> Result<Order, Refusal> {
     Judge::new().order(trace, first, second)
 }
@@ -42,7 +45,7 @@ impl Judge {
         Judge { work: vec![0; WORK].into_boxed_slice(), cut: [0; CUT] }
     }
 
-    /// Judges a trace.
+    /// Judges a trace. No bytes are a trace with no events, which is robust.
     ///
     /// # Errors
     ///
@@ -55,15 +58,15 @@ impl Judge {
     ///
     /// # Errors
     ///
-    /// The refusal (1 to 13 or 18) if the trace is not accepted, or 16 if one of the numbers is no issue's (kind 2 or
-    /// 12).
+    /// The refusal (1 to 13 or 18) if the trace is not accepted, 1 for no bytes too, or 16 if one of the numbers is no
+    /// issue's (kind 2 or 12).
     pub fn order(&mut self, trace: &[u8], first: u16, second: u16) -> Result<Order, Refusal> {
         order_with(trace, &mut self.work, first, second)
     }
 }
 
-/// Judges a trace with the caller's buffers. A robust answer fills the cut buffer; any other leaves it as it was.
-/// Afterwards the first [`WORK`] numbers of the work area are 0 and the others as they were.
+/// Judges a trace with the caller's buffers. A robust answer fills the cut buffer, that on no bytes with 0; any other
+/// leaves it as it was. Afterwards the first [`WORK`] numbers of the work area are 0 and the others as they were.
 ///
 /// # Errors
 ///
@@ -91,7 +94,7 @@ pub fn judge_with(trace: &[u8], work: &mut [u16], cut: &mut [u16]) -> Result<Ver
 /// # Errors
 ///
 /// 14 if the work area is smaller than [`WORK`] numbers (it stays as it was then), the refusal (1 to 13 or 18) if the
-/// trace is not accepted, or 16 if one of the numbers is no issue's (kind 2 or 12).
+/// trace is not accepted, 1 for no bytes too, or 16 if one of the numbers is no issue's (kind 2 or 12).
 pub fn order_with(trace: &[u8], work: &mut [u16], first: u16, second: u16) -> Result<Order, Refusal> {
     match ffi::order(trace, work, first, second) {
         [0, _, 1] => Ok(Order::Before),
@@ -130,7 +133,7 @@ pub fn write(event: &Event, output: &mut [u8]) -> Result<usize, Refusal> {
 }
 
 /// Record number e as a part of the trace, length bytes included; `None` exactly if the records 0 to e cannot all be
-/// framed (a length under 2, or bytes missing).
+/// framed (a length under 2, or bytes missing), so of no bytes for each e.
 #[must_use]
 pub fn frame(trace: &[u8], e: usize) -> Option<&[u8]> {
     match ffi::frame(trace, e) {

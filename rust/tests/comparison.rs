@@ -22,6 +22,7 @@ fn the_judges_agree() {
     let kinds = [counts.contradiction, counts.flush, counts.impossible];
     assert!(counts.robust > TRACES / 5 && kinds.iter().sum::<u64>() > TRACES / 5);
     assert!(counts.robust_with_stores > TRACES / 20 && kinds.iter().all(|&met| met > TRACES / 15), "{kinds:?}");
+    assert!(counts.no_bytes > TRACES / 1_000, "{}", counts.no_bytes);
     assert!(counts.flush_at_border > TRACES / 50 && counts.impossible_apart > TRACES / 50);
     assert!(REFUSALS.iter().all(|&number| counts.refused[usize::from(number)] > 0), "{:?}", counts.refused);
     assert!(counts.primary_without_window > TRACES / 200 && counts.several_windows > TRACES / 200);
@@ -86,6 +87,22 @@ fn limits_are_met_from_both_sides() {
     assert_eq!(families.len(), FAMILIES.len());
     assert_eq!((most_events, most_stretches, kinds.len()), (2_048, 7, 3));
     assert!(refusals.contains(&(13, true)) && refusals.contains(&(13, false)), "{refusals:?}");
+}
+
+/// No bytes come up as accepted traces, and close to them single bytes and first records that are no begin.
+#[test]
+fn no_bytes_come_up() {
+    let mut generator = Generator::new();
+    let (mut none, mut one, mut no_begin) = (0, 0, 0);
+    let traces = 20_000;
+    for number in 0..traces {
+        let (trace, family) = generator.trace(SEED, number);
+        none += u64::from(trace.is_empty() && family == Family::Small);
+        one += u64::from(trace.len() == 1);
+        no_begin += u64::from(reference::judge(trace) == Err(Refusal { number: 1, event: 0 }));
+    }
+    assert!(none > traces / 1_000 && none < traces / 100, "{none}");
+    assert!(one > 0 && no_begin > traces / 200, "{one}, {no_begin}");
 }
 
 /// A cache line, by a location on it.

@@ -49,9 +49,9 @@ const CASES: &[Row] = &[
     ("case 11, from 2", "B1.2.2 I0.0 I1.0 C1 C0 X L0.0<2", "events 6 / verdict robust / cut 1 0 1 / share 50"),
 ];
 
-/// Every example of the refusal table that is a trace.
+/// Every example of the refusal table that is a trace. That of 1, empty, holds of order queries: document 02, job 6,
+/// has empty bytes judged (`no_bytes.rs`), and leaves 1 "for bytes that begin with some other record".
 const REFUSALS: &[Row] = &[
-    ("refusal 1, empty", "", "refused 1 0"),
     ("refusal 1, first is no begin", "X", "refused 1 0"),
     ("refusal 2", "x080001", "refused 2 0"),
     ("refusal 3", "B1.1.2 x02006300", "refused 3 1"),
@@ -228,6 +228,7 @@ const ERRORS: &[Row] = &[
 
 /// Order queries: trace, the two numbers, the answer.
 const ORDERS: &[(&str, u16, u16, Result<Order, Refusal>)] = &[
+    ("", 0, 0, Err(Refusal { number: 1, event: 0 })),
     ("B1.1.2", 0, 0, Err(Refusal { number: 16, event: 0 })),
     ("B1.1.2 I0.0", 1, 2, Err(Refusal { number: 16, event: 0 })),
     ("B1.1.2 I0.0 C0", 2, 1, Err(Refusal { number: 16, event: 0 })),

@@ -11,6 +11,8 @@ const BROKEN: &str = "B1.1.2 I0.0 C0 X L0.0<1 L0.0<0";
 const FLUSH: &str = "B1.2.9 I0.0 C0 L1.0<1 I1.8 C1 X L0.0<0 L0.8<4";
 const IMPOSSIBLE: &str = "B1.2.2 I0.0 C0 L1.0<1 I1.1 C1 X L0.0<0 L0.1<4";
 const REFUSED: &str = "B1.1.2 I0.0 X L0.0<1";
+const NO_BEGIN: &str = "X";
+const NO_BYTES: &str = "";
 
 fn refused<T>(number: u16, event: u16) -> Result<T, Refusal> {
     Err(Refusal { number, event })
@@ -28,9 +30,22 @@ fn a_robust_answer_fills_the_cut_buffer() {
     assert_eq!(work[WORK..], [7, 7, 7]);
 }
 
+/// Document 02, job 6, on empty bytes: "robust, all-zero cut, share 100, `events 0`."
+#[test]
+fn no_bytes_fill_the_cut_buffer_with_0() {
+    for more in [0, 1, 3] {
+        let (mut work, mut cut) = (vec![7; WORK + more], [7; CUT]);
+        let answer = judge_with(&session(NO_BYTES), &mut work, &mut cut);
+        assert_eq!(answer, Ok(Verdict::Robust { events: 0, share: 100, cut: [0; CUT] }));
+        assert_eq!(cut, [0; CUT]);
+        assert!(work[..WORK].iter().all(|&number| number == 0));
+        assert_eq!(work[WORK..], [7, 7, 7][..more]);
+    }
+}
+
 #[test]
 fn other_answers_leave_the_cut_buffer() {
-    for text in [BROKEN, FLUSH, IMPOSSIBLE, REFUSED, ""] {
+    for text in [BROKEN, FLUSH, IMPOSSIBLE, REFUSED, NO_BEGIN] {
         let (mut work, mut cut) = (vec![7; WORK + 3], [7; CUT]);
         let trace = session(text);
         assert_eq!(judge_with(&trace, &mut work, &mut cut), judge(&trace));
@@ -52,7 +67,7 @@ fn refusals_14_and_15_touch_nothing() {
         (WORK + 1, 0, 15),
     ];
     for (work_size, cut_size, number) in sizes {
-        for text in [ROBUST, BROKEN, REFUSED, ""] {
+        for text in [ROBUST, BROKEN, REFUSED, NO_BEGIN, NO_BYTES] {
             let (mut work, mut cut) = (vec![7; work_size], vec![7; cut_size]);
             assert_eq!(judge_with(&session(text), &mut work, &mut cut), refused(number, 0));
             assert!(work.iter().chain(&cut).all(|&number| number == 7));
@@ -62,8 +77,18 @@ fn refusals_14_and_15_touch_nothing() {
 
 #[test]
 fn the_order_query_clears_the_work_area() {
-    let trace = session("B1.1.2 I0.0 I0.1");
-    for (first, second, expected) in [(1, 2, Ok(Order::Before)), (0, 1, refused(16, 0)), (1, 3, refused(16, 0))] {
+    let stores = "B1.1.2 I0.0 I0.1";
+    let rows = [
+        (stores, 1, 2, Ok(Order::Before)),
+        (stores, 0, 1, refused(16, 0)),
+        (stores, 1, 3, refused(16, 0)),
+        (NO_BEGIN, 1, 2, refused(1, 0)),
+        (NO_BYTES, 0, 0, refused(1, 0)),
+        (NO_BYTES, 1, 2, refused(1, 0)),
+        (NO_BYTES, u16::MAX, u16::MAX, refused(1, 0)),
+    ];
+    for (text, first, second, expected) in rows {
+        let trace = session(text);
         let mut work = vec![7; WORK + 3];
         assert_eq!(order_with(&trace, &mut work, first, second), expected);
         assert!(work[..WORK].iter().all(|&number| number == 0));
@@ -76,10 +101,12 @@ fn the_order_query_clears_the_work_area() {
 
 #[test]
 fn the_numbers_of_an_answer() {
-    let rows: [(&str, &[u16], &[u16]); 5] = [
+    let rows: [(&str, &[u16], &[u16]); 7] = [
         (ROBUST, &[0, 0, 1, 7, 50, 0, 0, 0, 0], &[0; 17]),
         (BROKEN, &[0, 0, 2, 5, 0, 5, 1, 1, 1], &[0; 17]),
         (REFUSED, &[9, 3, 0, 0, 0, 0, 0, 0, 0], &[0; 17]),
+        (NO_BEGIN, &[1, 0, 0, 0, 0, 0, 0, 0, 0], &[0; 17]),
+        (NO_BYTES, &[0, 0, 1, 0, 100, 0, 0, 0, 0], &[0; 17]),
         (IMPOSSIBLE, &[0, 0, 2, 8, 0, 8, 1, 4, 3], &[0; 17]),
         (FLUSH, &[0, 0, 2, 8, 0, 8, 1, 4, 2], &[1, 0, 0, 4, 4, 0, 0, 0, 0, 0, 0, 0, 0, 0, 0, 0, 0]),
     ];
@@ -87,12 +114,13 @@ fn the_numbers_of_an_answer() {
         let answer = ffi::judge(&session(text), &mut vec![7; WORK], &mut [7; CUT]);
         assert_eq!(answer, *[front, windows].concat(), "{text}");
     }
+    assert_eq!(ffi::order(&[], &mut vec![7; WORK], 1, 2), [1, 0, 0]);
 }
 
 #[test]
 fn one_judge_serves_many_traces() {
     let mut kept = Judge::default();
-    for text in [ROBUST, BROKEN, FLUSH, IMPOSSIBLE, REFUSED, "", BROKEN, ROBUST, "B1.1.1"] {
+    for text in [ROBUST, NO_BYTES, BROKEN, NO_BYTES, NO_BYTES, FLUSH, IMPOSSIBLE, REFUSED, NO_BYTES, ROBUST, "B1.1.1"] {
         let trace = session(text);
         assert_eq!(kept.judge(&trace), judge(&trace));
         assert_eq!(kept.order(&trace, 1, 1), order(&trace, 1, 1));
@@ -104,8 +132,10 @@ fn one_judge_serves_many_traces() {
 
 #[test]
 fn empty_slices() {
-    assert_eq!(judge(&[]), refused(1, 0));
+    assert_eq!(judge(&[]), Ok(Verdict::Robust { events: 0, share: 100, cut: [0; CUT] }));
     assert_eq!(judge_with(&[], &mut [], &mut []), refused(14, 0));
+    assert_eq!(judge_with(&[], &mut vec![7; WORK], &mut []), refused(15, 0));
+    assert_eq!(order(&[], 0, 0), refused(1, 0));
     assert_eq!(order_with(&[], &mut [], 0, 0), refused(14, 0));
     assert_eq!(read_at(&[], 0), refused(1, 0));
     assert_eq!(frame(&[], 0), None);

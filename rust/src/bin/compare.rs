@@ -43,6 +43,7 @@ fn print_counts(counts: &Counts, made: &[u64]) {
         println!("made {family:?}: {number}");
     }
     println!("robust: {}, of them with a store in the cut: {}", counts.robust, counts.robust_with_stores);
+    println!("of them of no bytes, given to every call: {}", counts.no_bytes);
     println!("broken, contradiction: {}", counts.contradiction);
     println!("broken, flush: {}", counts.flush);
     println!("of them without a window of the primary thread: {}", counts.primary_without_window);

@@ -5,7 +5,7 @@ use super::{Random, KINDS};
 /// A bound of small numbers, the kinds among them.
 const SMALL: usize = KINDS as usize + 1;
 
-/// Damages a trace once or twice.
+/// Damages a trace once or twice. No bytes stay none or become a few.
 pub fn damage(bytes: &mut Vec<u8>, random: &Random) {
     (0..=random.below(2)).for_each(|_| damage_once(bytes, random));
 }
@@ -51,7 +51,7 @@ fn some_record(bytes: &[u8], random: &Random) -> (usize, usize) {
     chosen
 }
 
-/// A few bytes, either of any values or of small ones, or a great many of one value.
+/// A few bytes or none, either of any values or of small ones, or a great many of one value.
 pub fn random_bytes(bytes: &mut Vec<u8>, random: &Random) {
     bytes.clear();
     if random.once_in(50) {

@@ -26,16 +26,16 @@ pub fn near_miss(draft: &mut Draft, random: &Random) {
     }
 }
 
-/// No bytes, or a first record that is no begin.
+/// A first record that is no begin. A begin may come behind it, and records may follow.
 fn no_begin(draft: &mut Draft, random: &Random) {
     draft.begin(1, 2);
     draft.bytes.clear();
-    if random.once_in(4) {
-        return;
-    }
     any_record(draft, random);
     if random.once_in(4) {
         spoil(&mut draft.bytes, 0, random);
+    }
+    if random.once_in(2) {
+        draft.put(1, &[1, 1, 2]);
     }
     (0..random.below(5)).for_each(|_| any_record(draft, random));
 }

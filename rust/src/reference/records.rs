@@ -53,6 +53,7 @@ fn decoded(record: &[u8]) -> Result<Event, u16> {
 
 /// "Reading one record alone, the first of the bytes given, ignores what follows it and gives its event, or 1 (no
 /// bytes), 2, 3 or 4, with event 0." The bytes given are those from a position on; also gives the position past it.
+/// Document 02, job 6, on empty bytes: "Other calls still turn it away."
 ///
 /// # Errors
 ///
@@ -70,6 +71,7 @@ pub fn read_at(trace: &[u8], at: usize) -> Result<(Event, usize), Refusal> {
 
 /// "A call returns record number e as a part of the caller's trace, length bytes included; it returns an empty part
 /// exactly if records 0 to e cannot all be framed (a length under 2, or bytes missing)." The empty part is `None` here.
+/// Of no bytes, record 0 cannot be framed; document 02, job 6: "Other calls still turn it away."
 #[must_use]
 pub fn frame(trace: &[u8], e: usize) -> Option<&[u8]> {
     let mut rest = trace;
@@ -146,5 +148,6 @@ mod tests {
         assert_eq!(output, [4, 0, 7, 0, 1, 2, 170]);
         assert_eq!(frame(&output, 0), Some(&output[..6]));
         assert_eq!(frame(&output, 1), None);
+        assert_eq!(frame(&[], 0), None);
     }
 }
