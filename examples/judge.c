@@ -1,6 +1,7 @@
 /*
  * Judges the trace in a file: prints a line and exits with 0 robust, 1 broken, 2 refused; 3 if it cannot be read. If a
- * flush is missing, more lines say where it may go.
+ * flush is missing, more lines say where it may go. An empty file, as that of a recorder that never started, is a trace
+ * with no events, which is robust.
  *
  *     rt staticlib cabi
  *     cc -Iinclude examples/judge.c target/staticlib/libcabi.a -o target/judge
@@ -22,7 +23,7 @@ static const char *const kinds[] = {
     [GORBUZTE_IMPOSSIBLE] = "impossible",
 };
 
-/* Reads the file. Returns its length, at most LONGEST, or -1. */
+/* Reads the file. Returns its length, at most LONGEST and 0 if it is empty, or -1. */
 static long read_file(const char *path)
 {
     FILE *file = fopen(path, "rb");

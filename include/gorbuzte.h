@@ -57,6 +57,10 @@ enum gorbuzte_kind { GORBUZTE_CONTRADICTION = 1, GORBUZTE_FLUSH = 2, GORBUZTE_IM
  * Judges a trace. Robust fills the cut buffer with the least choice: stretch j, thread t at 8 * (j - 1) + t, the rest 0;
  * any other answer leaves it as lent. Afterwards the first 32,768 numbers of the work area are 0 and the rest is
  * untouched, but refusals 14 (a smaller work area) and 15 (a cut buffer that is not 56 numbers) touch nothing.
+ *
+ * Empty bytes, as the file of a recorder that never started, are a trace with no events: robust, with events 0, share
+ * 100 and a cut of zeros. The pointer must not be NULL then either. So refusal 1 is for bytes whose first record can be
+ * read and is no begin.
  */
 void gorbuzte_judge(const uint8_t *trace, size_t trace_len, uint16_t *work, size_t work_len, uint16_t *cut,
                     size_t cut_len, uint16_t answer[GORBUZTE_ANSWER_SIZE]);
@@ -69,7 +73,10 @@ enum gorbuzte_standing {
     GORBUZTE_NEITHER = 4
 };
 
-/* How the store that event `first` issues (kind 2 or 12) stands to that of event `second`, by happens-before. */
+/*
+ * How the store that event `first` issues (kind 2 or 12) stands to that of event `second`, by happens-before. Empty
+ * bytes are refused with 1, at event 0, whatever the two numbers.
+ */
 void gorbuzte_order(const uint8_t *trace, size_t trace_len, uint16_t *work, size_t work_len, uint16_t first,
                     uint16_t second, uint16_t answer[3]);
 
@@ -86,7 +93,7 @@ enum gorbuzte_record {
     GORBUZTE_RECORD_SIZE
 };
 
-/* Reads the record at a position. Returns the position past it; 0 if it is refused, with 1, 2, 3 or 4. */
+/* Reads the record at a position. Returns the position past it; 0 if it is refused, with 1 (no bytes there), 2, 3 or 4. */
 size_t gorbuzte_read(const uint8_t *trace, size_t trace_len, size_t at, uint16_t record[GORBUZTE_RECORD_SIZE]);
 
 /*
