@@ -1,7 +1,8 @@
 /*
  * Judges the trace in a file: prints a line and exits with 0 robust, 1 broken, 2 refused; 3 if it cannot be read. If a
- * flush is missing, more lines say where it may go. An empty file, as that of a recorder that never started, is a trace
- * with no events, which is robust.
+ * flush is missing, more lines say where it may go. The load at which a trace is broken may be a close, as of which the
+ * loads that its thread held count. An empty file, as that of a recorder that never started, is a trace with no events,
+ * which is robust.
  *
  *     rt staticlib cabi
  *     cc -Iinclude examples/judge.c target/staticlib/libcabi.a -o target/judge

@@ -21,12 +21,12 @@ extern "C" {
 
 /* The numbers of an answer to gorbuzte_judge. What a verdict does not have is 0. */
 enum gorbuzte_answer {
-    GORBUZTE_REFUSAL,  /* the refusal's number, 1 to 15 or 18, or 0 */
+    GORBUZTE_REFUSAL,  /* the refusal's number, 1 to 15, 18 or 19, or 0 */
     GORBUZTE_EVENT,    /* the refusal's event number */
     GORBUZTE_VERDICT,  /* one of gorbuzte_verdict */
     GORBUZTE_EVENTS,   /* events after the begin */
     GORBUZTE_SHARE,    /* robust: the share, in percent */
-    GORBUZTE_LOAD,     /* broken: the first event, of kind 4 or 12, with which no choice explains the loads */
+    GORBUZTE_LOAD,     /* broken: the first event, of kind 4, 12 or 16, with which no choice explains the loads */
     GORBUZTE_MISSING,  /* broken: the store that a load forbids */
     GORBUZTE_OBSERVED, /* broken: the store that a load observes */
     GORBUZTE_KIND,     /* broken: one of gorbuzte_kind */
@@ -61,11 +61,19 @@ enum gorbuzte_kind { GORBUZTE_CONTRADICTION = 1, GORBUZTE_FLUSH = 2, GORBUZTE_IM
  * Empty bytes, as the file of a recorder that never started, are a trace with no events: robust, with events 0, share
  * 100 and a cut of zeros. The pointer must not be NULL then either. So refusal 1 is for bytes whose first record can be
  * read and is no begin.
+ *
+ * A begin of version 2 admits opens and closes (kinds 15 and 16); later in a trace of version 1 they are refused with
+ * 3. The crossing loads of a thread that is open are held, but for those in a skip. A close with outcome 1 counts all
+ * that its thread has held since its open, so it may be the event with which no choice explains the loads; outcome 0, a
+ * crash and the trace's end drop them. Refusal 19 is for a close with another outcome.
  */
 void gorbuzte_judge(const uint8_t *trace, size_t trace_len, uint16_t *work, size_t work_len, uint16_t *cut,
                     size_t cut_len, uint16_t answer[GORBUZTE_ANSWER_SIZE]);
 
-/* The numbers of an answer to gorbuzte_order: the refusal's number (1 to 14, 16 or 18) or 0, its event number, this. */
+/*
+ * The numbers of an answer to gorbuzte_order: the refusal's number (1 to 14, 16, 18 or 19) or 0, its event number, and
+ * this.
+ */
 enum gorbuzte_standing {
     GORBUZTE_BEFORE = 1,
     GORBUZTE_AFTER = 2,
@@ -83,17 +91,21 @@ void gorbuzte_order(const uint8_t *trace, size_t trace_len, uint16_t *work, size
 /* The numbers of a record. What its kind does not have is 0. */
 enum gorbuzte_record {
     GORBUZTE_RECORD_REFUSAL, /* the refusal's number or 0 */
-    GORBUZTE_RECORD_KIND,    /* 1 to 14 */
-    GORBUZTE_VERSION,
+    GORBUZTE_RECORD_KIND,    /* 1 to 16 */
+    GORBUZTE_VERSION,        /* 1 or 2, if the trace is accepted */
     GORBUZTE_THREADS,
     GORBUZTE_LOCATIONS,
     GORBUZTE_THREAD,
     GORBUZTE_LOCATION,
     GORBUZTE_SOURCE,
+    GORBUZTE_OUTCOME, /* of a close: 0 or 1, if the trace is accepted */
     GORBUZTE_RECORD_SIZE
 };
 
-/* Reads the record at a position. Returns the position past it; 0 if it is refused, with 1 (no bytes there), 2, 3 or 4. */
+/*
+ * Reads the record at a position. Returns the position past it; 0 if it is refused, with 1 (no bytes there), 2, 3 or 4.
+ * It is read alone, so that every kind is known, whatever the version of the trace.
+ */
 size_t gorbuzte_read(const uint8_t *trace, size_t trace_len, size_t at, uint16_t record[GORBUZTE_RECORD_SIZE]);
 
 /*

@@ -1,7 +1,8 @@
 /*
  * The calls of the static library on no bytes, document 02, job 6: "For judging, empty bytes mean a trace with no
- * events: robust, all-zero cut, share 100, `events 0`. Other calls still turn it away." Prints a line for each test,
- * 'passed: NAME' or 'failed: NAME'; exits with 0 behind the last.
+ * events: robust, all-zero cut, share 100, `events 0`. Other calls still turn it away." And those on opens and closes,
+ * job 7: "Version 2 of the begin record admits kind 15 (open: thread, length 4) and kind 16 (close: thread, outcome,
+ * length 6)." Prints a line for each test, 'passed: NAME' or 'failed: NAME'; exits with 0 behind the last.
  *
  * No bytes are lent as a pointer to a record, with length 0: a call that looks behind its length meets that record.
  */
@@ -15,6 +16,17 @@
 
 static const uint8_t begin[] = {8, 0, 1, 0, 1, 0, 1, 0, 2, 0};
 static const uint8_t crash[] = {2, 0, 9, 0};
+static const uint8_t open7[] = {4, 0, 15, 0, 7, 0};
+static const uint8_t close8[] = {6, 0, 16, 0, 8, 0, 9, 0};
+
+/* B2.1.2 I0.0 C0 X O0 L0.0<1 L0.0<0 K0.1: as of the close, 7, load 5 observes store 1 and load 6 forbids it */
+static const uint8_t held[] = {8, 0, 1, 0, 2, 0, 1, 0, 2, 0, 6, 0, 2, 0, 0, 0, 0, 0, 4, 0, 3, 0, 0, 0,
+                               2, 0, 9, 0, 4, 0, 15, 0, 0, 0, 8, 0, 4, 0, 0, 0, 0, 0, 1, 0, 8, 0, 4, 0,
+                               0, 0, 0, 0, 0, 0, 6, 0, 16, 0, 0, 0, 1, 0};
+
+#define VERSION 4                      /* where the version of a trace stands */
+#define OUTCOME (sizeof held - 2)      /* where the outcome of the close stands */
+#define BEFORE_CLOSE (sizeof held - 8) /* bytes in front of the close */
 
 static uint16_t work[GORBUZTE_WORK + MORE];
 static uint16_t cut[2 * GORBUZTE_CUT];
@@ -80,6 +92,16 @@ static int answered(uint16_t refusal, uint16_t verdict, uint16_t share)
     return all(answer, GORBUZTE_ANSWER_SIZE, GORBUZTE_ANSWER_SIZE + MORE, LENT);
 }
 
+/* Whether an answer to gorbuzte_judge starts with these numbers, has 0 at every other place, and ends there. */
+static int answered_with(const uint16_t *numbers, size_t count)
+{
+    for (size_t i = 0; i < count; i++)
+        if (answer[i] != numbers[i])
+            return 0;
+    return all(answer, count, GORBUZTE_ANSWER_SIZE, 0) &&
+           all(answer, GORBUZTE_ANSWER_SIZE, GORBUZTE_ANSWER_SIZE + MORE, LENT);
+}
+
 /* Judges with buffers of these sizes. */
 static void judge(const uint8_t *trace, size_t size, size_t work_len, size_t cut_len)
 {
@@ -138,6 +160,57 @@ static void frame_empty(const char *name, const uint8_t *trace, size_t e)
     test(name, place[0] == 0 && place[1] == 0);
 }
 
+/* Judges the first bytes of `held` with another version and outcome; the answer has these numbers, up to the kind. */
+static void held_judged(const char *name, size_t size, uint8_t version, uint8_t outcome, const uint16_t *numbers)
+{
+    uint8_t trace[sizeof held];
+    for (size_t i = 0; i < sizeof held; i++)
+        trace[i] = held[i];
+    trace[VERSION] = version;
+    trace[OUTCOME] = outcome;
+    judge(trace, size, GORBUZTE_WORK + MORE, GORBUZTE_CUT);
+    int cut_is = numbers[GORBUZTE_VERDICT] == GORBUZTE_ROBUST ? all(cut, 0, GORBUZTE_CUT, 0) : cut_untouched();
+    test(name, answered_with(numbers, GORBUZTE_KIND + 1) && work_cleared() && cut_is);
+}
+
+/* A record is read to these numbers, and these numbers are written to it again; one byte less is refused with 17. */
+static void round_trip(const char *name, const uint8_t *bytes, size_t size, const uint16_t *numbers)
+{
+    uint8_t output[sizeof close8] = {0};
+    fill_all();
+    int same = gorbuzte_read(bytes, size, 0, answer) == size;
+    for (size_t i = 0; i < GORBUZTE_RECORD_SIZE; i++)
+        same = same && answer[i] == numbers[i];
+    same = same && all(answer, GORBUZTE_RECORD_SIZE, GORBUZTE_ANSWER_SIZE + MORE, LENT);
+    same = same && gorbuzte_write(answer, output, size - 1) == 0 && answer[GORBUZTE_RECORD_REFUSAL] == 17;
+    same = same && gorbuzte_write(answer, output, size) == size && answer[GORBUZTE_RECORD_REFUSAL] == 0;
+    for (size_t i = 0; i < size; i++)
+        same = same && output[i] == bytes[i];
+    test(name, same);
+}
+
+/* Opens and closes, document 02, job 7. */
+static void checksums(void)
+{
+    static const uint16_t open_numbers[] = {0, 15, 0, 0, 0, 7, 0, 0, 0};
+    static const uint16_t close_numbers[] = {0, 16, 0, 0, 0, 8, 0, 0, 9};
+    static const uint16_t at_close[] = {0, 0, GORBUZTE_BROKEN, 7, 0, 7, 1, 1, GORBUZTE_CONTRADICTION};
+    static const uint16_t dropped[] = {0, 0, GORBUZTE_ROBUST, 7, 0, 0, 0, 0, 0};
+    static const uint16_t not_closed[] = {0, 0, GORBUZTE_ROBUST, 6, 0, 0, 0, 0, 0};
+    static const uint16_t outcome_2[] = {19, 7, 0, 0, 0, 0, 0, 0, 0};
+    static const uint16_t unknown[] = {3, 4, 0, 0, 0, 0, 0, 0, 0};
+    static const uint16_t version_3[] = {6, 0, 0, 0, 0, 0, 0, 0, 0};
+    round_trip("read and write, an open", open7, sizeof open7, open_numbers);
+    round_trip("read and write, a close", close8, sizeof close8, close_numbers);
+    held_judged("judge, broken at a close", sizeof held, 2, 1, at_close);
+    held_judged("judge, a close that drops its loads", sizeof held, 2, 0, dropped);
+    held_judged("judge, loads that the trace's end drops", BEFORE_CLOSE, 2, 1, not_closed);
+    held_judged("judge, 19: outcome 2", sizeof held, 2, 2, outcome_2);
+    held_judged("judge, 3: an open in version 1", sizeof held, 1, 1, unknown);
+    held_judged("judge, 6: version 3", sizeof held, 3, 1, version_3);
+    record_refused("judge, 1: an open first", open7, sizeof open7, 1);
+}
+
 int main(void)
 {
     judged("judge, no bytes in front of a begin", begin, GORBUZTE_WORK + MORE);
@@ -171,5 +244,7 @@ int main(void)
     frame_empty("frame, no bytes in front of a crash", crash, 0);
     frame_empty("frame, no bytes, record 1", begin, 1);
     frame_empty("frame, no bytes, the last number of all", begin, SIZE_MAX);
+
+    checksums();
     return 0;
 }

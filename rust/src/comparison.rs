@@ -67,8 +67,16 @@ pub struct Counts {
     pub broken_by_waits: u64,
     /// Traces judged broken by a missing flush with a window that a wait opens.
     pub opened_by_waits: u64,
+    /// Accepted traces with a close as of which loads count.
+    pub counting_closes: u64,
+    /// Those with a close that counts several loads.
+    pub several_held: u64,
+    /// Broken traces whose load is a close.
+    pub broken_at_close: u64,
+    /// Robust traces that are broken with an sfence in place of each open and close.
+    pub robust_by_drops: u64,
     /// Refused traces, by the number of the refusal.
-    pub refused: [u64; 19],
+    pub refused: [u64; 20],
     /// Accepted traces that were also judged by trying all choices.
     pub all_choices: u64,
     /// Broken traces among those.
@@ -132,6 +140,7 @@ impl Comparison {
             self.count_lines(&events, verdict);
             self.count_locked(&events, verdict);
             self.count_waits(&events, verdict);
+            self.count_closes(&events, verdict, &accepted.as_ref().map_or(Vec::new(), Accepted::counting));
         }
         if at_times(2) {
             self.check_all_choices(trace, &expected)?;
@@ -206,11 +215,28 @@ impl Comparison {
         }
         self.counts.waits += 1;
         let &Verdict::Broken { kind, .. } = verdict else { return };
-        let without = self.fast.judge(&without_waits(events));
+        let without = self.fast.judge(&fenced(events, is_wait));
         self.counts.broken_by_waits += u64::from(matches!(without, Ok(Verdict::Robust { .. })));
         if let Kind::Flush(windows) = kind {
             let opens = |window: &Window| is_wait(&events[usize::from(window.first) - 1]);
             self.counts.opened_by_waits += u64::from(windows.threads.iter().flatten().any(opens));
+        }
+    }
+
+    /// Counts what a verdict owes to the closes of its trace; `counting` has the events as of which loads count, and
+    /// how many.
+    fn count_closes(&mut self, events: &[Event], verdict: &Verdict, counting: &[(u16, usize)]) {
+        let is_close = |number: u16| matches!(events[usize::from(number)], Event::Close { .. });
+        let several = |&(event, loads): &(u16, usize)| is_close(event) && loads > 1;
+        self.counts.counting_closes += u64::from(counting.iter().any(|&(event, _)| is_close(event)));
+        self.counts.several_held += u64::from(counting.iter().any(several));
+        match *verdict {
+            Verdict::Broken { load, .. } => self.counts.broken_at_close += u64::from(is_close(load)),
+            Verdict::Robust { .. } => {
+                let bounds = |event: &Event| matches!(event, Event::Open { .. } | Event::Close { .. });
+                let without = events.iter().any(bounds).then(|| self.fast.judge(&fenced(events, bounds)));
+                self.counts.robust_by_drops += u64::from(matches!(without, Some(Ok(Verdict::Broken { .. }))));
+            }
         }
     }
 
@@ -416,14 +442,11 @@ pub fn location_of(store: &Event) -> u16 {
     }
 }
 
-/// The trace of some events with an sfence in place of each wait.
-fn without_waits(events: &[Event]) -> Vec<u8> {
+/// The trace of some events with an sfence in place of each that is chosen.
+fn fenced(events: &[Event], chosen: impl Fn(&Event) -> bool) -> Vec<u8> {
     let mut trace = Vec::new();
     for event in events {
-        let event = match *event {
-            Event::Wait { thread, .. } => Event::Sfence { thread },
-            other => other,
-        };
+        let event = if chosen(event) { Event::Sfence { thread: 0 } } else { *event };
         let mut record = [0; LARGEST_RECORD];
         let size = reference::write(&event, &mut record).expect("the largest record has room");
         trace.extend_from_slice(&record[..size]);

@@ -6,8 +6,13 @@
 //! number of an earlier stretch says that there is none in this one. A crash moves each thread's commits up to its
 //! last issue: so a store waits exactly if its name is above the last committed one of its thread. With that a crash
 //! leaves clocks and locations as they are. A signal stands in the table of stores with the clock that it hands over.
+//!
+//! The loads that a thread holds under a checksum are linked, the newest first, each with the last store that it found
+//! at its location. A close that counts them marks what they forbid and observe, and then looks for evidence once.
+//! Those of one location all found the same store, so a location is walked once, back to the oldest of their sources.
 
 use crate::types::{Kind, Refusal, Verdict, Window, Windows, CUT, THREADS};
+use std::ops::RangeInclusive;
 
 /// The most events after the begin.
 const EVENTS: i16 = 2_048;
@@ -17,21 +22,26 @@ const STRETCHES: usize = 8;
 /// The number of places in the table of stores: a power of two, so that a masked index needs no check.
 const ROOM: usize = 4_096;
 
-/// What stands in the table of headers where there is no kind. As a header it has kind 1, so it is never compared
-/// there.
-const NO_KIND: u32 = 1 << 16;
+/// The kinds, and those that only a begin of version 2 admits.
+const KINDS: RangeInclusive<u16> = 1..=16;
+const KINDS_OF_VERSION_2: RangeInclusive<u16> = 15..=16;
 
-/// The header of each kind's record as one number: the kind above its length.
+/// The header of each kind's record as one number: the kind above its length. A kind stands at its lowest four bits, so
+/// kind 16 at 0.
 const HEADERS: [u32; 16] = {
-    let lengths = [0, 8, 6, 4, 8, 6, 6, 4, 4, 2, 4, 4, 8, 4, 6];
-    let mut headers = [NO_KIND; 16];
+    let lengths = [8, 6, 4, 8, 6, 6, 4, 4, 2, 4, 4, 8, 4, 6, 4, 6];
+    let mut headers = [0; 16];
     let mut kind = 1;
-    while kind < lengths.len() {
-        headers[kind] = (kind as u32) << 16 | lengths[kind];
+    while kind <= lengths.len() {
+        headers[kind & 15] = (kind as u32) << 16 | lengths[kind - 1];
         kind += 1;
     }
     headers
 };
+
+/// Bits of a thread's switches: a skip is on, and loads are held.
+const SKIPS: u16 = 1;
+const OPEN: u16 = 1 << 8;
 
 /// One number for each thread. The numbers are at most 2,048; signed ones have a maximum instruction on every x86-64.
 type Clock = [i16; THREADS];
@@ -52,6 +62,8 @@ struct Store {
     next: Name,
     /// The store to the same location that was committed before it, or 0.
     older: Name,
+    /// The event number of its commit.
+    commit: Name,
     /// Its stretch, counted from 0, times 8, and its thread.
     place: u8,
     forbidden: bool,
@@ -59,7 +71,7 @@ struct Store {
 }
 
 /// The last store that was committed to a location, and the stretch of that commit above it.
-#[derive(Clone, Copy, PartialEq, Eq)]
+#[derive(Clone, Copy, Default, PartialEq, Eq)]
 struct Last(u32);
 
 /// A location. The alignment makes its place in the table a shift.
@@ -69,8 +81,9 @@ struct Location {
     /// The last store that each thread issued here.
     issued: [Name; THREADS],
     last: Last,
-    /// `last` and the source at the last counted load. What they forbid is marked already. That load was crossing, so
-    /// as long as `last` stays the same, loads are.
+    /// The last store that the last counted load found, and its source; of several that a close counts, the oldest
+    /// source. What they forbid is marked already. That load was crossing, so as long as `last` is that store, loads
+    /// are.
     counted: (Last, u16),
 }
 
@@ -90,6 +103,19 @@ struct Thread {
     issued: Name,
     /// The store up to which its stores are committed or dropped.
     committed: Name,
+    /// The newest load that it holds, or 0. Means something only while it is open.
+    held: Name,
+}
+
+/// A load that is held, in the table at its event number.
+#[derive(Clone, Copy, Default)]
+struct Held {
+    location: u16,
+    source: u16,
+    /// The last store to the location that it found.
+    head: Last,
+    /// The load that its thread held before it, or 0.
+    older: Name,
 }
 
 /// What is known of the choice in one stretch.
@@ -116,14 +142,16 @@ struct Evidence {
 /// A judge with its tables. A call sets back only what its trace can touch, and allocates nothing.
 pub struct Fast {
     stores: Box<[Store; ROOM]>,
+    held: Box<[Held; ROOM]>,
     locations: Vec<Location>,
     threads: [Thread; THREADS],
     stretches: [Stretch; STRETCHES],
+    version: u16,
     thread_count: u16,
     /// The number of crashes so far.
     stretch: u8,
-    /// Bit t is set while a skip of thread t is on.
-    skips: u8,
+    /// Bit t is set while a skip of thread t is on, bit 8 + t while it is open.
+    switches: u16,
     /// The number of stores committed in finished stretches.
     committed: u32,
     evidence: Option<Evidence>,
@@ -143,12 +171,14 @@ impl Fast {
     pub fn new() -> Self {
         Fast {
             stores: Box::new([Store::default(); ROOM]),
+            held: Box::new([Held::default(); ROOM]),
             locations: Vec::with_capacity(LOCATIONS),
             threads: [Thread::default(); THREADS],
             stretches: [EMPTY; STRETCHES],
+            version: 0,
             thread_count: 0,
             stretch: 0,
-            skips: 0,
+            switches: 0,
             committed: 0,
             evidence: None,
             call: 0,
@@ -159,7 +189,7 @@ impl Fast {
     ///
     /// # Errors
     ///
-    /// The refusal (1 to 13 or 18) if the trace is not accepted.
+    /// The refusal (1 to 13, 18 or 19) if the trace is not accepted.
     pub fn judge(&mut self, trace: &[u8]) -> Result<Verdict, Refusal> {
         let events = self.run(trace)?;
         Ok(self.verdict(trace, events))
@@ -187,9 +217,10 @@ impl Fast {
             return self.no_begin(trace);
         };
         let [version, threads, locations] = [4, 6, 8].map(|at| field(record, at));
-        if version != 1 || !(1..=8).contains(&threads) || !(1..=256).contains(&locations) {
+        if !(1..=2).contains(&version) || !(1..=8).contains(&threads) || !(1..=256).contains(&locations) {
             return Err(6);
         }
+        self.version = version;
         self.set_back(threads, locations);
         Ok(&trace[10..])
     }
@@ -199,7 +230,7 @@ impl Fast {
     #[cold]
     fn no_begin<'a>(&mut self, trace: &'a [u8]) -> Result<&'a [u8], u16> {
         if !trace.is_empty() {
-            return Err(unreadable(trace).unwrap_or(1));
+            return Err(unreadable(trace, 2).unwrap_or(1));
         }
         self.set_back(0, 0);
         Ok(trace)
@@ -216,7 +247,7 @@ impl Fast {
         }
         self.stretches[0] = EMPTY;
         self.stretch = 0;
-        self.skips = 0;
+        self.switches = 0;
         self.committed = 0;
         self.evidence = None;
         self.next_call();
@@ -236,7 +267,7 @@ impl Fast {
     fn finish(&mut self, mut event: Name, mut rest: &[u8]) -> Result<u16, Refusal> {
         while !rest.is_empty() {
             let refused = |number| Refusal { number, event: event as u16 };
-            if let Some(number) = unreadable(rest).or((event > EVENTS).then_some(13)) {
+            if let Some(number) = unreadable(rest, self.version).or((event > EVENTS).then_some(13)) {
                 return Err(refused(number));
             }
             let mut record = [0; 10];
@@ -252,11 +283,11 @@ impl Fast {
     fn record<'a>(&mut self, event: Name, record: &[u8; 10], rest: &'a [u8]) -> Result<&'a [u8], u16> {
         let kind = record[2] & 15;
         if header(record) != HEADERS[usize::from(kind)] {
-            return Err(unreadable(rest).unwrap_or(3));
+            return Err(unreadable(rest, self.version).unwrap_or(3));
         }
         match kind {
             2 => self.issue(event, self.thread(record)?, field(record, 6)).map(|()| &rest[8..]),
-            3 => self.commit(self.thread(record)?).map(|()| &rest[6..]),
+            3 => self.commit(event, self.thread(record)?).map(|()| &rest[6..]),
             4 => self.load(event, self.thread(record)?, field(record, 6), field(record, 8)).map(|()| &rest[10..]),
             5 | 6 => self.thread(record).and_then(|_| self.check_location(field(record, 6))).map(|()| &rest[8..]),
             7 => self.thread(record).map(|_| &rest[6..]),
@@ -266,6 +297,8 @@ impl Fast {
             12 => self.locked(event, self.thread(record)?, field(record, 6), field(record, 8)).map(|()| &rest[10..]),
             13 => self.signal(event, self.thread(record)?).map(|()| &rest[6..]),
             14 => self.wait(self.thread(record)?, field(record, 6)).map(|()| &rest[8..]),
+            15 => self.open(self.thread_of_version_2(record)?).map(|()| &rest[6..]),
+            0 => self.close(event, self.thread_of_version_2(record)?, field(record, 6)).map(|()| &rest[8..]),
             _ => Err(5),
         }
     }
@@ -278,6 +311,15 @@ impl Fast {
             return Err(7);
         }
         Ok(usize::from(thread) & (THREADS - 1))
+    }
+
+    /// The thread of a record that only version 2 knows, or refusal 3 or 7.
+    #[inline(always)]
+    fn thread_of_version_2(&self, record: &[u8; 10]) -> Result<usize, u16> {
+        if self.version == 1 {
+            return Err(3);
+        }
+        self.thread(record)
     }
 
     #[inline(always)]
@@ -297,24 +339,25 @@ impl Fast {
     }
 
     #[inline(always)]
-    fn commit(&mut self, thread: usize) -> Result<(), u16> {
+    fn commit(&mut self, event: Name, thread: usize) -> Result<(), u16> {
         let owner = &self.threads[thread];
         if owner.committed == owner.issued {
             return Err(10);
         }
         let oldest = self.stores[at(owner.committed)].next;
-        self.take_effect(thread, oldest, self.stores[at(oldest)].location);
+        self.take_effect(event, thread, oldest, self.stores[at(oldest)].location);
         Ok(())
     }
 
     /// The oldest waiting store of a thread takes effect.
     #[inline(always)]
-    fn take_effect(&mut self, thread: usize, oldest: Name, location: u16) {
+    fn take_effect(&mut self, event: Name, thread: usize, oldest: Name, location: u16) {
         self.threads[thread].committed = oldest;
         let store = &mut self.stores[at(oldest)];
         let location = &mut self.locations[usize::from(location)];
         store.call = self.call;
         store.older = location.last.store();
+        store.commit = event;
         store.forbidden = false;
         store.observed = false;
         location.last = Last::new(self.stretch, oldest as u16);
@@ -361,16 +404,33 @@ impl Fast {
                 return Err(9);
             }
         }
-        if self.skips >> thread & 1 == 0 && self.evidence.is_none() {
-            let forbidden = self.forbid(location, source);
-            let observed = source != 0 && self.observe(source);
-            let place = &mut self.locations[usize::from(location)];
-            place.counted = (place.last, source);
-            if forbidden || observed {
-                self.evidence = Some(self.find_evidence(event));
-            }
+        let switches = self.switches >> thread & (SKIPS | OPEN);
+        if switches == 0 && self.evidence.is_none() {
+            self.count(event, location, source);
+        } else if switches == OPEN {
+            self.hold(event, thread, location, source);
         }
         Ok(())
+    }
+
+    /// Counts a crossing load.
+    #[inline(always)]
+    fn count(&mut self, event: Name, location: u16, source: u16) {
+        let forbidden = self.forbid(location, source);
+        let observed = source != 0 && self.observe(source);
+        let place = &mut self.locations[usize::from(location)];
+        place.counted = (place.last, source);
+        if forbidden || observed {
+            self.evidence = Some(self.find_evidence(event));
+        }
+    }
+
+    /// Adds a crossing load to those that its thread holds. On its own, so that the other ones save no registers.
+    #[inline(never)]
+    fn hold(&mut self, event: Name, thread: usize, location: u16, source: u16) {
+        let head = self.locations[usize::from(location)].last;
+        let older = std::mem::replace(&mut self.threads[thread].held, event);
+        self.held[at(event)] = Held { location, source, head, older };
     }
 
     /// A load, then the issue of a store and its commit. The load is judged before the store is the location's last.
@@ -396,7 +456,7 @@ impl Fast {
     #[inline(always)]
     fn issue_and_commit(&mut self, event: Name, thread: usize, location: u16) -> Result<(), u16> {
         self.issue(event, thread, location)?;
-        self.take_effect(thread, event, location);
+        self.take_effect(event, thread, event, location);
         Ok(())
     }
 
@@ -431,7 +491,31 @@ impl Fast {
         let place = &self.locations[usize::from(location)];
         let (source, marked_for) = (source as Name, place.counted.1 as Name);
         let marked = if source == marked_for { place.counted.0.store() } else { source };
-        let mut name = place.last.store();
+        self.mark(place.last.store(), source, marked)
+    }
+
+    /// Marks the stores to a location that a held load found, from the last back to the source. Where the same ones are
+    /// marked back to another source, goes on from there, if this one is older. Gives whether one of them must be in.
+    #[inline(always)]
+    fn forbid_found(&mut self, held: &Held) -> bool {
+        let place = &mut self.locations[usize::from(held.location)];
+        let (source, marked_for) = (held.source as Name, place.counted.1 as Name);
+        let (from, marked) = if held.head == place.counted.0 {
+            if self.stores[at(marked_for)].commit <= self.stores[at(source)].commit {
+                return false;
+            }
+            (marked_for, source)
+        } else {
+            (held.head.store(), if source == marked_for { place.counted.0.store() } else { source })
+        };
+        place.counted = (held.head, held.source);
+        self.mark(from, source, marked)
+    }
+
+    /// Marks stores to one location from one back to the source, or to one from which they are marked already. Gives
+    /// whether one of them must be in.
+    #[inline(always)]
+    fn mark(&mut self, mut name: Name, source: Name, marked: Name) -> bool {
         let mut must_be_in = false;
         while name != source && name != marked {
             let store = &mut self.stores[at(name)];
@@ -498,11 +582,58 @@ impl Fast {
 
     #[inline(always)]
     fn skip(&mut self, thread: usize, on: bool) -> Result<(), u16> {
-        if (self.skips >> thread & 1 == 1) == on {
+        self.switch(thread, SKIPS, on)
+    }
+
+    /// Turns a switch of a thread on or off. Refusal 12 if it is so already.
+    #[inline(always)]
+    fn switch(&mut self, thread: usize, which: u16, on: bool) -> Result<(), u16> {
+        let bit = which << thread;
+        if (self.switches & bit != 0) == on {
             return Err(12);
         }
-        self.skips ^= 1 << thread;
+        self.switches ^= bit;
         Ok(())
+    }
+
+    /// From here on the thread holds its crossing loads. On its own, as `wait` is.
+    #[inline(never)]
+    fn open(&mut self, thread: usize) -> Result<(), u16> {
+        self.switch(thread, OPEN, true)?;
+        self.threads[thread].held = 0;
+        Ok(())
+    }
+
+    /// Counts what the thread holds, if the outcome is 1. On its own, as `wait` is.
+    #[inline(never)]
+    fn close(&mut self, event: Name, thread: usize, outcome: u16) -> Result<(), u16> {
+        if outcome > 1 {
+            return Err(19);
+        }
+        self.switch(thread, OPEN, false)?;
+        if outcome == 1 && self.evidence.is_none() {
+            self.count_held(event, self.threads[thread].held);
+        }
+        Ok(())
+    }
+
+    /// Counts loads as of a close: the newest, and those that were held before it. All are marked before evidence is
+    /// looked for.
+    #[inline(never)]
+    fn count_held(&mut self, event: Name, newest: Name) {
+        let mut name = newest;
+        let mut broken = false;
+        while name != 0 {
+            let held = self.held[at(name)];
+            if self.locations[usize::from(held.location)].counted != (held.head, held.source) {
+                broken |= self.forbid_found(&held);
+                broken |= held.source != 0 && self.observe(held.source);
+            }
+            name = held.older;
+        }
+        if broken {
+            self.evidence = Some(self.find_evidence(event));
+        }
     }
 
     #[inline(never)]
@@ -519,7 +650,7 @@ impl Fast {
         }
         self.stretch += 1;
         self.stretches[usize::from(self.stretch)] = Stretch { start, cut: start, ..EMPTY };
-        self.skips = 0;
+        self.switches = 0;
         Ok(())
     }
 
@@ -648,9 +779,10 @@ fn behind(bytes: &[u8]) -> &[u8] {
     &bytes[2 + usize::from(length)..]
 }
 
-/// The refusal of a record that cannot be read, or 5 if it is a begin; `None` otherwise. There is at least one byte.
+/// The refusal of a record that cannot be read in a trace of a version, or 5 if it is a begin; `None` otherwise. There
+/// is at least one byte.
 #[cold]
-fn unreadable(bytes: &[u8]) -> Option<u16> {
+fn unreadable(bytes: &[u8], version: u16) -> Option<u16> {
     let number = |at: usize| bytes.get(at..at + 2).map(|pair| u16::from_le_bytes([pair[0], pair[1]]));
     let Some(length) = number(0) else { return Some(2) };
     if length < 2 {
@@ -660,12 +792,13 @@ fn unreadable(bytes: &[u8]) -> Option<u16> {
         return Some(2);
     }
     let kind = number(2)?;
-    match HEADERS.get(usize::from(kind)) {
-        None | Some(&NO_KIND) => Some(3),
-        Some(&header) if header & 0xffff != length.into() => Some(4),
-        _ if kind == 1 => Some(5),
-        _ => None,
+    if !KINDS.contains(&kind) || version == 1 && KINDS_OF_VERSION_2.contains(&kind) {
+        return Some(3);
     }
+    if HEADERS[usize::from(kind & 15)] & 0xffff != length.into() {
+        return Some(4);
+    }
+    (kind == 1).then_some(5)
 }
 
 #[cfg(test)]
@@ -715,11 +848,12 @@ mod tests {
             let [low, high] = kind.to_le_bytes();
             let record = [2, 0, low, high];
             let expected = match kind {
-                9 => None,
-                1..=14 => Some(4),
-                _ => Some(3),
+                9 => [None; 2],
+                1..=14 => [Some(4); 2],
+                15..=16 => [Some(3), Some(4)],
+                _ => [Some(3); 2],
             };
-            assert_eq!(unreadable(&record), expected);
+            assert_eq!([1, 2].map(|version| unreadable(&record, version)), expected);
             assert!(kind == 9 || HEADERS[usize::from(kind & 15)] != u32::from_le_bytes(record));
         }
     }

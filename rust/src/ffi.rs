@@ -8,7 +8,7 @@
 pub const ANSWER: usize = 26;
 
 /// The number of numbers of a record.
-pub const RECORD: usize = 8;
+pub const RECORD: usize = 9;
 
 extern "C" {
     fn gorbuzte_judge(
@@ -68,7 +68,7 @@ pub fn order(trace: &[u8], work: &mut [u16], first: u16, second: u16) -> [u16; 3
 }
 
 /// Reads the record at a position. Gives the position past it, 0 if it is refused, and its numbers: refusal, kind,
-/// version, threads, locations, thread, location, source; what its kind does not have is 0.
+/// version, threads, locations, thread, location, source, outcome; what its kind does not have is 0.
 pub fn read(trace: &[u8], at: usize) -> (usize, [u16; RECORD]) {
     let mut record = [0; RECORD];
     // SAFETY: the trace is a slice, and the record an array of the size that the header names.

@@ -12,7 +12,7 @@ use settings::Settings;
 use std::cell::Cell;
 
 /// The largest number of a kind.
-const KINDS: u16 = 14;
+const KINDS: u16 = 16;
 
 /// One in so many accepted traces of few events has no bytes.
 const NO_BYTES: usize = 170;
@@ -133,7 +133,7 @@ impl Generator {
     }
 
     /// An accepted trace of few events, or no bytes. Each third one has many hand-overs by signals, which take more
-    /// events.
+    /// events, as regions do.
     fn small(&mut self, random: &Random) {
         if random.once_in(NO_BYTES) {
             self.draft.bytes.clear();
@@ -152,14 +152,15 @@ impl Generator {
         }
         self.draft.begin_some(random);
         let settings = Settings::draw(random);
-        self.draft.grow(events, &settings, random);
+        let regions = if self.draft.version == 2 { 14 } else { 0 };
+        self.draft.grow(events + regions, &settings, random);
     }
 
     /// An accepted trace of up to 2,048 events.
     fn large(&mut self, random: &Random) {
         let events = random.between(200, 2_048);
         let (threads, locations) = (random.between(1, 8), random.between(1, 256));
-        self.draft.begin(threads, locations);
+        self.draft.begin(random.between(1, 2), threads, locations);
         let used = random.between(1, locations).min(64);
         self.draft.use_some(used, random);
         let settings = Settings::draw_large(random);
@@ -174,12 +175,12 @@ impl Generator {
             0..=1 => many_events(draft, settings, random),
             2..=7 => many_crashes(draft, &settings, random),
             8..=13 => {
-                draft.begin(random.between(8, 9), random.between(2, 4));
+                draft.begin(random.between(1, 2), random.between(8, 9), random.between(2, 4));
                 draft.use_some(2, random);
                 draft.grow(random.between(0, 40), &settings, random);
             }
             _ => {
-                draft.begin(random.between(1, 3), random.between(256, 257));
+                draft.begin(random.between(1, 2), random.between(1, 3), random.between(256, 257));
                 draft.use_some(2, random);
                 draft.use_last();
                 draft.grow(random.between(0, 40), &settings, random);
@@ -199,7 +200,7 @@ fn many_events(draft: &mut Draft, mut settings: Settings, random: &Random) {
     settings.crash = 2_000;
     draft.grow(random.pick(&[2_047, 2_048, 2_048, 2_048, 2_049, 2_050]), &settings, random);
     if random.once_in(2) {
-        let rule = random.pick(&[2, 3, 4, 5, 5, 5, 7, 8, 9, 12, 18]);
+        let rule = random.pick(&[2, 3, 3, 4, 5, 5, 5, 7, 8, 9, 12, 18, 19]);
         mistakes::make_mistake(draft, rule, &settings, random);
     }
 }

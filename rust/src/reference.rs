@@ -17,6 +17,7 @@ use machine::{Machine, Store};
 use order::Precedence;
 use windows::windows;
 
+use records::read_later;
 pub use records::{frame, read_at, write};
 
 /// "at most 2,048"
@@ -30,9 +31,9 @@ pub struct Accepted {
     records: u16,
 }
 
-/// "A trace is accepted if no refusal over its records (1 to 13 here) applies." Document 02, job 4, adds 18. Job 6:
-/// "For judging, empty bytes mean a trace with no events", so one with no records, and "1 in judging only for bytes
-/// that begin with some other record." Calls other than judging turn this trace away themselves.
+/// "A trace is accepted if no refusal over its records (1 to 13 here) applies." Document 02, job 4, adds 18, job 7 adds
+/// 19. Job 6: "For judging, empty bytes mean a trace with no events", so one with no records, and "1 in judging only
+/// for bytes that begin with some other record." Calls other than judging turn this trace away themselves.
 ///
 /// # Errors
 ///
@@ -42,7 +43,11 @@ pub fn accept(trace: &[u8]) -> Result<Accepted, Refusal> {
     let (mut at, mut event) = (0, 0);
     while at < trace.len() {
         let refused = |number| Refusal { number, event };
-        let (record, next) = read_at(trace, at).map_err(|refusal| refused(refusal.number))?;
+        let read = match event {
+            0 => read_at(trace, at).map_err(|refusal| refusal.number),
+            _ => read_later(trace, at, machine.version),
+        };
+        let (record, next) = read.map_err(refused)?;
         machine.step(event, &record).map_err(refused)?;
         at = next;
         event += 1;
@@ -57,7 +62,7 @@ pub fn accept(trace: &[u8]) -> Result<Accepted, Refusal> {
 ///
 /// # Errors
 ///
-/// The refusal (1 to 13 or 18) if the trace is not accepted.
+/// The refusal (1 to 13, 18 or 19) if the trace is not accepted.
 pub fn judge(trace: &[u8]) -> Result<Verdict, Refusal> {
     Ok(accept(trace)?.verdict())
 }
@@ -66,7 +71,8 @@ pub fn judge(trace: &[u8]) -> Result<Verdict, Refusal> {
 ///
 /// # Errors
 ///
-/// The refusal (1 to 13 or 18) if the trace is not accepted, 1 for no bytes too, "then 16": "query number is no issue".
+/// The refusal (1 to 13, 18 or 19) if the trace is not accepted, 1 for no bytes too, "then 16": "query number is no
+/// issue".
 pub fn order(trace: &[u8], first: u16, second: u16) -> Result<Order, Refusal> {
     accept(trace)?.order(first, second)
 }
@@ -90,18 +96,24 @@ pub fn judge_by_all_choices(trace: &[u8], limit: usize) -> Option<Result<Verdict
 
 impl Accepted {
     /// "Robust: a closed choice explains all counted loads." "Broken: no closed choice does. Load is the smallest event
-    /// number for which records 0 to load, taken as a trace, have none either." So counted loads are added one by one,
-    /// until a store that must be in is forbidden.
+    /// number for which records 0 to load, taken as a trace, have none either." So counted loads are added event by
+    /// event, those of a close all together, until a store that must be in is forbidden.
     #[must_use]
     pub fn verdict(&self) -> Verdict {
         let mut explanation = Explanation::new(&self.machine);
-        for load in self.machine.loads.iter().filter(|load| load.counted) {
-            explanation.add(&demand_of(&self.machine, load), &self.precedence);
+        for (event, loads) in self.machine.counted() {
+            loads.iter().for_each(|load| explanation.add(&demand_of(&self.machine, load), &self.precedence));
             if explanation.fails() {
-                return self.broken(load.event, &explanation.observed, &explanation.forbidden, self.events());
+                return self.broken(event, &explanation.observed, &explanation.forbidden, self.events());
             }
         }
         self.robust(explanation.counts(&self.machine))
+    }
+
+    /// The events as of which loads count, each with the number of these loads.
+    #[must_use]
+    pub fn counting(&self) -> Vec<(u16, usize)> {
+        self.machine.counted().into_iter().map(|(event, loads)| (event, loads.len())).collect()
     }
 
     /// "two event numbers: before, after, same, neither". Document 02, job 6, on empty bytes: "Other calls still turn
@@ -177,7 +189,7 @@ impl Accepted {
 
     /// What each counted load observes and forbids.
     fn demands(&self) -> Vec<Demand> {
-        self.machine.loads.iter().filter(|load| load.counted).map(|load| demand_of(&self.machine, load)).collect()
+        self.machine.counted().values().flatten().map(|load| demand_of(&self.machine, load)).collect()
     }
 
     /// "The least (every other such choice has at least its count at every place)" of the closed choices that explain

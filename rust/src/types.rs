@@ -13,7 +13,7 @@ pub const THREADS: usize = 8;
 pub const LARGEST_RECORD: usize = 10;
 
 /// The numbers of the refusals over the records of a trace.
-pub const REFUSALS: [u16; 14] = [1, 2, 3, 4, 5, 6, 7, 8, 9, 10, 11, 12, 13, 18];
+pub const REFUSALS: [u16; 15] = [1, 2, 3, 4, 5, 6, 7, 8, 9, 10, 11, 12, 13, 18, 19];
 
 /// What the judge says of an accepted trace. No bytes are one with no events: robust, with a share of 100 and a cut of
 /// zeros.
@@ -33,7 +33,8 @@ pub enum Verdict {
     Broken {
         /// The number of events after the begin.
         events: u16,
-        /// The smallest event number for which the records up to it have no such choice either.
+        /// The smallest event number for which the records up to it have no such choice either: that of a load, of a
+        /// locked operation, or of a close, as of which all loads that it counts do.
         load: u16,
         /// The event number of the smallest store that a counted load forbids and that must be in.
         missing: u16,
@@ -77,7 +78,7 @@ pub struct Window {
 /// Why a trace, a call or a record is turned away.
 #[derive(Clone, Copy, Debug, PartialEq, Eq)]
 pub struct Refusal {
-    /// The number of the refusal, 1 to 18. In judging, 1 is for bytes that begin with another record than a begin; the
+    /// The number of the refusal, 1 to 19. In judging, 1 is for bytes that begin with another record than a begin; the
     /// order query gives it for no bytes too, and reading for these alone.
     pub number: u16,
     /// The number of the event that is turned away; 0 for the refusals 14 to 17.
@@ -102,7 +103,7 @@ pub enum Order {
 pub enum Event {
     /// Kind 1, the first record of a trace.
     Begin {
-        /// The version of the format, 1.
+        /// The version of the format: 1, or 2, which admits [`Event::Open`] and [`Event::Close`].
         version: u16,
         /// The number of threads.
         threads: u16,
@@ -187,5 +188,17 @@ pub enum Event {
         thread: u16,
         /// The event number of the signal, which is earlier in the same stretch.
         source: u16,
+    },
+    /// Kind 15, of version 2: from here on crossing loads of the thread are held, but for those in a skip.
+    Open {
+        /// The thread whose loads are under a checksum.
+        thread: u16,
+    },
+    /// Kind 16, of version 2: the loads that the thread has held since its open count from here on, or are dropped.
+    Close {
+        /// The thread, which is open.
+        thread: u16,
+        /// 1 if the checksum was right: the loads count. 0 if not: they are dropped.
+        outcome: u16,
     },
 }

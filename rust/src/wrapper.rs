@@ -8,7 +8,7 @@ use crate::types::{Event, Kind, Order, Refusal, Verdict, Window, Windows, CUT, T
 ///
 /// # Errors
 ///
-/// The refusal (1 to 13 or 18) if the trace is not accepted; 1 is for bytes that begin with another record than a
+/// The refusal (1 to 13, 18 or 19) if the trace is not accepted; 1 is for bytes that begin with another record than a
 /// begin.
 pub fn judge(trace: &[u8]) -> Result<Verdict, Refusal> {
     Judge::new().judge(trace)
@@ -19,7 +19,7 @@ pub fn judge(trace: &[u8]) -> Result<Verdict, Refusal> {
 ///
 /// # Errors
 ///
-/// The refusal (1 to 13 or 18) if the trace is not accepted, 1 for no bytes too, or 16 if one of the numbers is no
+/// The refusal (1 to 13, 18 or 19) if the trace is not accepted, 1 for no bytes too, or 16 if one of the numbers is no
 /// issue's (kind 2 or 12).
 pub fn order(trace: &[u8], first: u16, second: u16) -> Result<Order, Refusal> {
     Judge::new().order(trace, first, second)
@@ -49,7 +49,7 @@ impl Judge {
     ///
     /// # Errors
     ///
-    /// The refusal (1 to 13 or 18) if the trace is not accepted.
+    /// The refusal (1 to 13, 18 or 19) if the trace is not accepted.
     pub fn judge(&mut self, trace: &[u8]) -> Result<Verdict, Refusal> {
         judge_with(trace, &mut self.work, &mut self.cut)
     }
@@ -58,8 +58,8 @@ impl Judge {
     ///
     /// # Errors
     ///
-    /// The refusal (1 to 13 or 18) if the trace is not accepted, 1 for no bytes too, or 16 if one of the numbers is no
-    /// issue's (kind 2 or 12).
+    /// The refusal (1 to 13, 18 or 19) if the trace is not accepted, 1 for no bytes too, or 16 if one of the numbers is
+    /// no issue's (kind 2 or 12).
     pub fn order(&mut self, trace: &[u8], first: u16, second: u16) -> Result<Order, Refusal> {
         order_with(trace, &mut self.work, first, second)
     }
@@ -71,7 +71,7 @@ impl Judge {
 /// # Errors
 ///
 /// 14 if the work area is smaller than [`WORK`] numbers, 15 if the cut buffer is not [`CUT`] numbers (both change
-/// nothing), or the refusal (1 to 13 or 18) if the trace is not accepted.
+/// nothing), or the refusal (1 to 13, 18 or 19) if the trace is not accepted.
 pub fn judge_with(trace: &[u8], work: &mut [u16], cut: &mut [u16]) -> Result<Verdict, Refusal> {
     let [refusal, event, verdict, events, share, load, missing, observed, kind, primary, places @ ..] =
         ffi::judge(trace, work, cut);
@@ -93,8 +93,8 @@ pub fn judge_with(trace: &[u8], work: &mut [u16], cut: &mut [u16]) -> Result<Ver
 ///
 /// # Errors
 ///
-/// 14 if the work area is smaller than [`WORK`] numbers (it stays as it was then), the refusal (1 to 13 or 18) if the
-/// trace is not accepted, 1 for no bytes too, or 16 if one of the numbers is no issue's (kind 2 or 12).
+/// 14 if the work area is smaller than [`WORK`] numbers (it stays as it was then), the refusal (1 to 13, 18 or 19) if
+/// the trace is not accepted, 1 for no bytes too, or 16 if one of the numbers is no issue's (kind 2 or 12).
 pub fn order_with(trace: &[u8], work: &mut [u16], first: u16, second: u16) -> Result<Order, Refusal> {
     match ffi::order(trace, work, first, second) {
         [0, _, 1] => Ok(Order::Before),
@@ -106,7 +106,8 @@ pub fn order_with(trace: &[u8], work: &mut [u16], first: u16, second: u16) -> Re
     }
 }
 
-/// The event of the record that starts at a position, and the position past the record.
+/// The event of the record that starts at a position, and the position past the record. It is read alone, so every kind
+/// is known, those of version 2 too.
 ///
 /// # Errors
 ///
@@ -160,9 +161,9 @@ fn window_of(first: u16, last: u16) -> Option<Window> {
     (first != 0 || last != 0).then_some(Window { first, last })
 }
 
-/// The event of a record's numbers; `None` if the kind is no number from 1 to 14.
+/// The event of a record's numbers; `None` if the kind is no number from 1 to 16.
 fn event_of(record: &[u16; ffi::RECORD]) -> Option<Event> {
-    let [_, kind, version, threads, locations, thread, location, source] = *record;
+    let [_, kind, version, threads, locations, thread, location, source, outcome] = *record;
     Some(match kind {
         1 => Event::Begin { version, threads, locations },
         2 => Event::Issue { thread, location },
@@ -178,6 +179,8 @@ fn event_of(record: &[u16; ffi::RECORD]) -> Option<Event> {
         12 => Event::Locked { thread, location, source },
         13 => Event::Signal { thread },
         14 => Event::Wait { thread, source },
+        15 => Event::Open { thread },
+        16 => Event::Close { thread, outcome },
         _ => return None,
     })
 }
@@ -185,19 +188,21 @@ fn event_of(record: &[u16; ffi::RECORD]) -> Option<Event> {
 /// The numbers of an event's record.
 pub(crate) fn record_of(event: &Event) -> [u16; ffi::RECORD] {
     match *event {
-        Event::Begin { version, threads, locations } => [0, 1, version, threads, locations, 0, 0, 0],
-        Event::Issue { thread, location } => [0, 2, 0, 0, 0, thread, location, 0],
-        Event::Commit { thread } => [0, 3, 0, 0, 0, thread, 0, 0],
-        Event::Load { thread, location, source } => [0, 4, 0, 0, 0, thread, location, source],
-        Event::Clflush { thread, location } => [0, 5, 0, 0, 0, thread, location, 0],
-        Event::Clwb { thread, location } => [0, 6, 0, 0, 0, thread, location, 0],
-        Event::Sfence { thread } => [0, 7, 0, 0, 0, thread, 0, 0],
-        Event::Mfence { thread } => [0, 8, 0, 0, 0, thread, 0, 0],
-        Event::Crash => [0, 9, 0, 0, 0, 0, 0, 0],
-        Event::SkipOn { thread } => [0, 10, 0, 0, 0, thread, 0, 0],
-        Event::SkipOff { thread } => [0, 11, 0, 0, 0, thread, 0, 0],
-        Event::Locked { thread, location, source } => [0, 12, 0, 0, 0, thread, location, source],
-        Event::Signal { thread } => [0, 13, 0, 0, 0, thread, 0, 0],
-        Event::Wait { thread, source } => [0, 14, 0, 0, 0, thread, 0, source],
+        Event::Begin { version, threads, locations } => [0, 1, version, threads, locations, 0, 0, 0, 0],
+        Event::Issue { thread, location } => [0, 2, 0, 0, 0, thread, location, 0, 0],
+        Event::Commit { thread } => [0, 3, 0, 0, 0, thread, 0, 0, 0],
+        Event::Load { thread, location, source } => [0, 4, 0, 0, 0, thread, location, source, 0],
+        Event::Clflush { thread, location } => [0, 5, 0, 0, 0, thread, location, 0, 0],
+        Event::Clwb { thread, location } => [0, 6, 0, 0, 0, thread, location, 0, 0],
+        Event::Sfence { thread } => [0, 7, 0, 0, 0, thread, 0, 0, 0],
+        Event::Mfence { thread } => [0, 8, 0, 0, 0, thread, 0, 0, 0],
+        Event::Crash => [0, 9, 0, 0, 0, 0, 0, 0, 0],
+        Event::SkipOn { thread } => [0, 10, 0, 0, 0, thread, 0, 0, 0],
+        Event::SkipOff { thread } => [0, 11, 0, 0, 0, thread, 0, 0, 0],
+        Event::Locked { thread, location, source } => [0, 12, 0, 0, 0, thread, location, source, 0],
+        Event::Signal { thread } => [0, 13, 0, 0, 0, thread, 0, 0, 0],
+        Event::Wait { thread, source } => [0, 14, 0, 0, 0, thread, 0, source, 0],
+        Event::Open { thread } => [0, 15, 0, 0, 0, thread, 0, 0, 0],
+        Event::Close { thread, outcome } => [0, 16, 0, 0, 0, thread, 0, 0, outcome],
     }
 }

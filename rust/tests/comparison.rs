@@ -2,7 +2,7 @@
 
 use gorbuzte::comparison::{events_of, location_of, Comparison};
 use gorbuzte::generator::{Family, Generator, Random, FAMILIES};
-use gorbuzte::{reference, Judge, Kind, Refusal, Verdict, REFUSALS};
+use gorbuzte::{reference, Event, Judge, Kind, Refusal, Verdict, REFUSALS};
 use std::collections::BTreeSet;
 
 const SEED: u64 = 2_026;
@@ -29,6 +29,8 @@ fn the_judges_agree() {
     assert!(counts.locked > TRACES / 5 && counts.observing_without_window > TRACES / 1_000);
     assert!([counts.load_locked, counts.missing_locked, counts.observed_locked].iter().all(|&met| met > TRACES / 50));
     assert!(counts.waits > TRACES / 5 && counts.broken_by_waits > TRACES / 50 && counts.opened_by_waits > TRACES / 50);
+    assert!(counts.counting_closes > TRACES / 10 && counts.several_held > TRACES / 10);
+    assert!(counts.broken_at_close > TRACES / 25 && counts.robust_by_drops > TRACES / 100);
     assert!(counts.all_choices > TRACES / 5 && counts.all_choices_broken > 0);
     assert!(counts.all_pairs > 0 && counts.queries > 0 && counts.wrong_buffers > 0 && counts.records > 0);
 }
@@ -87,6 +89,31 @@ fn limits_are_met_from_both_sides() {
     assert_eq!(families.len(), FAMILIES.len());
     assert_eq!((most_events, most_stretches, kinds.len()), (2_048, 7, 3));
     assert!(refusals.contains(&(13, true)) && refusals.contains(&(13, false)), "{refusals:?}");
+}
+
+/// Traces of both versions come up about as often, and kinds 15 and 16 in version 1 with right and wrong lengths.
+#[test]
+fn both_versions_come_up() {
+    let mut generator = Generator::new();
+    let mut versions = [0; 2];
+    let (mut right, mut wrong) = (0, 0);
+    for number in 0..TRACES {
+        let (trace, family) = generator.trace(SEED, number);
+        let Ok((Event::Begin { version: version @ 1..=2, .. }, _)) = reference::read_at(trace, 0) else { continue };
+        if family == Family::Small {
+            versions[usize::from(version) - 1] += 1;
+        }
+        if let (1, Err(Refusal { number: 3, event })) = (version, reference::judge(trace)) {
+            let record = reference::frame(trace, event.into()).expect("a record that is refused with 3 is framed");
+            match (record[2], reference::read_at(record, 0)) {
+                (15..=16, Ok(_)) => right += 1,
+                (15..=16, Err(Refusal { number: 4, .. })) => wrong += 1,
+                _ => {}
+            }
+        }
+    }
+    assert!(versions.iter().all(|&met| met > TRACES / 4), "{versions:?}");
+    assert!(right > 10 && wrong > 10, "{right}, {wrong}");
 }
 
 /// No bytes come up as accepted traces, and close to them single bytes and first records that are no begin.

@@ -13,6 +13,7 @@ use gorbuzte::{frame, read_at, reference, Judge, Refusal, Verdict, CUT};
 const ACCEPTED: &[Row] = &[
     ("no bytes: robust, share 100, no events", "", "events 0 / verdict robust / share 100"),
     ("a begin alone has no events behind it", "B1.1.2", "events 0 / verdict robust / share 100"),
+    ("nor has one of version 2", "B2.1.2", "events 0 / verdict robust / share 100"),
     ("nor has the smallest begin", "B1.1.1", "events 0 / verdict robust / share 100"),
     ("nor the largest", "B1.8.256", "events 0 / verdict robust / share 100"),
     ("a crash behind a begin finishes a stretch", "B1.1.2 X", "events 1 / verdict robust / cut 1 0 / share 100"),
@@ -59,7 +60,7 @@ const LENGTHS: &[Row] = &[
 /// A first record of an unknown kind: 3, at event 0, ahead of a wrong length and of 1.
 const UNKNOWN: &[Row] = &[
     ("kind 0", "x02000000", "refused 3 0"),
-    ("kind 15, the first behind those that there are", "x02000f00", "refused 3 0"),
+    ("kind 17, the first behind those that there are", "x02001100", "refused 3 0"),
     ("kind 99", "x02006300", "refused 3 0"),
     ("kind 256 + 1, whose lower byte is a begin's", "x08000101010001000200", "refused 3 0"),
     ("kind 256 + 9, whose lower byte is a crash's", "x02000901", "refused 3 0"),
@@ -84,6 +85,8 @@ const OTHERS: &[Row] = &[
     ("a locked operation is", "R0.0<0", "refused 1 0"),
     ("a signal is", "S0", "refused 1 0"),
     ("a wait is", "W0<0", "refused 1 0"),
+    ("an open is", "O0", "refused 1 0"),
+    ("a close is", "K0.0", "refused 1 0"),
     ("a begin behind an issue is not the first record", "I0.0 B1.1.2", "refused 1 0"),
     ("nor behind a commit", "C0 B1.1.2", "refused 1 0"),
     ("nor behind a load", "L0.0<0 B1.1.2", "refused 1 0"),
@@ -97,6 +100,8 @@ const OTHERS: &[Row] = &[
     ("nor behind a locked operation", "R0.0<0 B1.1.2", "refused 1 0"),
     ("nor behind a signal", "S0 B1.1.2", "refused 1 0"),
     ("nor behind a wait", "W0<0 B1.1.2", "refused 1 0"),
+    ("nor behind an open", "O0 B2.1.2", "refused 1 0"),
+    ("nor behind a close", "K0.0 B2.1.2", "refused 1 0"),
     ("1 ahead of what follows: the next record cannot be read", "SF0 x0000", "refused 1 0"),
     ("1 before 13: the first of 8 crashes", "8*X", "refused 1 0"),
     ("1 before 7, 8 and 9: no such thread, location or source", "L9.300<7", "refused 1 0"),
@@ -106,7 +111,7 @@ const OTHERS: &[Row] = &[
 /// A first record that is a begin: 6 if a field is out of range, and refusals of later records carry their numbers.
 const BEGINS: &[Row] = &[
     ("version 0", "B0.1.2", "refused 6 0"),
-    ("version 2", "B2.1.2", "refused 6 0"),
+    ("version 3", "B3.1.2", "refused 6 0"),
     ("no threads", "B1.0.2", "refused 6 0"),
     ("9 threads", "B1.9.2", "refused 6 0"),
     ("no locations", "B1.1.0", "refused 6 0"),
@@ -165,11 +170,12 @@ fn the_other_judges_judge_no_bytes() {
 }
 
 /// Traces that leave something behind in a judge that keeps its tables: waiting and committed stores, skips, signals,
-/// crashes, a cut, evidence.
+/// crashes, a cut, held loads, evidence.
 const LEFT_BEHIND: &[&str] = &[
     "B1.2.9 I0.0 I1.8",
     "B1.2.9 I0.0 C0 S0 SKIP1",
     "B1.8.256 I7.255 C7 7*X L0.255<1",
+    "B2.1.2 I0.0 C0 X O0 L0.0<1",
     "B1.1.2 I0.0 C0 X L0.0<1 L0.0<0",
     "B1.2.9 I0.0 C0 L1.0<1 I1.8 C1 X L0.0<0 L0.8<4",
     "B1.1.2 I0.0 X L0.0<1",

@@ -23,6 +23,8 @@ struct Replaced {
     as_store: Vec<u16>,
     /// The numbers of the locked operations in the old trace.
     locked: Vec<u16>,
+    /// The numbers of the closes in the old trace.
+    closes: Vec<u16>,
     /// The number of waits whose signal has another number than in the old trace.
     moved_waits: u32,
     /// The number of records, the begin included.
@@ -57,6 +59,10 @@ impl Replaced {
                 let signal = self.carried_source(source);
                 self.moved_waits += u32::from(signal != source);
                 self.put(Event::Wait { thread, source: signal });
+            }
+            Event::Close { .. } => {
+                self.closes.push(number);
+                self.put(event);
             }
             _ => self.put(event),
         }
@@ -118,20 +124,23 @@ struct Met {
     load: u32,
     missing: u32,
     observed: u32,
+    /// Broken at a close.
+    at_close: u32,
     windows_inside: u32,
     moved_waits: u32,
     pairs: u32,
 }
 
 impl Met {
-    fn verdict(&mut self, verdict: &Verdict, locked: &[u16]) {
+    fn verdict(&mut self, verdict: &Verdict, replaced: &Replaced) {
         let &Verdict::Broken { load, missing, observed, kind, .. } = verdict else {
             self.robust += 1;
             return;
         };
-        self.load += u32::from(locked.contains(&load));
-        self.missing += u32::from(locked.contains(&missing));
-        self.observed += u32::from(locked.contains(&observed));
+        self.load += u32::from(replaced.locked.contains(&load));
+        self.missing += u32::from(replaced.locked.contains(&missing));
+        self.observed += u32::from(replaced.locked.contains(&observed));
+        self.at_close += u32::from(replaced.closes.contains(&load));
         *match kind {
             Kind::Contradiction => &mut self.contradiction,
             Kind::Flush(_) => &mut self.flush,
@@ -189,7 +198,7 @@ fn load_issue_and_commit_give_the_same() {
         }
         let what = format!("trace {number} of seed {SEED}");
         let new = reference::accept(&replaced.bytes).expect(&what);
-        met.verdict(&old.verdict(), &replaced.locked);
+        met.verdict(&old.verdict(), &replaced);
         met.moved_waits += replaced.moved_waits;
         let (verdict, windows) = without_windows(replaced.carried(old.verdict()));
         let (new_verdict, new_windows) = without_windows(new.verdict());
@@ -201,10 +210,9 @@ fn load_issue_and_commit_give_the_same() {
             met.orders(&old, &new, &replaced, &what);
         }
     }
-    let Met { robust, contradiction, flush, impossible, load, missing, observed, windows_inside, moved_waits, pairs } =
-        met;
-    let verdicts = [robust, contradiction, flush, impossible];
+    let verdicts = [met.robust, met.contradiction, met.flush, met.impossible];
     assert!(verdicts.iter().sum::<u32>() > 2_000, "{met:?}");
-    let others = [load, missing, observed, windows_inside, moved_waits, pairs];
-    assert!(verdicts.iter().chain(&others).all(|&number| number > 0), "{met:?}");
+    let stores = [met.load, met.missing, met.observed];
+    let others = [met.at_close, met.windows_inside, met.moved_waits, met.pairs];
+    assert!(verdicts.iter().chain(&stores).chain(&others).all(|&number| number > 0), "{met:?}");
 }

@@ -10,6 +10,8 @@ const ROBUST: &str = "B1.2.2 I0.0 C0 I1.1 C1 X L0.0<0 L0.1<3";
 const BROKEN: &str = "B1.1.2 I0.0 C0 X L0.0<1 L0.0<0";
 const FLUSH: &str = "B1.2.9 I0.0 C0 L1.0<1 I1.8 C1 X L0.0<0 L0.8<4";
 const IMPOSSIBLE: &str = "B1.2.2 I0.0 C0 L1.0<1 I1.1 C1 X L0.0<0 L0.1<4";
+const AT_CLOSE: &str = "B2.1.2 I0.0 C0 X O0 L0.0<1 L0.0<0 K0.1";
+const OUTCOME: &str = "B2.1.2 O0 K0.2";
 const REFUSED: &str = "B1.1.2 I0.0 X L0.0<1";
 const NO_BEGIN: &str = "X";
 const NO_BYTES: &str = "";
@@ -45,7 +47,7 @@ fn no_bytes_fill_the_cut_buffer_with_0() {
 
 #[test]
 fn other_answers_leave_the_cut_buffer() {
-    for text in [BROKEN, FLUSH, IMPOSSIBLE, REFUSED, NO_BEGIN] {
+    for text in [BROKEN, FLUSH, IMPOSSIBLE, AT_CLOSE, OUTCOME, REFUSED, NO_BEGIN] {
         let (mut work, mut cut) = (vec![7; WORK + 3], [7; CUT]);
         let trace = session(text);
         assert_eq!(judge_with(&trace, &mut work, &mut cut), judge(&trace));
@@ -101,9 +103,11 @@ fn the_order_query_clears_the_work_area() {
 
 #[test]
 fn the_numbers_of_an_answer() {
-    let rows: [(&str, &[u16], &[u16]); 7] = [
+    let rows: [(&str, &[u16], &[u16]); 9] = [
         (ROBUST, &[0, 0, 1, 7, 50, 0, 0, 0, 0], &[0; 17]),
         (BROKEN, &[0, 0, 2, 5, 0, 5, 1, 1, 1], &[0; 17]),
+        (AT_CLOSE, &[0, 0, 2, 7, 0, 7, 1, 1, 1], &[0; 17]),
+        (OUTCOME, &[19, 2, 0, 0, 0, 0, 0, 0, 0], &[0; 17]),
         (REFUSED, &[9, 3, 0, 0, 0, 0, 0, 0, 0], &[0; 17]),
         (NO_BEGIN, &[1, 0, 0, 0, 0, 0, 0, 0, 0], &[0; 17]),
         (NO_BYTES, &[0, 0, 1, 0, 100, 0, 0, 0, 0], &[0; 17]),
@@ -169,7 +173,7 @@ fn writing() {
 
 #[test]
 fn each_kind_reads_back() {
-    let words = "B1.2.3 I4.5 C6 L7.8<9 F10.11 O12.13 SF14 MF15 X SKIP16 UNSKIP17 R18.19<20 S21 W22<23";
+    let words = "B1.2.3 I4.5 C6 L7.8<9 F10.11 O12.13 SF14 MF15 X SKIP16 UNSKIP17 R18.19<20 S21 W22<23 O24 K25.26";
     let trace = session(words);
     let mut at = 0;
     for number in 0..words.split(' ').count() {
@@ -182,6 +186,13 @@ fn each_kind_reads_back() {
         at = next;
     }
     assert_eq!(at, trace.len());
+}
+
+#[test]
+fn the_numbers_of_an_open_and_a_close() {
+    let trace = session("O7 K8.9");
+    assert_eq!(ffi::read(&trace, 0), (6, [0, 15, 0, 0, 0, 7, 0, 0, 0]));
+    assert_eq!(ffi::read(&trace, 6), (14, [0, 16, 0, 0, 0, 8, 0, 0, 9]));
 }
 
 #[test]
@@ -200,11 +211,11 @@ fn framing() {
 
 #[test]
 fn the_interface_refuses_an_unknown_kind() {
-    for kind in [0, 15, 265, u16::MAX] {
-        let mut record = [0, kind, 1, 2, 3, 4, 5, 6];
+    for kind in [0, 17, 265, u16::MAX] {
+        let mut record = [0, kind, 1, 2, 3, 4, 5, 6, 7];
         let mut output = [0xaa; LARGEST_RECORD];
         assert_eq!(ffi::write(&mut record, &mut output), 0);
-        assert_eq!(record, [3, kind, 1, 2, 3, 4, 5, 6]);
+        assert_eq!(record, [3, kind, 1, 2, 3, 4, 5, 6, 7]);
         assert_eq!(output, [0xaa; LARGEST_RECORD]);
     }
 }

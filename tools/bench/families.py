@@ -1,8 +1,8 @@
 """Traces of one family and size, for counting the judge's instructions.
 
 `python3 families.py FAMILY EVENTS` writes a trace with that many events after its begin to standard output. Every
-trace is accepted, and but for the last two families robust: a broken trace ends the judging of loads early. The first
-seven are families of everyday programs, the last four are made to be dear.
+trace is accepted, and but for the last three families robust: a broken trace ends the judging of loads early. The first
+eight are families of everyday programs, the last five are made to be dear.
 """
 
 from __future__ import annotations
@@ -16,8 +16,8 @@ from typing import Callable, Dict, List
 class Trace:
     """A trace that grows by events that the machine's rules allow, and knows what its loads may read."""
 
-    def __init__(self, threads: int, locations: int) -> None:
-        self.bytes = struct.pack("<5H", 8, 1, 1, threads, locations)
+    def __init__(self, threads: int, locations: int, version: int = 1) -> None:
+        self.bytes = struct.pack("<5H", 8, 1, version, threads, locations)
         self.threads = threads
         self.locations = locations
         self.events = 0
@@ -46,6 +46,14 @@ class Trace:
     def locked(self, thread: int, location: int) -> None:
         """A load and a store that takes effect in one record, of a thread with no waiting store."""
         self.current[location] = self.add(12, thread, location, self.last(location))
+
+    def open(self, thread: int) -> None:
+        """The thread's crossing loads are held from here on; only in version 2."""
+        self.add(15, thread)
+
+    def close(self, thread: int, outcome: int) -> None:
+        """The loads that the thread holds count, if the outcome is 1, or are dropped, if it is 0."""
+        self.add(16, thread, outcome)
 
     def last(self, location: int) -> int:
         """The last store that took effect at a location, or 0."""
@@ -174,6 +182,46 @@ def hand_over(events: int) -> Trace:
     return eight_stretches(trace, events, step)
 
 
+def regions(events: int) -> Trace:
+    """Redo logs: at the start and after each of three crashes, four threads read the log in regions of a few loads,
+    two threads at a time; each fifth pair of regions reads half-written data and drops it. Then they write new
+    entries."""
+    trace = Trace(4, 64, 2)
+    pairs = 0
+    for stretch in range(4):
+        end = events * (stretch + 1) // 4
+        half = (trace.events + end) // 2
+        while trace.events + 6 <= half:
+            read_log(trace, 2 * (pairs % 2), min(12, half - trace.events - 4), pairs % 5 == 4)
+            pairs += 1
+        while trace.events + 5 <= end:
+            thread, location = trace.events // 4 % 4, trace.events // 4 % 64
+            trace.issue(thread, location)
+            trace.commit(thread)
+            trace.add(6, thread, location)
+            trace.add(7, thread)
+        while trace.events + 1 < end:
+            trace.add(7, 0)
+        if stretch < 3:
+            trace.crash()
+        else:
+            trace.add(7, 0)
+    return trace
+
+
+def read_log(trace: Trace, first: int, loads: int, torn: bool) -> None:
+    """Regions of a thread and the next one, with so many crossing loads in turn. Torn ones read the value before the
+    trace and are dropped, the others count."""
+    both = (first, first + 1)
+    for thread in both:
+        trace.open(thread)
+    for turn in range(loads):
+        location = trace.events % trace.locations
+        trace.add(4, both[turn % 2], location, 0 if torn else trace.last(location))
+    for thread in both:
+        trace.close(thread, 0 if torn else 1)
+
+
 def deep_walks(events: int) -> Trace:
     """Stores at one location, then a load of the value before the trace in each later stretch: a walk, and six repeats."""
     trace = Trace(1, 1)
@@ -231,10 +279,40 @@ def wide_windows(events: int) -> Trace:
     return trace
 
 
+def hold_in_turn(trace: Trace, end: int) -> None:
+    """Opens thread 0, which loads location 0 from 0 and from store 1 in turn, up to an event number."""
+    trace.open(0)
+    while trace.events < end:
+        trace.add(4, 0, 0, trace.events % 2)
+
+
+def checksums(events: int) -> Trace:
+    """Stores at one location; after a crash held loads of it that alternate between the first store and the value
+    before the trace: a region that drops them, and one that counts them at the last event, behind stores of its own
+    stretch to the location: broken. A judge that walks for each held load from the last store back to its source does
+    not work in proportion to the events."""
+    trace = Trace(1, 1, 2)
+    while trace.events < events * 3 // 8:
+        trace.issue(0, 0)
+        trace.commit(0)
+    trace.crash()
+    hold_in_turn(trace, events // 2)
+    trace.close(0, 0)
+    hold_in_turn(trace, events * 15 // 16)
+    while trace.events + 3 <= events:
+        trace.issue(0, 0)
+        trace.commit(0)
+    while trace.events + 1 < events:
+        trace.add(7, 0)
+    trace.close(0, 1)
+    return trace
+
+
 FAMILIES: Dict[str, Callable[[int], Trace]] = {
     "mixed": mixed, "one_location": one_location, "long_queue": long_queue, "seven_crashes": seven_crashes,
-    "eight_threads": eight_threads, "locked": locked, "hand_over": hand_over, "deep_walks": deep_walks,
-    "many_crossings": many_crossings, "late_break": late_break, "wide_windows": wide_windows}
+    "eight_threads": eight_threads, "locked": locked, "hand_over": hand_over, "regions": regions,
+    "deep_walks": deep_walks, "many_crossings": many_crossings, "late_break": late_break, "wide_windows": wide_windows,
+    "checksums": checksums}
 
 if __name__ == "__main__":
     made = FAMILIES[sys.argv[1]](int(sys.argv[2]))

@@ -33,9 +33,12 @@ TORN = ("torn", "handed")
 
 # Weights of the actions: in a part with stores, and in a part with mostly loads.
 STORING = {"issue": 6.0, "commit": 7.0, "load": 3.0, "relay": 3.0, "chain": 1.0, "swaps": 2.0, "hands": 1.0,
-           "signal": 0.6, "wait": 0.8, "flush": 1.2, "fence": 0.7, "skip": 0.4, "skipped": 0.9}
+           "signal": 0.6, "wait": 0.8, "flush": 1.2, "fence": 0.7, "skip": 0.4, "skipped": 0.9, "region": 0.0}
 LOADING = {"issue": 0.8, "commit": 0.6, "load": 6.0, "recover": 3.0, "relay": 0.1, "swaps": 0.6, "hands": 0.1,
-           "signal": 0.2, "wait": 0.4, "flush": 0.6, "fence": 0.4, "skip": 0.5, "skipped": 0.9}
+           "signal": 0.2, "wait": 0.4, "flush": 0.6, "fence": 0.4, "skip": 0.5, "skipped": 0.9, "region": 0.0}
+
+# What becomes of a region: closed with this outcome, or None: left open, until a crash or the trace's end.
+FATES = [1, 1, 1, 0, 0, None]
 
 
 def near_or_far(rng: Random, wanted: int) -> list[int]:
@@ -57,9 +60,13 @@ class Builder:
         self.mode = rng.choice(MODES)
         relays = rng.choice([9.0, 18.0] if self.mode == "torn" else [0.5, 3.0, 9.0])
         hands = rng.choice([12.0, 24.0] if self.mode == "handed" else [0.0, 0.5, 3.0, 9.0])
+        version, regions = rng.choice([(1, 0.0)] * 5 + [(2, 0.0), (2, 1.0), (2, 3.0), (2, 9.0)])
+        self.recoveries = [self.recover] + ([self.region] * 2 if regions else [])
         self.storing = STORING | {"relay": relays, "chain": relays / 3, "hands": hands, "signal": hands / 4,
-                                  "wait": hands / 3}
+                                  "wait": hands / 3, "region": regions / 2}
+        self.loading = LOADING | {"region": 2 * regions}
         self.machine, self.events = Machine(), []
+        self.fates: dict[int, Optional[int]] = {}  # thread -> what becomes of its last region
         self.image: dict[int, int] = {}  # location -> the store that a load after the crash sees
         self.relayed: list[tuple[int, int]] = []  # a store, and one of a thread that loaded or waited for it before
         late = self.mode == "late"  # two threads and three locations can show which of several pairs is the smallest
@@ -68,7 +75,7 @@ class Builder:
         spread = limits.spread and rng.random() < 0.5
         self.used = rng.sample(range(oracle.MAX_LOCATIONS), wanted) if spread else near_or_far(rng, wanted)
         locations = rng.choice([max(self.used) + 1, min(max(self.used) + 2, oracle.MAX_LOCATIONS)])
-        self.add(Event(oracle.BEGIN, (1, threads, oracle.MAX_LOCATIONS if spread else locations)))
+        self.add(Event(oracle.BEGIN, (version, threads, oracle.MAX_LOCATIONS if spread else locations)))
 
     def add(self, event: Event) -> None:
         """Append an event that the machine's rules allow."""
@@ -103,10 +110,14 @@ class Builder:
         self.add(Event(oracle.LOAD, (thread, location, self.source(thread, location))))
 
     def source(self, thread: int, location: int) -> int:
-        """A legal source; a crossing load takes it as the mode says, with some disturbance."""
-        sources, crossing = oracle.legal_sources(self.machine, thread, location)
+        """A legal source; a crossing load takes it as the mode says, with some disturbance, more of it in a region, and
+        any if it will not count: in a skip, or in a region that will not be closed with outcome 1."""
+        m = self.machine
+        sources, crossing = oracle.legal_sources(m, thread, location)
         source = self.rng.choice(sources)
-        disturbed = thread in self.machine.skips or self.rng.random() < 0.04
+        opened = m.open_region(thread) is not None
+        dropped = thread in m.skips or (opened and self.fates[thread] != 1)
+        disturbed = dropped or self.rng.random() < (0.15 if opened and self.mode != "strict" else 0.04)
         return self.image.get(location, 0) if crossing and self.mode != "wild" and not disturbed else source
 
     def swap(self, location: int, thread: int) -> None:
@@ -287,6 +298,46 @@ class Builder:
         if self.rng.random() < 0.5:
             self.add(Event(oracle.ISSUE, (thread, self.rng.choice(self.used))))
 
+    def region(self) -> None:
+        """Loads of a thread under a checksum, and what may stand between them; then the close, if there is to be one.
+        An open region of the thread goes on."""
+        rng, thread = self.rng, self.thread()
+        if self.machine.open_region(thread) is None:
+            self.fates[thread] = rng.choice(FATES)
+            self.add(Event(oracle.OPEN, (thread,)))
+        for _ in range(rng.choice([0, 1, 1, 2, 2, 3])):
+            rng.choices([self.held, self.among], [4, 1])[0](thread)
+        still_open = self.machine.open_region(thread) is not None
+        if still_open and self.fates[thread] is not None and rng.random() < 0.85:
+            self.add(Event(oracle.CLOSE, (thread, self.fates[thread])))
+
+    def held(self, thread: int) -> None:
+        """Loads of the thread that is in a region: from several locations, from one twice, or by a locked operation."""
+        rng = self.rng
+        way = rng.random()
+        if way < 0.25:
+            self.swap(rng.choice(self.used), thread)
+            return
+        location = rng.choice(self.used)
+        several = rng.sample(self.used, min(3, len(self.used)))
+        for each in [location] * rng.randint(1, 2) if way < 0.5 else several:
+            self.load(each, thread)
+
+    def among(self, thread: int) -> None:
+        """What may stand between the loads of a region: a store, of the thread or another one; a load of any thread;
+        the thread's skip turned on or off, and a load; another region, or more of this one."""
+        rng = self.rng
+        way = rng.randrange(4)
+        if way == 0:
+            self.store(rng.choice([thread, self.thread()]))
+        elif way == 1:
+            self.load()
+        elif way == 2:
+            self.skip(thread)
+            self.load(thread=thread)
+        else:
+            self.region()
+
     def crash(self) -> None:
         """Decide what the loads after the crash see, then crash."""
         kept = self.closed_stores() if self.mode == "strict" else self.torn_stores()
@@ -338,10 +389,10 @@ class Builder:
             if number > 0:
                 self.crash()
                 if rng.random() < 0.6:
-                    self.recover()
+                    rng.choice(self.recoveries)()
             length = max(1, round((total - crashes) * share / sum(shares)) - 2)
             loading = 0 if number == 0 else length if number == crashes else length // 4
-            self.part(loading, LOADING)
+            self.part(loading, self.loading)
             self.part(length - loading, self.storing)
         return self.events[:self.limits.max_events + 1]
 

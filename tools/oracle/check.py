@@ -12,12 +12,14 @@ from typing import Optional
 
 import generate
 import oracle
-import sessions
 from check_lines import check_kind, check_renamed, line_features
+from check_regions import check_load, check_regions, check_versions, counting, empty_regions, region_features
 from lines import verdict_lines
+from notation import show
 from oracle import Answer, Broken, Event, Machine, Refused, Robust, Window
 
-NAMED = {oracle.LOCKED: ", locked", oracle.SIGNAL: ", signal", oracle.WAIT: ", wait"}  # kinds counted apart
+NAMED = {oracle.LOCKED: ", locked", oracle.SIGNAL: ", signal", oracle.WAIT: ", wait", oracle.OPEN: ", open",
+         oracle.CLOSE: ", close"}  # kinds counted apart
 NOTHING = Robust(0, (0,) * oracle.CUT_NUMBERS, 100)  # "robust, all-zero cut, share 100, `events 0`"
 
 
@@ -281,16 +283,17 @@ def check_refusal(data: bytes, answer: Refused) -> None:
 
 def features(m: Machine, answer: Answer) -> list[str]:
     """Names of what an accepted trace shows, for the count."""
-    counted = [load for load in m.loads if load.counted and load.stretch > 1]
+    counted = [load for load in oracle.counted(m) if load.stretch > 1]
     found = ["with a counted load after a crash"] if counted else []
     if isinstance(answer, Robust) and counted:
         found.append("robust with a counted load after a crash")
         found += ["robust, share 1 to 99"] if 0 < answer.share < 100 else []
     if isinstance(answer, Broken):
-        last = next(load for load in m.loads if load.event == answer.load)
+        last = counting(m, answer.load)
+        forbidden, sources = set().union(*(oracle.forbids(m, load) for load in last)), {load.source for load in last}
         missing, observed = m.stores[answer.missing], m.stores[answer.observed]
-        found += ["broken: load does not forbid missing"] if missing.event not in oracle.forbids(m, last) else []
-        found += ["broken: load does not observe observed"] if last.source != observed.event else []
+        found += ["broken: load does not forbid missing"] if missing.event not in forbidden else []
+        found += ["broken: load does not observe observed"] if observed.event not in sources else []
         found += ["broken: pair of two threads"] if missing.thread != observed.thread else []
         found += ["broken: pair of a later stretch"] if missing.stretch > 1 else []
         found += ["broken: events after load"] if answer.load < answer.events else []
@@ -299,7 +302,7 @@ def features(m: Machine, answer: Answer) -> list[str]:
     found += ["dropped stores"] if dropped else []
     found += ["dropped store forbidden"] if any(oracle.forbids(m, load) & {s.event for s in dropped}
                                                 for load in counted) else []
-    found += ["crossing load in a skip"] if any(load.crossing and not load.counted for load in m.loads) else []
+    found += ["crossing load in a skip"] if any(load.crossing and load.skipped for load in m.loads) else []
     return found + locked_features(m, answer) + handed_features(m, answer) + [f"crashes {m.stretch - 1}"]
 
 
@@ -309,10 +312,10 @@ def locked_features(m: Machine, answer: Answer) -> list[str]:
     numbers = {load.event for load in locked}
     shown = {
         "some": locked,
-        "counted": [load for load in locked if load.counted],
-        "crossing in a skip": [load for load in locked if load.crossing and not load.counted],
+        "counted": [load for load in locked if load in oracle.counted(m)],
+        "crossing in a skip": [load for load in locked if load.crossing and load.skipped],
         "a chain": [load for load in locked if load.source in numbers and not load.crossing],
-        "its store observed": numbers & {q for load in m.loads if load.counted for q in oracle.observes(load)},
+        "its store observed": numbers & {q for load in oracle.counted(m) for q in oracle.observes(load)},
     }
     if isinstance(answer, Broken):
         shown |= {f"{name} of broken": numbers & {getattr(answer, name)} for name in ("load", "missing", "observed")}
@@ -364,6 +367,7 @@ def check(data: bytes, answer: Answer, counts: Counter) -> None:
     """All checks of one session."""
     check_records(data)
     check_first(data, answer)
+    counts.update(check_versions(data))
     assert oracle.judge_closure(data) == answer
     if isinstance(answer, Refused):
         last = oracle.read_record(oracle.record_part(data, answer.event))
@@ -378,8 +382,10 @@ def check(data: bytes, answer: Answer, counts: Counter) -> None:
         check_no_bytes(answer)
     counts[f"broken {answer.kind}" if isinstance(answer, Broken) else "robust"] += 1
     counts.update(features(m, answer) + line_features(m, answer) + check_renamed(events, m, answer))
+    counts.update(region_features(events, m, answer) + check_regions(events, m, answer))
     flushes = of_kinds(events, (oracle.CLFLUSH, oracle.CLFLUSHOPT))
-    for dropped in (flushes, flushes | of_kinds(events, (oracle.SFENCE, oracle.MFENCE)), idle(events)):
+    fences = of_kinds(events, (oracle.SFENCE, oracle.MFENCE))
+    for dropped in (flushes, flushes | fences, idle(events), empty_regions(events, m)):
         check_neutral(events, answer, dropped)
     counts["traces with locked operations replaced"] += check_replaced(data, m, answer)
     if m.signals and m.locations + len(m.signals) <= oracle.MAX_LOCATIONS:
@@ -387,6 +393,7 @@ def check(data: bytes, answer: Answer, counts: Counter) -> None:
         check_stored(events, m, answer)
     check_prefixes(data, answer)
     if isinstance(answer, Broken):
+        check_load(m, answer)
         check_kind(m, answer)
         check_windows(data, answer)
     check_order(data, m)
@@ -401,7 +408,7 @@ def main() -> None:
         try:
             check(data, answer, counts)
         except AssertionError:
-            print("failed:", data.hex(), sessions.show(data), answer)
+            print("failed:", data.hex(), show(data), answer)
             raise
     for name in sorted(counts):
         print(f"{counts[name]:8} {name}")

@@ -24,11 +24,10 @@ def committed_by_line(m: Machine) -> list[list[int]]:
 
 def kept_by_lines(m: Machine, last: int) -> Optional[bool]:
     """Whether some memory that keeps of each finished stretch and line a number of its first commits explains the
-    counted loads up to an event number: "Stores on one cache line reach memory in commit order". Neither threads nor
+    loads counted up to an event number: "Stores on one cache line reach memory in commit order". Neither threads nor
     happens-before bind it otherwise. None if there are too many such memories to try."""
     lines = committed_by_line(m)
-    loads = [(oracle.observes(load), oracle.forbids(m, load)) for load in m.loads
-             if load.counted and load.event <= last]
+    loads = [(oracle.observes(load), oracle.forbids(m, load)) for load in oracle.counted(m, last)]
     size = 1
     for stores in lines:
         size *= len(stores) + 1
@@ -99,8 +98,8 @@ def line_features(m: Machine, answer: Answer) -> list[str]:
         against = [stores for stores in committed_by_line(m) if set(stores[:len(inside & set(stores))]) - inside]
         return ["robust: cut against commit order on a line"] if against else []
     p, q = m.stores[answer.missing], m.stores[answer.observed]
-    loads = [load for load in m.loads if load.counted and load.event <= answer.load]
-    kinds = {oracle.kind_of(m, *pair) for pair in oracle.pairs(m, loads, oracle.happens_before(m))}
+    found = oracle.pairs(m, oracle.counted(m, answer.load), oracle.happens_before(m))
+    kinds = {oracle.kind_of(m, *pair) for pair in found}
     shown = {
         "at one location": p.location == q.location,
         "at neighbouring locations": abs(p.location - q.location) == 1,

@@ -1,8 +1,8 @@
 """Wrong judges, and how many generated sessions tell each from the oracle: `python3 mutants.py SEED COUNT [switches]`.
 
 Each wrong judge replaces one or two functions of the oracle; judge_closure then runs with them. Those of hand-overs are
-in wrong_hand_overs.py, those of cache lines in wrong_lines.py, those of no bytes in wrong_empty.py. A wrong judge with
-count 0 would show that the generator misses an error.
+in wrong_hand_overs.py, those of cache lines in wrong_lines.py, those of no bytes in wrong_empty.py, those of checksums
+in wrong_checksums.py. A wrong judge with count 0 would show that the generator misses an error.
 """
 
 from __future__ import annotations
@@ -15,6 +15,7 @@ from typing import Callable, Iterator, Optional
 import generate
 import oracle
 from oracle import Event, Load, Machine, Refused, Store
+from wrong_checksums import CHECKSUMS
 from wrong_empty import EMPTY
 from wrong_hand_overs import HAND_OVERS, signals_before
 from wrong_lines import LINES
@@ -22,7 +23,9 @@ from wrong_lines import LINES
 TRUE = {name: getattr(oracle, name) for name in ("run", "directly_before", "happens_before", "forbids", "observes",
                                                 "legal_sources", "take_effect", "general_refusal", "own_refusal",
                                                 "smallest_pair", "robust_answer", "broken_answer", "first_place",
-                                                "last_place", "window", "order", "line", "kind_of", "COMMITS")}
+                                                "last_place", "window", "order", "line", "kind_of", "COMMITS",
+                                                "counts_as_of", "region_of", "region_refusal", "closure_answer",
+                                                "decode", "VERSIONS")}
 
 
 def sources_up_to(m: Machine, q: Store, last: int) -> list[int]:
@@ -154,7 +157,7 @@ def keep_queues(m: Machine, old: Machine, event: Event) -> None:
 def count_all(m: Machine, old: Machine, event: Event) -> None:
     """Crossing loads in a skip count."""
     if event.kind in oracle.LOADS:
-        m.loads[-1] = replace(m.loads[-1], counted=m.loads[-1].crossing)
+        m.loads[-1] = replace(m.loads[-1], skipped=False)
 
 
 def skip_unorders(m: Machine, old: Machine, event: Event) -> None:
@@ -166,7 +169,7 @@ def skip_unorders(m: Machine, old: Machine, event: Event) -> None:
 def any_skip(m: Machine, old: Machine, event: Event) -> None:
     """A skip of any thread is taken as a skip of all."""
     if event.kind in oracle.LOADS and m.skips:
-        m.loads[-1] = replace(m.loads[-1], counted=False)
+        m.loads[-1] = replace(m.loads[-1], skipped=True)
 
 
 def own_queue_unseen(m: Machine, thread: int, location: int) -> tuple[list[int], bool]:
@@ -263,7 +266,7 @@ def queue_of_location(m: Machine, event: Event) -> int:
 def locked_uncounted(m: Machine, old: Machine, event: Event) -> None:
     """The load of a locked operation does not count."""
     if event.kind == oracle.LOCKED:
-        m.loads[-1] = replace(m.loads[-1], counted=False)
+        m.loads[-1] = replace(m.loads[-1], skipped=True)
 
 
 def locked_counted(m: Machine, old: Machine, event: Event) -> None:
@@ -340,7 +343,7 @@ MUTANTS: dict[str, dict[str, object]] = {
     "locked: its own store forbidden": {"forbids": own_store_forbidden},
     "locked: first place inside": {"first_place": first_at_locked},
     "locked: brings nothing": {"first_place": locked_brings_nothing},
-} | HAND_OVERS | LINES | EMPTY
+} | HAND_OVERS | LINES | EMPTY | CHECKSUMS
 
 
 @contextmanager
@@ -366,12 +369,13 @@ def differs(data: bytes, answer: oracle.Answer, functions: dict[str, object]) ->
 
 
 def queries_differ(data: bytes) -> bool:
-    """Whether a query gets another answer than it must: 16, if it names a signal or a wait of an accepted trace; the
-    trace's own refusal; 1, if there are no bytes."""
+    """Whether a query gets another answer than it must: 16, if it names a signal, a wait, an open or a close of an
+    accepted trace; the trace's own refusal; 1, if there are no bytes."""
     m = oracle.run(data) if data else Refused(1, 0)
     if isinstance(m, Refused):
         return any(oracle.order(data, number, number) != m for number in (0, 1, 65535))
-    numbers = [*m.signals, *(wait.event for wait in m.waits)]
+    ends = [number for region in m.regions for number in (region.start, region.end) if number is not None]
+    numbers = [*m.signals, *(wait.event for wait in m.waits), *ends]
     return any(oracle.order(data, number, number) != Refused(16, 0) for number in numbers)
 
 

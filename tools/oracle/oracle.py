@@ -3,8 +3,8 @@
 Every function states one sentence of document 01 ("A judge of store order across crashes") and computes it in the
 most direct way: queues are queues, happens-before is a graph search, and the verdict comes from trying all choices.
 The windows of a flush fault are document 02's, job 1; locked operations, kind 12, are its job 2; signals and waits,
-kinds 13 and 14, its job 4; pairs on one cache line its job 5; no bytes its job 6. Refusals 14 and 15 (sizes of lent
-buffers) are not treated here.
+kinds 13 and 14, its job 4; pairs on one cache line its job 5; no bytes its job 6; loads under a checksum, kinds 15 and
+16 of version 2, its job 7. Refusals 14 and 15 (sizes of lent buffers) are not treated here.
 """
 
 from __future__ import annotations
@@ -14,9 +14,9 @@ from dataclasses import dataclass, field
 from itertools import product
 from typing import Iterator, Optional, Union
 
-from records import (BEGIN, CLFLUSH, CLFLUSHOPT, COMMIT, CRASH, ISSUE, KINDS, LOAD, LOCKED, MFENCE, SFENCE, SIGNAL,
-                     SKIP_OFF, SKIP_ON, WAIT, Event, Refused, decode, encode, frame_at, number_at, read_record,
-                     record_part, write_event)
+from records import (ADMITTED_BY_2, BEGIN, CLFLUSH, CLFLUSHOPT, CLOSE, COMMIT, CRASH, ISSUE, KINDS, LOAD, LOCKED,
+                     MFENCE, OPEN, SFENCE, SIGNAL, SKIP_OFF, SKIP_ON, VERSIONS, WAIT, Event, Refused, decode, encode,
+                     frame_at, number_at, read_record, record_part, write_event)
 
 NO_LOCATION = -1  # of the store that stands for a signal in happens-before
 MAX_EVENT, MAX_CRASHES, MAX_THREADS, MAX_LOCATIONS, CUT_NUMBERS, MAX_INPUT = 2048, 7, 8, 256, 56, 65535
@@ -36,8 +36,9 @@ Window = tuple[int, int]  # the first and the last record in front of which a th
 
 @dataclass(frozen=True)
 class Broken:
-    """ "Broken: no closed choice does." `kind` is "contradiction", "impossible" or "flush". A flush fault has a primary
-    thread, and for each of threads 0 to 7 its window or None. The other kinds have neither. """
+    """ "Broken: no closed choice does." `load` is a load, a locked operation or a close: "Broken may then name a close
+    as its load." `kind` is "contradiction", "impossible" or "flush". A flush fault has a primary thread, and for each
+    of threads 0 to 7 its window or None. The other kinds have neither. """
 
     events: int
     load: int
@@ -70,7 +71,7 @@ class Store:
 
 @dataclass(frozen=True)
 class Load:
-    """An accepted load. `crossing` and `counted` as in the rules of the machine."""
+    """An accepted load. `crossing` as in the rules of the machine; `skipped` if its thread is in a skip."""
 
     event: int
     thread: int
@@ -78,7 +79,7 @@ class Load:
     source: int
     stretch: int
     crossing: bool
-    counted: bool
+    skipped: bool
 
 
 @dataclass(frozen=True)
@@ -92,10 +93,23 @@ class Wait:
 
 
 @dataclass
+class Region:
+    """The part of a thread between an open and what ends it, a close or a crash. `end` is the number of that event,
+    None if the trace ends in the region; `outcome` is the close's, and 0 without a close. """
+
+    thread: int
+    start: int
+    end: Optional[int] = None
+    outcome: int = 0
+
+
+@dataclass
 class Machine:
     """ "The trace starts with empty queues, no skips and no commits." Stretches are "numbered from 1". Before the
-    begin, so for "a trace with no events" too (job 6), there are no threads and no locations, and `events 0`. """
+    begin, so for "a trace with no events" too (job 6), there is no version, no threads and no locations, and `events
+    0`. """
 
+    version: Optional[int] = None
     threads: int = 0
     locations: int = 0
     events: int = 0  # number of the last event; "Events after begin"
@@ -107,6 +121,11 @@ class Machine:
     loads: list[Load] = field(default_factory=list)
     signals: dict[int, Store] = field(default_factory=dict)  # signal -> "a store issued in the signal's place"
     waits: list[Wait] = field(default_factory=list)
+    regions: list[Region] = field(default_factory=list)
+
+    def open_region(self, thread: int) -> Optional[Region]:
+        """The region that the thread is in now, or None."""
+        return next((one for one in self.regions if one.thread == thread and one.end is None), None)
 
     def finished(self) -> range:
         """ "A stretch is the part between crashes, numbered from 1; a crash finishes it." """
@@ -141,7 +160,8 @@ def general_refusal(m: Machine, number: int, event: Event) -> int:
         return 13
     if event.kind == BEGIN:
         version, threads, locations = event.fields
-        return 0 if version == 1 and 1 <= threads <= MAX_THREADS and 1 <= locations <= MAX_LOCATIONS else 6
+        passes = version in VERSIONS and 1 <= threads <= MAX_THREADS and 1 <= locations <= MAX_LOCATIONS
+        return 0 if passes else 6
     if event.has("thread") and event.get("thread") >= m.threads:
         return 7
     if event.has("location") and event.get("location") >= m.locations:
@@ -150,9 +170,9 @@ def general_refusal(m: Machine, number: int, event: Event) -> int:
 
 
 def own_refusal(m: Machine, event: Event) -> int:
-    """The refusal of "the kind's own rule" (9 to 12, and 18), or 0. "11 also if kind 12's thread has a waiting store,
-    before 9."; its own store is there to commit, so 10 is no matter of kind 12. "11 for a signal with waiting stores;
-    18 for a wait whose source is no earlier signal of the same stretch". """
+    """The refusal of "the kind's own rule" (9 to 12, 18 and 19), or 0. "11 also if kind 12's thread has a waiting
+    store, before 9."; its own store is there to commit, so 10 is no matter of kind 12. "11 for a signal with waiting
+    stores; 18 for a wait whose source is no earlier signal of the same stretch". """
     if event.kind in (MFENCE, LOCKED, SIGNAL) and m.queues[event.get("thread")]:
         return 11
     if event.kind == WAIT:
@@ -167,15 +187,22 @@ def own_refusal(m: Machine, event: Event) -> int:
         return 12 if event.get("thread") in m.skips else 0
     if event.kind == SKIP_OFF:
         return 0 if event.get("thread") in m.skips else 12
-    return 0
+    return region_refusal(m, event) if event.kind in ADMITTED_BY_2 else 0
+
+
+def region_refusal(m: Machine, event: Event) -> int:
+    """ "12 for open when open, or close when not; 19 for another outcome, before 12." """
+    if event.kind == CLOSE and event.get("outcome") not in (0, 1):
+        return 19
+    opened = m.open_region(event.get("thread")) is not None
+    return 12 if opened == (event.kind == OPEN) else 0
 
 
 def take_load(m: Machine, number: int, event: Event) -> None:
-    """ "A crossing load in a skip is checked but not counted; all other crossing loads count." """
+    """The load as it was accepted; whether and when it counts is said by `counts_as_of`."""
     thread, location, source = event.fields
     _, crossing = legal_sources(m, thread, location)
-    counted = crossing and thread not in m.skips
-    m.loads.append(Load(number, thread, location, source, m.stretch, crossing, counted))
+    m.loads.append(Load(number, thread, location, source, m.stretch, crossing, thread in m.skips))
 
 
 def take_issue(m: Machine, number: int, event: Event) -> None:
@@ -192,6 +219,24 @@ def take_commit(m: Machine, number: int, event: Event) -> None:
     m.memory.setdefault(store.location, []).append(store.event)
 
 
+def take_crash(m: Machine, number: int) -> None:
+    """ "a crash finishes it, drops waiting stores, ends skips and starts counts afresh"; "a crash ends the open
+    state". """
+    m.stretch += 1
+    m.queues = [deque() for _ in range(m.threads)]
+    m.memory = {}
+    m.skips = set()
+    for thread in range(m.threads):
+        end_region(m, number, thread, 0)
+
+
+def end_region(m: Machine, number: int, thread: int, outcome: int) -> None:
+    """A close or a crash ends the region of a thread, if it is in one."""
+    region = m.open_region(thread)
+    if region is not None:
+        region.end, region.outcome = number, outcome
+
+
 def take_effect(m: Machine, number: int, event: Event) -> None:
     """The change that an accepted event makes. "Each kind has its own rule." Kind 12 "is a load, issue and commit with
     nothing between, and its event number names its store". """
@@ -203,13 +248,10 @@ def take_effect(m: Machine, number: int, event: Event) -> None:
     if event.kind in COMMITS:
         take_commit(m, number, event)
     if event.kind == BEGIN:
-        _, m.threads, m.locations = event.fields
+        m.version, m.threads, m.locations = event.fields
         m.queues = [deque() for _ in range(m.threads)]
-    elif event.kind == CRASH:  # "a crash finishes it, drops waiting stores, ends skips and starts counts afresh"
-        m.stretch += 1
-        m.queues = [deque() for _ in range(m.threads)]
-        m.memory = {}
-        m.skips = set()
+    elif event.kind == CRASH:
+        take_crash(m, number)
     elif event.kind == SKIP_ON:
         m.skips.add(event.get("thread"))
     elif event.kind == SKIP_OFF:
@@ -218,16 +260,20 @@ def take_effect(m: Machine, number: int, event: Event) -> None:
         m.signals[number] = Store(number, event.get("thread"), NO_LOCATION, m.stretch)
     elif event.kind == WAIT:
         m.waits.append(Wait(number, *event.fields, m.stretch))
+    elif event.kind == OPEN:
+        m.regions.append(Region(event.get("thread"), number))
+    elif event.kind == CLOSE:
+        end_region(m, number, *event.fields)
 
 
 def run(data: bytes) -> Union[Machine, Refused]:
     """ "A record that can't be read ends the judging there with its refusal." "A trace is accepted if no refusal over
-    its records (1 to 13 here) applies", nor 18. Job 6: "For judging, empty bytes mean a trace with no events": no
-    refusal applies over no records. """
+    its records (1 to 13 here) applies", nor 18 or 19. Job 6: "For judging, empty bytes mean a trace with no events": no
+    refusal applies over no records. Job 7: a record behind the begin is read by the begin's version. """
     m, at, number = Machine(), 0, 0
     while at < len(data):
         record = frame_at(data, at)
-        event = record if isinstance(record, int) else decode(record)
+        event = record if isinstance(record, int) else decode(record, m.version)
         if isinstance(event, int):
             return Refused(event, number)
         refusal = general_refusal(m, number, event) or own_refusal(m, event)
@@ -244,6 +290,32 @@ def prefix(data: bytes, last: int) -> bytes:
     for _ in range(last + 1):
         at += 2 + number_at(data, at)
     return data[:at]
+
+
+# ---- Which loads count ----
+
+def region_of(m: Machine, load: Load) -> Optional[Region]:
+    """The region that a load stands in, or None: "A thread's crossing loads in between are held." """
+    return next((one for one in m.regions if one.thread == load.thread and one.start < load.event
+                 and (one.end is None or load.event < one.end)), None)
+
+
+def counts_as_of(m: Machine, load: Load) -> Optional[int]:
+    """The event as of which a load counts, or None if it does not. "A crossing load in a skip is checked but not
+    counted; all other crossing loads count." Of those in a region: "Outcome 1 counts them all as of the close; 0 drops
+    them; a crash or the trace's end drops them". "A load in a skip is never held." """
+    if not load.crossing or load.skipped:
+        return None
+    region = region_of(m, load)
+    if region is None:
+        return load.event
+    return region.end if region.outcome == 1 else None
+
+
+def counted(m: Machine, last: Optional[int] = None) -> list[Load]:
+    """The loads that count, in the order of their events; those as of an event up to `last`, if it is given."""
+    numbers = [(load, counts_as_of(m, load)) for load in m.loads]
+    return [load for load, number in numbers if number is not None and (last is None or number <= last)]
 
 
 # ---- Happens-before ----
@@ -357,11 +429,12 @@ def explaining_choices(m: Machine, committed_only: bool = False) -> Iterator[Cho
     """All closed choices that explain all counted loads, by trying every choice.
 
     "that many of its first stores are in. It is closed if each store before one that is in is in too." "The choice
-    explains the load if the observed store is in and no forbidden one is. One choice serves the whole trace."
+    explains the load if the observed store is in and no forbidden one is. One choice serves the whole trace." Job 7: "A
+    choice must explain the counted loads in this sense."
     """
     before = happens_before(m)
     issued = [issued_at(m, place) for place in places(m)]
-    loads = [(observes(load), forbids(m, load, committed_only)) for load in m.loads if load.counted]
+    loads = [(observes(load), forbids(m, load, committed_only)) for load in counted(m)]
     for choice in all_choices(m):
         inside = {store for stores, count in zip(issued, choice) for store in stores[:count]}
         if all(observed <= inside and not forbidden & inside for observed, forbidden in loads):
@@ -474,7 +547,7 @@ def judge(data: bytes) -> Answer:
         assert isinstance(short, Machine), "a prefix of an accepted trace is accepted"
         if next(explaining_choices(short), None) is None:
             break
-    loads, before = [one for one in short.loads if one.counted], happens_before(short)
+    loads, before = counted(short), happens_before(short)
     pair = smallest_pair(short, loads, before, False)
     assert pair is not None, "broken without a pair"
     assert pair == smallest_pair(short, loads, before, True), "the dropped stores changed the pair"
@@ -483,17 +556,18 @@ def judge(data: bytes) -> Answer:
 
 def judge_closure(data: bytes) -> Answer:
     """A second judge, for traces with too many choices to try. It is not document 01's wording: it takes as in exactly
-    the observed stores and all that happens before them, and is broken at the first counted load with a pair. """
+    the observed stores and all that happens before them, and is broken at the first event up to which the loads that
+    count have a pair. """
     m = run(data)
     return m if isinstance(m, Refused) else closure_answer(m)
 
 
 def closure_answer(m: Machine) -> Union[Robust, Broken]:
     """The answer of judge_closure for the machine behind an accepted trace."""
-    before, counted = happens_before(m), [load for load in m.loads if load.counted]
-    for many, load in enumerate(counted, start=1):
-        pair = smallest_pair(m, counted[:many], before, False)
+    before, loads = happens_before(m), counted(m)
+    for event in sorted({counts_as_of(m, load) for load in loads}):
+        pair = smallest_pair(m, counted(m, event), before, False)
         if pair is not None:
-            return broken_answer(m, load.event, *pair)
-    inside = {p for load in counted for q in observes(load) for p in before[q] | {q}}
+            return broken_answer(m, event, *pair)
+    inside = {p for load in loads for q in observes(load) for p in before[q] | {q}}
     return robust_answer(m, tuple(sum(p in inside for p in issued_at(m, place)) for place in places(m)))

@@ -7,10 +7,11 @@ python3 proof_file.py locked > ../../crates/model/proofs/CasesOfLocked.antt
 python3 proof_file.py handed > ../../crates/model/proofs/CasesOfHandOver.antt
 python3 proof_file.py one_line > ../../crates/model/proofs/CasesOfOneLine.antt
 python3 proof_file.py no_bytes > ../../crates/model/proofs/CasesOfNoBytes.antt
+python3 proof_file.py checksums > ../../crates/model/proofs/CasesOfChecksums.antt
 python3 proof_file.py random SEED COUNT > ../../crates/model/proofs/RandomSessions.antt
 
 The expected answers of the random sessions come from the brute force of oracle.py; those of all others are the ones
-that sessions.py states by hand from documents 01 and 02.
+that sessions.py and checksum_sessions.py state by hand from documents 01 and 02.
 """
 
 from __future__ import annotations
@@ -22,6 +23,7 @@ from typing import Iterable
 
 import generate
 import oracle
+from checksum_sessions import CHECKSUM_BYTES, CHECKSUMS
 from lines import lines_with_windows
 from oracle import Event, Refused
 from sessions import CASES, ERRORS, HANDED, LOCKED, NO_BYTES, ONE_LINE, WINDOWS
@@ -29,15 +31,15 @@ from sessions import CASES, ERRORS, HANDED, LOCKED, NO_BYTES, ONE_LINE, WINDOWS
 CONSTRUCTORS = {oracle.BEGIN: "Begin", oracle.ISSUE: "Issue", oracle.COMMIT: "Commit", oracle.LOAD: "Load",
                 oracle.CLFLUSH: "Clflush", oracle.CLFLUSHOPT: "Clwb", oracle.SFENCE: "Sfence", oracle.MFENCE: "Mfence",
                 oracle.CRASH: "Crash", oracle.SKIP_ON: "SkipOn", oracle.SKIP_OFF: "SkipOff", oracle.LOCKED: "Locked",
-                oracle.SIGNAL: "Signal", oracle.WAIT: "Wait"}
+                oracle.SIGNAL: "Signal", oracle.WAIT: "Wait", oracle.OPEN: "Open", oracle.CLOSE: "Close"}
 
 LISTS = {"cases": CASES, "trade": ERRORS, "windows": WINDOWS, "locked": LOCKED, "handed": HANDED,
-         "one_line": ONE_LINE, "no_bytes": NO_BYTES}
+         "one_line": ONE_LINE, "no_bytes": NO_BYTES, "checksums": CHECKSUMS}
 THEOREMS = {"cases": "cases-1-to-11", "trade": "errors-of-the-trade", "windows": "windows-as-worked",
             "locked": "locked-as-worked", "handed": "handed-as-worked", "one_line": "one-line-as-worked",
-            "no_bytes": "no-bytes-as-worked", "random": "random-sessions"}
+            "no_bytes": "no-bytes-as-worked", "checksums": "checksums-as-worked", "random": "random-sessions"}
 
-# What stands on top of the file, and behind it SHOWN.
+# What stands on top of the file, and behind it how it is shown and made.
 HEADERS = {
     "cases": """Document 01, "Sessions": "Cases 1 to 11 are the proved ones." The definitions give each case's bytes the
         answer that document 01 states, for cases 1, 4 and 5 with the kind of document 02, job 5, and the cut
@@ -59,10 +61,16 @@ HEADERS = {
     "no_bytes": """Document 02, job 6, "A recorder that never started": no bytes, and bytes that are nearly none, each
         with what tells it from them. The definitions give them the answers that follow from documents 01 and 02, and
         the cut buffers. Some are no records, so the answers are computed from the bytes themselves.""",
+    "checksums": """Document 02, job 7, "Loads under a checksum": a session for each thing that holds a load or not,
+        that counts or drops the held ones, that a held load does, or that turns an open or a close away. The
+        definitions give their bytes the answers that follow from documents 01 and 02, and the cut buffers. A second
+        list has bytes of which some are no records, or have no begin in front.""",
     "random": """Random sessions: the definitions give their bytes the answers of an independent brute force over all
         choices (tools/oracle).""",
 }
-SHOWN = "Shown together as one list, by computation. Made by tools/oracle/proof_file.py."
+SHOWN = "Shown together as one list, by computation."
+SHOWN_TWICE = "Each list is shown together, by computation."
+MADE = "Made by tools/oracle/proof_file.py."
 
 IMPORTS = """use mathlib.Core.Path.{_≡_, refl, sym, ap, _∙_}
 use mathlib.Core.List.{List, [], _∷_, map}
@@ -73,7 +81,8 @@ use Rattle.record.specs.Events.{recordOf}
 use Rattle.record.specs.Table.{rowOf}
 use Rattle.model.specs.Search.{some, any, last, first, firstFrom, most}
 use Rattle.model.specs.Trace.{stretch, count}
-use Rattle.model.specs.Machine.{committed, commitOf, waiting, current, sourceFits, switched, counted, counting}
+use Rattle.model.specs.Machine.{committed, commitOf, waiting, current, sourceFits, switched}
+use Rattle.model.specs.Machine.{countable, held, counting}
 use Rattle.model.specs.Rules.{answer, rules}
 use Rattle.model.specs.Choice.{finished}
 use Rattle.model.specs.Clocks.{seen, clock, vc}
@@ -92,7 +101,7 @@ encoded = refl
 
 computed : map outcomeOfEvents traces ≡ answers
 unfolding traces answers readingEvents some last first firstFrom most stretch count committed commitOf waiting current
-    sourceFits switched counted counting any answer rules finished seen clock vc forbids? observes? forbidden?
+    sourceFits switched countable held counting any answer rules finished seen clock vc forbids? observes? forbidden?
     observed? pair? missing? bad? closure loadOf missingOf observedOf rulingOf behind lastCovered windowOf faultOf
     tabulate cutOf sum shareOf rowOf
 computed = refl
@@ -110,9 +119,10 @@ use Rattle.record.specs.Reading.{readAt, readFirst, readFramed, frame}
 use Rattle.record.specs.Parts.{start, sizeAt}
 use Rattle.record.specs.Table.{rowOf}
 use Rattle.record.specs.Fields.{eventOf}
+use Rattle.record.specs.Versions.{laterRefusal}
 use Rattle.model.specs.Search.{some, any, first, firstFrom, most}
 use Rattle.model.specs.Trace.{stretch, count}
-use Rattle.model.specs.Machine.{counted, counting}
+use Rattle.model.specs.Machine.{countable, held, counting}
 use Rattle.model.specs.Rules.{answer, rules}
 use Rattle.model.specs.Choice.{finished}
 use Rattle.model.specs.Verdict.{forbidden?, observed?, pair?, missing?, bad?, closure, rulingOf}
@@ -122,11 +132,11 @@ use Rattle.model.specs.Reading.{events, recordAt, stop, readingOf}
 use Rattle.model.specs.Judge.{judgeOf, cutAfter}
 use Rattle.model.proofs.Sessions.{%s, Outcome, outcomeOf}"""
 
-BYTES_THEOREM = """pub %s : map outcomeOf sessions ≡ answers
-unfolding sessions answers judgeOf cutAfter readingOf stop recordAt events some any first firstFrom most answer rules
-    readAt readFirst readFramed frame start sizeAt rowOf eventOf stretch count counted counting finished forbidden?
-    observed? pair? missing? bad? closure rulingOf tabulate cutOf sum shareOf
-%s = refl"""
+BYTES_THEOREM = """pub {theorem} : map outcomeOf {sessions} ≡ {answers}
+unfolding {both} judgeOf cutAfter readingOf stop recordAt events some any first firstFrom most answer rules
+    readAt readFirst readFramed frame start sizeAt rowOf eventOf laterRefusal stretch count countable held counting
+    finished forbidden? observed? pair? missing? bad? closure rulingOf tabulate cutOf sum shareOf
+{theorem} = refl"""
 
 
 def events_of(data: bytes) -> list[Event]:
@@ -142,7 +152,8 @@ def events_of(data: bytes) -> list[Event]:
 
 def header(which: str) -> str:
     """The comment on top of the file."""
-    words = " ".join(f"{HEADERS[which]} {SHOWN}".split())
+    shown = SHOWN_TWICE if which == "checksums" else SHOWN
+    words = " ".join(f"{HEADERS[which]} {shown} {MADE}".split())
     return textwrap.fill(words, 120, initial_indent="-- ", subsequent_indent="-- ", break_on_hyphens=False)
 
 
@@ -221,39 +232,79 @@ def table(name: str, type_: str, entries: list[tuple[str, str]]) -> str:
     return f"{name} : List {type_}\n{name} =\n" + "\n".join(rows) + "\n    []"
 
 
-def proof_file(which: str, listed: list[tuple[str, bytes, list[str]]]) -> str:
-    """The whole file."""
+Listed = list[tuple[str, bytes, list[str]]]  # title, bytes, lines
+
+
+def events_imports(listed: Listed) -> str:
+    """What a file of events brings in."""
     kinds = {event.kind for _, data, _ in listed for event in events_of(data)}
     used = "\n".join(imported([CONSTRUCTORS[kind] for kind in sorted(kinds)]))
+    entries = [shown_answer(lines) for _, _, lines in listed]
+    windows = named("none between", entries, "behind lastCovered windowOf")
+    faults = named("refused robust broken contradiction impossible flush", entries)
+    return IMPORTS % (used, windows, faults, named("lent zeros padded", entries))
+
+
+def events_parts(which: str, listed: Listed) -> list[str]:
+    """The lists of bytes, events and answers, and their theorem."""
     name = THEOREMS[which]
     bytes_ = [(title, wrapped(map(shown_record, events_of(data)), "    ")) for title, data, _ in listed]
     events = [(title, wrapped(map(shown_event, events_of(data)), "    ")) for title, data, _ in listed]
     answers = [(title, shown_answer(lines)) for title, _, lines in listed]
-    entries = [entry for _, entry in answers]
-    windows = named("none between", entries, "behind lastCovered windowOf")
-    faults = named("refused robust broken contradiction impossible flush", entries)
-    shown = named("lent zeros padded", entries)
-    return "\n\n".join([
-        header(which) + "\n" + IMPORTS % (used, windows, faults, shown),
-        "-- the bytes\n" + "pub " + table("sessions", "(List ℕ)", bytes_),
-        "-- the events that they are the records of\n" + table("traces", "(List Event)", events),
-        "-- the answers, and the cut buffers afterwards\n" + "pub " + table("answers", "Outcome", answers),
-        THEOREM % (name, name)]) + "\n"
+    return ["-- the bytes\n" + "pub " + table("sessions", "(List ℕ)", bytes_),
+            "-- the events that they are the records of\n" + table("traces", "(List Event)", events),
+            "-- the answers, and the cut buffers afterwards\n" + "pub " + table("answers", "Outcome", answers),
+            THEOREM % (name, name)]
 
 
-def bytes_file(which: str, listed: list[tuple[str, bytes, list[str]]]) -> str:
-    """The whole file of bytes that need not be records."""
+def bytes_imports(listed: Listed) -> str:
+    """What a file of bytes that need not be records brings in."""
+    entries = [shown_answer(lines) for _, _, lines in listed]
+    return BYTES_IMPORTS % (named("refused robust", entries), named("lent zeros", entries))
+
+
+def bytes_parts(theorem: str, listed: Listed, sessions: str = "sessions", answers: str = "answers") -> list[str]:
+    """The lists of bytes that need not be records and of answers, and their theorem."""
     bytes_ = [(title, wrapped(map(str, data), "    ")) for title, data, _ in listed]
-    answers = [(title, shown_answer(lines)) for title, _, lines in listed]
-    entries = [entry for _, entry in answers]
-    return "\n\n".join([
-        header(which) + "\n" + BYTES_IMPORTS % (named("refused robust", entries), named("lent zeros", entries)),
-        "-- the bytes\n" + "pub " + table("sessions", "(List ℕ)", bytes_),
-        "-- the answers, and the cut buffers afterwards\n" + "pub " + table("answers", "Outcome", answers),
-        BYTES_THEOREM % (THEOREMS[which], THEOREMS[which])]) + "\n"
+    shown = [(title, shown_answer(lines)) for title, _, lines in listed]
+    return ["-- the bytes\n" + "pub " + table(sessions, "(List ℕ)", bytes_),
+            "-- the answers, and the cut buffers afterwards\n" + "pub " + table(answers, "Outcome", shown),
+            BYTES_THEOREM.format(theorem=theorem, sessions=sessions, answers=answers, both=f"{sessions} {answers}")]
 
 
-def random_sessions(seed: int, count: int) -> list[tuple[str, bytes, list[str]]]:
+def with_more(imports: str, more: str) -> str:
+    """The lines of the imports, and behind them those that bring in what only the second ones do."""
+    taken = lambda line: line.removeprefix("use ").removesuffix("}").split(".{")
+    have = {(module, name) for module, names in map(taken, imports.split("\n")) for name in names.split(", ")}
+    lines = [imports]
+    for module, names in map(taken, more.split("\n")):
+        new = [name for name in names.split(", ") if (module, name) not in have]
+        lines += [f"use {module}.{{{', '.join(new)}}}"] if new else []
+    return "\n".join(lines)
+
+
+def whole(which: str, imports: str, parts: list[str]) -> str:
+    """The whole file."""
+    return "\n\n".join([header(which) + "\n" + imports, *parts]) + "\n"
+
+
+def proof_file(which: str, listed: Listed) -> str:
+    """The file of a list; `no_bytes` is one of bytes, `checksums` has a second list of them."""
+    if which == "no_bytes":
+        return whole(which, bytes_imports(listed), bytes_parts(THEOREMS[which], listed))
+    if which == "checksums":
+        more = split_lines(CHECKSUM_BYTES)
+        return whole(which, with_more(events_imports(listed), bytes_imports(more)), events_parts(which, listed)
+                     + bytes_parts("checksum-bytes-as-worked", more, "bytes", "outcomes"))
+    return whole(which, events_imports(listed), events_parts(which, listed))
+
+
+def split_lines(listed: list[tuple[str, bytes, str]]) -> Listed:
+    """Sessions with their lines apart."""
+    return [(name, data, lines.split(" / ")) for name, data, lines in listed]
+
+
+def random_sessions(seed: int, count: int) -> Listed:
     """Sessions that can be read whole, with the brute force's lines."""
     drawn = generate.generate(seed, 4 * count, generate.Limits())
     whole = [(data, answer) for data, answer in drawn if readable(data)][:count]
@@ -275,11 +326,9 @@ def readable(data: bytes) -> bool:
 def main() -> None:
     """Print the file."""
     which = sys.argv[1]
-    if which == "random":
-        print(proof_file(which, random_sessions(int(sys.argv[2]), int(sys.argv[3]))), end="")
-        return
-    listed = [(name, data, lines.split(" / ")) for name, data, lines in LISTS[which]]
-    print((bytes_file if which == "no_bytes" else proof_file)(which, listed), end="")
+    random = which == "random"
+    listed = random_sessions(int(sys.argv[2]), int(sys.argv[3])) if random else split_lines(LISTS[which])
+    print(proof_file(which, listed), end="")
 
 
 if __name__ == "__main__":

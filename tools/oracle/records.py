@@ -5,8 +5,8 @@ from __future__ import annotations
 from dataclasses import dataclass
 from typing import Optional, Union
 
-(BEGIN, ISSUE, COMMIT, LOAD, CLFLUSH, CLFLUSHOPT, SFENCE, MFENCE, CRASH, SKIP_ON, SKIP_OFF, LOCKED, SIGNAL,
- WAIT) = range(1, 15)
+(BEGIN, ISSUE, COMMIT, LOAD, CLFLUSH, CLFLUSHOPT, SFENCE, MFENCE, CRASH, SKIP_ON, SKIP_OFF, LOCKED, SIGNAL, WAIT, OPEN,
+ CLOSE) = range(1, 17)
 
 # "Kinds and their lengths are one fixed table": kind -> (length, names of the fields).
 KINDS: dict[int, tuple[int, tuple[str, ...]]] = {
@@ -24,7 +24,13 @@ KINDS: dict[int, tuple[int, tuple[str, ...]]] = {
     LOCKED: (8, ("thread", "location", "source")),
     SIGNAL: (4, ("thread",)),
     WAIT: (6, ("thread", "source")),
+    OPEN: (4, ("thread",)),
+    CLOSE: (6, ("thread", "outcome")),
 }
+
+# Document 02, job 7: "Version 2 of the begin record admits kind 15 [..] and kind 16". Every version knows the others.
+VERSIONS = (1, 2)
+ADMITTED_BY_2 = (OPEN, CLOSE)
 
 
 @dataclass(frozen=True)
@@ -71,10 +77,17 @@ def frame_at(data: bytes, at: int) -> Union[bytes, int]:
     return data[at:at + 2 + length]
 
 
-def decode(record: bytes) -> Union[Event, int]:
-    """The event of a framed record, or the refusal: "3, wrong length" (3 unknown kind, 4 wrong for the kind)."""
+def known(kind: int, version: Optional[int]) -> bool:
+    """Whether the kind is known where a trace of that version goes on; None: "Read alone, or as a trace's first record,
+    the two kinds are known; later in a version 1 trace they get 3". """
+    return kind in KINDS and not (version == 1 and kind in ADMITTED_BY_2)
+
+
+def decode(record: bytes, version: Optional[int] = None) -> Union[Event, int]:
+    """The event of a framed record, or the refusal: "3, wrong length" (3 unknown kind, 4 wrong for the kind). The
+    version is that of the begin before the record, if there is one. """
     kind = number_at(record, 2)
-    if kind not in KINDS:
+    if not known(kind, version):
         return 3
     if number_at(record, 0) != KINDS[kind][0]:
         return 4

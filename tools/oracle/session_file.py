@@ -2,9 +2,9 @@
 
 python3 session_file.py ../../crates/sessions       # writes its files stdin and stdout
 
-The sessions of documents 01 and 02 and their answers are those that sessions.py states by hand; those of the random
-sessions and of all their order queries come from the brute force of oracle.py. The answers 14 and 15, and how many
-numbers of each buffer are 0 afterwards, are worked out here from document 01's sentences.
+The sessions of documents 01 and 02 and their answers are those that sessions.py and checksum_sessions.py state by hand;
+those of the random sessions and of all their order queries come from the brute force of oracle.py. The answers 14 and
+15, and how many numbers of each buffer are 0 afterwards, are worked out here from document 01's sentences.
 """
 
 from __future__ import annotations
@@ -14,10 +14,12 @@ from pathlib import Path
 
 import generate
 import oracle
+from checksum_sessions import CHECKSUM_BYTES, CHECKSUMS
 from lines import lines_with_windows
+from notation import body, show
 from oracle import Refused
 from sessions import CASES, EDGES, ERRORS, HANDED, LOCKED, LOOKUPS, MORE_REFUSALS, NO_BYTES, ONE_LINE, ORDERS
-from sessions import REFUSALS, WINDOWS, body, show, without_windows
+from sessions import REFUSALS, WINDOWS, without_windows
 
 LONGEST = 32767  # the program's room for a trace; the program `verdict` is run on longer input by tests/verdict
 SEED = 2027
@@ -38,12 +40,12 @@ def judged(letter: str, comment: str, data: bytes, lines: list[str]) -> list[Pai
 
 
 def listed() -> list[Pair]:
-    """The sessions of documents 01 and 02, as sessions.py has them."""
+    """The sessions of documents 01 and 02, as sessions.py and checksum_sessions.py have them."""
     pairs: list[Pair] = []
     for name, data, expected in CASES + REFUSALS + MORE_REFUSALS + EDGES + ERRORS:
         if len(data) <= LONGEST:
             pairs += judged("j", name, data, without_windows(expected))
-    for name, data, expected in WINDOWS + LOCKED + LOOKUPS + HANDED + ONE_LINE + NO_BYTES:
+    for name, data, expected in WINDOWS + LOCKED + LOOKUPS + HANDED + ONE_LINE + NO_BYTES + CHECKSUMS + CHECKSUM_BYTES:
         pairs += judged("w", name, data, expected.split(" / "))
     for name, data, first, second, answer in ORDERS:
         pairs.append((f"# order: {name}", [f"# order: {name}"]))
@@ -56,7 +58,8 @@ def with_buffers() -> list[Pair]:
     lent; afterwards the work area's "first 32,768 are 0 and the rest untouched". No number of a buffer is 0 before. Of
     no bytes, document 02, job 6: "robust, all-zero cut, share 100, `events 0`". """
     robust, broken, refused = CASES[1][1], CASES[0][1], CASES[7][1]
-    lines = {data: without_windows(expected) for _, data, expected in CASES}
+    at_close, dropped = CHECKSUMS[0][1], CHECKSUMS[1][1]
+    lines = {data: without_windows(expected) for _, data, expected in CASES + CHECKSUMS}
     cleared, kept = 32768, 0
     cut_of_robust, cut_of_none = 56 - 1, 56
     none = ["events 0", "verdict robust", "share 100"]
@@ -73,6 +76,8 @@ def with_buffers() -> list[Pair]:
         ("robust, with a larger work area", 32770, 56, robust, lines[robust], cleared, cut_of_robust),
         ("broken", 32769, 56, broken, lines[broken], cleared, 0),
         ("refused", 32769, 56, refused, lines[refused], cleared, 0),
+        ("broken at a close", 32769, 56, at_close, lines[at_close], cleared, 0),
+        ("robust, since the held loads are dropped", 32769, 56, dropped, lines[dropped], cleared, cut_of_none),
         ("no bytes", 32768, 56, b"", none, cleared, cut_of_none),
         ("a larger work area for no bytes", 32770, 56, b"", none, cleared, cut_of_none),
         ("a work area of 32,767 numbers for no bytes", 32767, 56, b"", ["refused 14 0"], kept, 0),

@@ -1,79 +1,20 @@
-"""Sessions of documents 01 and 02 with their expected answers, written down by hand from these documents.
-
-Notation, separated by blanks (T thread, L location, S source):
-I0.1 issue, C0 commit, L0.1<3 load from 3, R0.1<3 locked operation (kind 12) from 3, S0 signal (kind 13), W1<3 wait
-(kind 14) for signal 3, F0.1 clflush, O0.1 clflushopt or clwb, SF0 sfence, MF0 mfence, X crash, SKIP0 skip on, UNSKIP0
-skip off, B1.2.2 begin (version, threads, locations).
+"""Sessions of documents 01 and 02 with their expected answers, written down by hand from these documents, in the
+notation of notation.py; those of document 02's job 7 are in checksum_sessions.py.
 
 `python3 sessions.py` compares the oracle with every expectation and prints 'N passed, 0 failed'.
 """
 
 from __future__ import annotations
 
-import re
 import sys
-from typing import Callable, Optional
+from typing import Callable
 
 import oracle
+from checksum_sessions import CHECKSUM_BYTES, CHECKSUMS
 from lines import lines_with_windows
+from notation import B, begin, body, raw, session, show, version_2
 from oracle import Event, Refused
 
-LETTERS = {"B": oracle.BEGIN, "I": oracle.ISSUE, "C": oracle.COMMIT, "L": oracle.LOAD, "F": oracle.CLFLUSH,
-           "O": oracle.CLFLUSHOPT, "SF": oracle.SFENCE, "MF": oracle.MFENCE, "X": oracle.CRASH,
-           "SKIP": oracle.SKIP_ON, "UNSKIP": oracle.SKIP_OFF, "R": oracle.LOCKED, "S": oracle.SIGNAL, "W": oracle.WAIT}
-NAMES = {kind: letters for letters, kind in LETTERS.items()}
-
-
-def parse_event(word: str) -> Event:
-    """The event of one word of the notation."""
-    letters, numbers = re.fullmatch(r"([A-Z]+)([0-9.<]*)", word).groups()
-    return Event(LETTERS[letters], tuple(int(number) for number in re.split("[.<]", numbers) if number))
-
-
-def show_event(event: Event) -> str:
-    """One word of the notation for an event."""
-    numbers = [str(value) for value in event.fields]
-    source = "<" + numbers.pop() if event.has("source") else ""
-    return NAMES[event.kind] + ".".join(numbers) + source
-
-
-def show(data: bytes) -> str:
-    """A trace in the notation, for messages; unreadable bytes are shown in hexadecimal, no bytes as such."""
-    if not data:
-        return "(no bytes)"
-    words, at = [], 0
-    while at < len(data):
-        event = oracle.read_record(data[at:])
-        if isinstance(event, Refused):
-            return " ".join(words + [data[at:].hex(" ")])
-        words.append(show_event(event))
-        at += len(oracle.encode(event))
-    return " ".join(words)
-
-
-def begin(threads: int, locations: int, version: int = 1) -> bytes:
-    """A begin record."""
-    return oracle.encode(Event(oracle.BEGIN, (version, threads, locations)))
-
-
-def body(text: str) -> bytes:
-    """The records of a text in the notation, without a begin in front."""
-    return b"".join(oracle.encode(parse_event(word)) for word in text.split())
-
-
-def session(text: str, threads: Optional[int] = None, locations: int = 2) -> bytes:
-    """ "Each has 2 locations and the threads it names, at least one". """
-    events = [parse_event(word) for word in text.split()]
-    named = [event.get("thread") + 1 for event in events if event.has("thread")]
-    return begin(max(named, default=1) if threads is None else threads, locations) + body(text)
-
-
-def raw(text: str) -> bytes:
-    """Bytes written in hexadecimal."""
-    return bytes.fromhex(text)
-
-
-B = raw("08 00 01 00 01 00 01 00 02 00")
 CASE_1 = "I0.0 C0 I0.1 C0 I0.0 C0 I0.1 C0 X"
 CASE_11 = "I0.0 I1.0 C1 C0 X"
 
@@ -127,7 +68,7 @@ MORE_REFUSALS: list[tuple[str, bytes, str]] = [
     ("bytes missing before unknown kind", raw("08 00 63 00"), "refused 2 0"),
     ("unknown kind before wrong length", B + raw("03 00 63 00 00"), "refused 3 1"),
     ("kind 0", B + raw("02 00 00 00"), "refused 3 1"),
-    ("kind 15", B + raw("02 00 0f 00"), "refused 3 1"),
+    ("kind 17", B + raw("02 00 11 00"), "refused 3 1"),
     ("kind 12 with the length of a crash", B + raw("02 00 0c 00"), "refused 4 1"),
     ("bytes end inside kind 12", B + raw("08 00 0c 00 00 00 00 00 00"), "refused 2 1"),
     ("a signal with the length of a wait", B + raw("06 00 0d 00 00 00 00 00"), "refused 4 1"),
@@ -139,7 +80,6 @@ MORE_REFUSALS: list[tuple[str, bytes, str]] = [
     ("odd length for the kind", B + raw("03 00 09 00 00"), "refused 4 1"),
     ("wrong length before no begin", raw("04 00 09 00 00 00"), "refused 4 0"),
     ("unknown kind before no begin", raw("02 00 63 00"), "refused 3 0"),
-    ("version 2", begin(1, 2, version=2), "refused 6 0"),
     ("version 0", begin(1, 2, version=0), "refused 6 0"),
     ("0 threads", begin(0, 2), "refused 6 0"),
     ("0 locations", begin(1, 0), "refused 6 0"),
@@ -202,6 +142,18 @@ EDGES: list[tuple[str, bytes, str]] = [
     ("its three records from 2,048 on", B + body("SF0 " * 2047 + "L0.0<0 I0.0 C0"), "refused 13 2049"),
     ("wait at 2,048", B + body("SF0 " * 2046 + "S0 W0<2047"), "events 2048 / verdict robust / share 100"),
     ("event 2,049 is a wait for no signal", B + body("SF0 " * 2048 + "W0<0"), "refused 13 2049"),
+    ("event 2,049 is an open, in version 1", B + body("SF0 " * 2048 + "OPEN0"), "refused 3 2049"),
+    ("event 2,049 is an open, in version 2", version_2("SF0 " * 2048 + "OPEN0"), "refused 13 2049"),
+    ("event 2,049 is a close of no such thread, with another outcome, in version 1",
+     B + body("SF0 " * 2048 + "CLOSE1.2"), "refused 3 2049"),
+    ("event 2,049 is a close of no such thread, with another outcome, in version 2",
+     version_2("SF0 " * 2048 + "CLOSE1.2", threads=1), "refused 13 2049"),
+    ("event 2,049 is an open of length 2, in version 1", B + body("SF0 " * 2048) + raw("02 00 0f 00"),
+     "refused 3 2049"),
+    ("event 2,049 is an open of length 2, in version 2", version_2("SF0 " * 2048) + raw("02 00 0f 00"),
+     "refused 4 2049"),
+    ("a close at 2,048 is the load", version_2("I0.0 C0 X L0.0<1 OPEN0 L0.0<0 " + "SF0 " * 2041 + "CLOSE0.1"),
+     "events 2048 / verdict broken / load 2048 / missing 1 / observed 1 / kind contradiction"),
     ("7 crashes", B + body("X " * 7), "events 7 / verdict robust / cut 1 0 / cut 2 0 / cut 3 0 / cut 4 0 / cut 5 0"
      " / cut 6 0 / cut 7 0 / share 100"),
     ("8 crashes", B + body("X " * 8), "refused 13 8"),
@@ -639,6 +591,13 @@ ORDERS: list[tuple[str, bytes, int, int, object]] = [
     ("a hand-over to a locked operation", session("I0.0 C0 S0 W1<3 R1.1<0"), 1, 5, "before"),
     ("a hand-over, then a load", session("I0.0 C0 S0 W1<3 I1.1 C1 L2.1<5 I2.0"), 1, 8, "before"),
     ("a hand-over before a crash orders nothing behind it", session("I0.0 C0 S0 W1<3 X I0.0 I1.1"), 6, 7, "neither"),
+    ("query of an open", version_2("I0.0 OPEN0"), 1, 2, Refused(16, 0)),
+    ("query of a close", version_2("I0.0 OPEN0 CLOSE0.1"), 3, 1, Refused(16, 0)),
+    ("by a load in a region that is dropped", version_2("I0.0 C0 OPEN1 L1.0<1 CLOSE1.0 I1.1"), 1, 6, "before"),
+    ("by a locked operation in such a region", version_2("I0.0 C0 OPEN1 R1.0<1 CLOSE1.0"), 1, 4, "before"),
+    ("a held load that counts adds nothing", version_2("I0.0 C0 X OPEN1 L1.0<1 CLOSE1.1 I1.1"), 1, 7, "neither"),
+    ("an open in version 1", session("I0.0 OPEN0"), 1, 1, Refused(3, 2)),
+    ("a close with another outcome", version_2("I0.0 CLOSE0.2"), 1, 1, Refused(19, 2)),
     ("no bytes, by 0 and 0: turned away with 1, ahead of 16", b"", 0, 0, Refused(1, 0)),
     ("no bytes, by 1 and 1: turned away, and not the same", b"", 1, 1, Refused(1, 0)),
     ("no bytes, by 1 and 2: turned away, and not neither", b"", 1, 2, Refused(1, 0)),
@@ -654,6 +613,7 @@ def record_checks() -> list[tuple[str, bool]]:
     crash, output = Event(oracle.CRASH), bytearray(b"\xaa" * 6)
     large, locked = Event(oracle.LOAD, (65535, 65535, 65535)), raw("08 00 0c 00 01 00 02 00 03 00")
     signal, wait = raw("04 00 0d 00 01 00"), raw("06 00 0e 00 01 00 03 00")
+    opened, closed = raw("04 00 0f 00 01 00"), raw("06 00 10 00 01 00 ff ff")
     return [
         ("read: no bytes", oracle.read_record(b"") == Refused(1, 0)),
         ("frame: record 0 of no bytes", oracle.record_part(b"", 0) == b""),
@@ -666,6 +626,14 @@ def record_checks() -> list[tuple[str, bool]]:
         ("write: signal", body("S1") == signal),
         ("read: wait", oracle.read_record(wait) == Event(oracle.WAIT, (1, 3))),
         ("write: wait", body("W1<3") == wait),
+        ("read: open", oracle.read_record(opened) == Event(oracle.OPEN, (1,))),
+        ("write: open", body("OPEN1") == opened),
+        ("read: close, with any outcome", oracle.read_record(closed) == Event(oracle.CLOSE, (1, 65535))),
+        ("write: close, with any outcome", body("CLOSE1.65535") == closed),
+        ("read: open of length 2", oracle.read_record(raw("02 00 0f 00")) == Refused(4, 0)),
+        ("read: close of length 4", oracle.read_record(raw("04 00 10 00 00 00")) == Refused(4, 0)),
+        ("read: kind 17", oracle.read_record(raw("04 00 11 00 00 00")) == Refused(3, 0)),
+        ("show: open and close", show(body("OPEN0 CLOSE1.0")) == "OPEN0 CLOSE1.0"),
         ("show: every kind with a source", show(body("L0.1<2 R0.1<3 S1 W1<3")) == "L0.1<2 R0.1<3 S1 W1<3"),
         ("write: crash into 3 bytes", oracle.write_event(crash, bytearray(3)) == Refused(17, 0)),
         ("write: crash into 6 bytes", oracle.write_event(crash, output) is None),
@@ -689,7 +657,8 @@ def self_test() -> list[tuple[str, bool]]:
     results: list[tuple[str, bool]] = []
     judges: list[tuple[str, Callable]] = [("judge", oracle.judge), ("judge_closure", oracle.judge_closure)]
     by_document_01 = CASES + REFUSALS + MORE_REFUSALS + EDGES + ERRORS
-    for name, data, expected in by_document_01 + WINDOWS + LOCKED + LOOKUPS + HANDED + ONE_LINE + NO_BYTES:
+    by_document_02 = WINDOWS + LOCKED + LOOKUPS + HANDED + ONE_LINE + NO_BYTES + CHECKSUMS + CHECKSUM_BYTES
+    for name, data, expected in by_document_01 + by_document_02:
         for label, judging in judges:
             results.append((f"{name} ({label})", " / ".join(lines_with_windows(data, judging)) == expected))
     for name, data, first, second, answer in ORDERS:

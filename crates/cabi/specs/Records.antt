@@ -1,5 +1,5 @@
 -- A record as two-byte numbers in a lent array: the refusal's number or 0, kind, version, threads, locations, thread,
--- location, source. What its kind does not have is 0. gorbuzte.h gives names to the places.
+-- location, source, outcome. What its kind does not have is 0. gorbuzte.h gives names to the places.
 use Prim.Native.Nat.{ℕ}
 use mathlib.Core.Bool.{Bool, not}
 use mathlib.Core.List.{List, [], _∷_}
@@ -21,13 +21,13 @@ use Rattle.record.specs.Writing.{writing, written}
 abbrev pub eventNumbers : Event → List ℕ
 eventNumbers e =
     let f = fieldsOf e in
-    0 ∷ kindOf e ∷ f .version ∷ f .threads ∷ f .locations ∷ f .thread ∷ f .location ∷ f .source ∷ []
+    0 ∷ kindOf e ∷ f .version ∷ f .threads ∷ f .locations ∷ f .thread ∷ f .location ∷ f .source ∷ f .outcome ∷ []
 
 -- of what reading answers: the event's, or the refusal and nothing else
 abbrev pub readNumbers : Answer → List ℕ
 readNumbers (event e past) = eventNumbers e
-readNumbers (refused k e) = k ∷ 0 ∷ 0 ∷ 0 ∷ 0 ∷ 0 ∷ 0 ∷ 0 ∷ []
-readNumbers (wrote n) = 0 ∷ 0 ∷ 0 ∷ 0 ∷ 0 ∷ 0 ∷ 0 ∷ 0 ∷ []
+readNumbers (refused k e) = k ∷ 0 ∷ 0 ∷ 0 ∷ 0 ∷ 0 ∷ 0 ∷ 0 ∷ 0 ∷ []
+readNumbers (wrote n) = 0 ∷ 0 ∷ 0 ∷ 0 ∷ 0 ∷ 0 ∷ 0 ∷ 0 ∷ 0 ∷ []
 
 -- the position past the record that was read, or the number of bytes written; 0 for a refusal
 abbrev pub sizeIn : Answer → ℕ
@@ -46,6 +46,7 @@ fieldsIn numbers =
       version = getD numbers 2 0;
       threads = getD numbers 3 0;
       locations = getD numbers 4 0;
+      outcome = getD numbers 8 0;
     }
 
 -- the event that the numbers name, if there is such a kind

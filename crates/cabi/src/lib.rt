@@ -64,7 +64,7 @@ pub extern "C" fn gorbuzte_order(
 
 // Reads the record at a position; answers the position past it, 0 for a refusal.
 #[no_mangle]
-pub extern "C" fn gorbuzte_read(trace: &[u8], at: usize, fields: &mut [u16; 8]) -> usize
+pub extern "C" fn gorbuzte_read(trace: &[u8], at: usize, fields: &mut [u16; 9]) -> usize
     ensures position { λ r. ⌜ r ≡ sizeIn (readAt (now (trace .entry)) at) ⌝ }
     ensures fields { λ _. ⌜ now (fields .exit) ≡ readNumbers (readAt (now (trace .entry)) at) ⌝ }
 {
@@ -75,7 +75,7 @@ pub extern "C" fn gorbuzte_read(trace: &[u8], at: usize, fields: &mut [u16; 8]) 
 
 // Writes a record to the start of the output; answers its size, 0 for a refusal. Of `fields` only the refusal changes.
 #[no_mangle]
-pub extern "C" fn gorbuzte_write(fields: &mut [u16; 8], output: &mut [u8]) -> usize
+pub extern "C" fn gorbuzte_write(fields: &mut [u16; 9], output: &mut [u8]) -> usize
     ensures size { λ r. ⌜ r ≡ sizeIn (writingNumbers (now (fields .entry)) (now (output .entry))) ⌝ }
     ensures output { λ _. ⌜ now (output .exit) ≡ writtenNumbers (now (fields .entry)) (now (output .entry)) ⌝ }
     ensures fields { λ _. ⌜ (now (fields .exit) ≡ set (now (fields .entry)) 0

@@ -11,7 +11,7 @@ use record::Named;
 use record::Read;
 use record::Written;
 
-fn event_numbers(e: Event) -> [u16; 8]
+fn event_numbers(e: Event) -> [u16; 9]
     ensures { λ r. ⌜ r ≡ eventNumbers e ⌝ }
 {
     let k = record::kind_of(e);
@@ -25,15 +25,16 @@ fn event_numbers(e: Event) -> [u16; 8]
         f.thread,
         f.location,
         f.source,
+        f.outcome,
     ]
 }
 
-pub(crate) fn read_numbers(r: Read) -> [u16; 8]
+pub(crate) fn read_numbers(r: Read) -> [u16; 9]
     ensures { λ n. ⌜ n ≡ readNumbers (readAnswer r) ⌝ }
 {
     match r {
         Read::Record(e, _) => event_numbers(e),
-        Read::Refused(k) => [k, 0, 0, 0, 0, 0, 0, 0],
+        Read::Refused(k) => [k, 0, 0, 0, 0, 0, 0, 0, 0],
     }
 }
 
@@ -69,7 +70,7 @@ fn outcome_of(w: Written) -> Outcome
 }
 
 // The event that the numbers name, if there is such a kind.
-fn event_named(numbers: [u16; 8]) -> Named
+fn event_named(numbers: [u16; 9]) -> Named
     ensures { λ r. ⌜ r ≡ named (getD numbers 1 0) (fieldsIn numbers) ⌝ }
 {
     let f = Fields {
@@ -79,11 +80,12 @@ fn event_named(numbers: [u16; 8]) -> Named
         version: numbers[2],
         threads: numbers[3],
         locations: numbers[4],
+        outcome: numbers[8],
     };
     record::event_of(numbers[1], f)
 }
 
-pub(crate) fn write(numbers: [u16; 8], output: &mut [u8]) -> Outcome
+pub(crate) fn write(numbers: [u16; 9], output: &mut [u8]) -> Outcome
     ensures { λ r. ⌜ (r .refusal ≡ refusalIn (writingNumbers numbers (now (output .entry))))
         × (r .size ≡ sizeIn (writingNumbers numbers (now (output .entry)))) ⌝ }
     ensures { λ _. ⌜ now (output .exit) ≡ writtenNumbers numbers (now (output .entry)) ⌝ }

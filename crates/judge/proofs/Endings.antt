@@ -93,8 +93,8 @@ module _ (bytes : List ℕ) where
   -- ---- all records of an accepted trace
 
   module _
-      (threads locations N : ℕ) (tables : List ℕ) (m : Marks) (work : List ℕ)
-      (all : AllRead bytes threads locations N tables m work) where
+      (version threads locations N : ℕ) (tables : List ℕ) (m : Marks) (work : List ℕ)
+      (all : AllRead bytes version threads locations N tables m work) where
     is-accepted : begunReading bytes ≡ accepted N
     is-accepted = begun-accepted-exactly bytes N .1 (all .accepted, all .state .limits .begun)
 
@@ -102,7 +102,7 @@ module _ (bytes : List ℕ) where
     whole = all .state .limits .accepted
 
     abbrev w : World
-    w = worldOf bytes threads locations (all .stretch) (all .row) tables work
+    w = worldOf bytes version threads locations (all .stretch) (all .row) tables work
 
     -- the rows after a run that answers v
     rows-there :
@@ -198,8 +198,8 @@ module _ (bytes : List ℕ) where
   -- ---- a run that is over before record n, by number k
 
   module _
-      (threads locations n k : ℕ) (tables : List ℕ) (m : Marks) (work : List ℕ)
-      (stopped : Stopped bytes threads locations n k tables m work) (cut : List ℕ) (right-size : length cut ≡ 56)
+      (version threads locations n k : ℕ) (tables : List ℕ) (m : Marks) (work : List ℕ)
+      (stopped : Stopped bytes version threads locations n k tables m work) (cut : List ℕ) (right-size : length cut ≡ 56)
     where
       -- the end of the run
       abbrev endBy : End
@@ -213,8 +213,8 @@ module _ (bytes : List ℕ) where
       over (inl is-1) =
           let all = stopped .all-read is-1 in
           rw is-1 (
-            all-with-cut threads locations n tables m work all cut right-size,
-            all-answers threads locations n tables m work all cut right-size,
+            all-with-cut version threads locations n tables m work all cut right-size,
+            all-answers version threads locations n tables m work all cut right-size,
           )
       over (inr not-1) =
           let away = begun-away bytes k n (stopped .turned-away not-1) in

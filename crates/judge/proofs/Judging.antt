@@ -3,41 +3,46 @@
 -- head of its location's committed stores, and any other event leaves the marks.
 -- In order: the event's number; the marks after it; the head that a counted load found, by its kind; the marks after an
 -- event that does not count and after one that does.
-use mathlib.Core.Path.{_≡_, refl, sym, ap, _∙_}
-use mathlib.Core.Bool.{Bool, true, false, _||_}
-use mathlib.Core.List.{List, _∷_}
+use mathlib.Core.Path.{_≡_, refl, sym, ap, _∙_, subst}
+use mathlib.Core.Bool.{Bool, true, false, cond, _&&_, _||_, not}
+use mathlib.Core.List.{List, [], _∷_}
 use mathlib.Core.Logic.{_≢_}
 use Prim.Native.Nat.{ℕ, suc, _≤_, _<_}
 use native.Mathlib.Omega.{arith}
 use borrow.Author.Tests.{ne-eqb}
-use lib.ListN.{getD}
+use lib.Dec.{eqb}
+use lib.ListN.{length, getD}
 use Rattle.record.specs.declared.events.Event.{Event}
 use Rattle.record.specs.declared.events.Fields.{Fields}
 use Rattle.record.specs.Fields.{fieldsOf}
-use Rattle.model.specs.Trace.{kind, is, location, commit?}
-use Rattle.model.specs.Machine.{committed, counted, counting, counts}
+use Rattle.model.specs.Trace.{kind, is, thread, location, outcome, commit?, close?}
+use Rattle.model.specs.Machine.{committed, opened, countable, held, counting, counts}
 use Rattle.model.specs.Stores.{headOf, landed}
-use Rattle.model.proofs.Searching.{false-true}
+use Rattle.model.proofs.Searching.{false-true, parts}
 use Rattle.model.proofs.Roles.{one-kind}
-use Rattle.model.proofs.Acceptance.{counted-crosses}
+use Rattle.model.proofs.Acceptance.{countable-crosses, event-bound}
+use Rattle.model.proofs.CountedLoads.{counting-length}
 use Rattle.model.proofs.Ranges.{load-has-location, location-bound}
 use Rattle.model.proofs.StorePlaces.{committed-itself}
 use Rattle.model.proofs.Unchanged.{landed-away, landed-here}
 use Rattle.model.proofs.CountedLoads.{counts-as-of}
 use Rattle.area.specs.Cells.{getRow, eventAt}
-use Rattle.area.specs.Rows.{Linked}
+use Rattle.area.specs.Rows.{Linked, HeldLinked}
 use Rattle.area.proofs.Chains.{linked-head, linked-earlier}
-use Rattle.machine.specs.Tables.{lastCell, lastIn}
+use Rattle.machine.specs.Tables.{lastCell, lastIn, heldIn}
 use Rattle.machine.specs.Twin.{World}
-use Rattle.machine.specs.Sim.{Sim}
+use Rattle.machine.specs.Sim.{some?, Sim}
 use Rattle.machine.proofs.Closing.{last-is}
 use Rattle.marks.specs.Marks.{Marks}
 use Rattle.marks.specs.Judged.{judged}
 use Rattle.marks.specs.Matching.{MarksMatch}
 use Rattle.marks.proofs.Stepping.{chain}
 use Rattle.marks.proofs.EachLoad.{judgedAs}
-use Rattle.marks.proofs.Matched.{match-event, judged-none, judged-load}
-use Rattle.judge.specs.Judging.{Stepped}
+use Rattle.marks.proofs.HeldLoads.{judged-all}
+use Rattle.marks.proofs.HeldLoads as loads
+use Rattle.marks.proofs.Matched.{match-event, judged-none}
+use Rattle.judge.specs.declared.loads.First.{First}
+use Rattle.judge.specs.Judging.{Stepped, Counting}
 
 module _ (ev : ℕ → Event) (n : ℕ) (w : World) (sim : Sim ev n w) where
   -- the number of the event is the one whose row begins here
@@ -50,20 +55,54 @@ module _
     (ev : ℕ → Event) (n k : ℕ) (counts' : Bool) (tables work : List ℕ)
     (stepped : Stepped ev n k counts' tables work) where
   -- the location of a counted load is below 256
-  located : (l : ℕ) → l ≤ n → counted ev l ≡ true → location ev l < 256
-  located l not-later is-counted =
+  located : (l : ℕ) → l ≤ n → countable ev l ≡ true → location ev l < 256
+  located l not-later is-countable =
       location-bound ev (suc n) (stepped .accepted) l (omega arith)
-      (load-has-location ev (counted-crosses ev l is-counted .loads))
+      (load-has-location ev (countable-crosses ev l is-countable .loads))
 
   -- what the step leaves of the chain that a load found: commits add to its front only
   found : (l : ℕ) → counts ev n l ≡ true → Linked work (headOf (chain ev l)) (chain ev l)
   found l here =
       let it = counts-as-of ev n l here in
       linked-earlier ev work (location ev l) l (suc n) _ (omega (arith, it .not-later))
-      (stepped .chains (location ev l) (located l (it .not-later) (it .is-counted)) .links)
+      (stepped .chains (location ev l) (located l (it .not-later) (it .is-countable)) .links)
 
   match-after : (m : Marks) → MarksMatch ev n m → MarksMatch ev (suc n) (judgedAs ev work n (counting ev n) m)
   match-after = match-event ev n work (stepped .accepted) (λ l here. (stepped .rows, found l here))
+
+-- ---- which loads count as of the event
+
+-- none, if the machine says so
+none-counts : (ls : List ℕ) → some? ls ≡ false → ls ≡ []
+none-counts [] none = refl
+none-counts (l ∷ ls) none = false-true (sym none)
+
+-- of an event that is no close, the load itself
+module _ (ev : ℕ → Event) (n : ℕ) (other : kind ev n ≢ 16) (some : some? (counting ev n) ≡ true) where
+  at-once : Bool
+  at-once = countable ev n && not (opened ev n (thread ev n))
+
+  itself-counts : (countable ev n ≡ true) × (counting ev n ≡ n ∷ [])
+  unfolding counting at-once
+  itself-counts = by-test at-once refl (rw (ne-eqb (kind ev n) 16 other) at some)
+    where
+      by-test :
+          (b : Bool) → at-once ≡ b → some? (cond at-once (n ∷ []) []) ≡ true
+          → (countable ev n ≡ true)
+          × (cond (close? ev n && eqb (outcome ev n) 1) (held ev n (thread ev n)) (cond at-once (n ∷ []) []) ≡ n ∷ [])
+      by-test false is there = false-true (rw is at there)
+      by-test true is there =
+          (parts (countable ev n) _ is .0, rw (ne-eqb (kind ev n) 16 other, is) refl)
+
+-- of a close that counts, those that its thread holds
+module _ (ev : ℕ → Event) (n : ℕ) (close : kind ev n ≡ 16) (some : some? (counting ev n) ≡ true) where
+  held-count : counting ev n ≡ held ev n (thread ev n)
+  unfolding counting countable
+  held-count = by-outcome (eqb (outcome ev n) 1) refl
+    where
+      by-outcome : (b : Bool) → eqb (outcome ev n) 1 ≡ b → counting ev n ≡ held ev n (thread ev n)
+      by-outcome true is = rw (close, is)
+      by-outcome false is = false-true (rw (close, is) at some)
 
 -- ---- the head that a counted load of location x found
 
@@ -72,10 +111,13 @@ or-left true b either not-b = refl
 or-left false b either not-b = false-true (sym not-b ∙ either)
 
 module _
-    (ev : ℕ → Event) (n k x : ℕ) (tables work : List ℕ) (stepped : Stepped ev n k true tables work)
+    (ev : ℕ → Event) (n k x : ℕ) (tables work : List ℕ) (stepped : Stepped ev n k true tables work) (load : k ≢ 16)
     (at-x : location ev n ≡ x) where
+  counts-itself : countable ev n ≡ true
+  counts-itself = itself-counts ev n (λ is. load (sym (stepped .kind-is) ∙ is)) (stepped .counts-is) .0
+
   x-small : x < 256
-  x-small = omega (arith, at-x, located ev n k true tables work stepped n (omega arith) (stepped .counts-is))
+  x-small = omega (arith, at-x, located ev n k true tables work stepped n (omega arith) counts-itself)
 
   -- an event of kind 4 commits nothing
   pub head-stays : k ≢ 12 → lastIn tables x ≡ headOf (landed ev n x)
@@ -88,7 +130,7 @@ module _
 
       no-commit : commit? ev n ≡ false
       no-commit =
-          let load = counted-crosses ev n (stepped .counts-is) .loads in
+          let load = countable-crosses ev n counts-itself .loads in
           let is-4 = or-left (is ev 4 n) (is ev 12 n) (load .test) not-12 in
           rw (one-kind ev n 4 3 (omega arith) is-4, not-12)
 
@@ -110,19 +152,71 @@ module _
       linked : Linked work (getD tables (lastCell x) 0) (n ∷ landed ev n x)
       linked = rw chain-is at (stepped .chains x x-small .links)
 
+-- ---- the first of the loads that count
+
+module _
+    (ev : ℕ → Event) (n k : ℕ) (tables work : List ℕ) (stepped : Stepped ev n k true tables work) (f : Fields)
+    (fields-are : fieldsOf (ev n) ≡ f) where
+  -- the load itself, with the head that it found
+  pub first-itself :
+      k ≢ 16 → (h : ℕ) → h ≡ headOf (landed ev n (f .location))
+      → Counting ev n work (record { head = h; location = f .location; source = f .source; rest = 0 })
+  first-itself load h head-is = record {
+    l = n;
+    ls = [];
+    all = itself-counts ev n (λ is. load (sym (stepped .kind-is) ∙ is)) (stepped .counts-is) .1;
+    head-is = head-is ∙ ap (λ (g : Fields). headOf (landed ev n (g .location))) (sym fields-are);
+    location-is = sym (ap (λ (g : Fields). g .location) fields-are);
+    source-is = sym (ap (λ (g : Fields). g .source) fields-are);
+    others = refl;
+  }
+
+  -- the newest load that the close's thread holds, by its row
+  pub first-held :
+      k ≡ 16 → (e h x s b : ℕ) → e ≡ heldIn tables (f .thread) → h ≡ getRow work e 14 → x ≡ getRow work e 9
+      → s ≡ getRow work e 13 → b ≡ getRow work e 15
+      → Counting ev n work (record { head = h; location = x; source = s; rest = b })
+  first-held is-16 e h x s b e-is h-is x-is s-is b-is =
+      let close : kind ev n ≡ 16 = stepped .kind-is ∙ is-16 in
+      let same = held-count ev n close (stepped .counts-is) in
+      by-list (held ev n (thread ev n)) same (rw same at (stepped .counts-is))
+      (rw (← newest) at (stepped .held-are (rw close refl)))
+    where
+      newest : e ≡ heldIn tables (thread ev n)
+      newest = e-is ∙ ap (λ (g : Fields). heldIn tables (g .thread)) (sym fields-are)
+
+      by-list :
+          (es : List ℕ) → counting ev n ≡ es → some? es ≡ true → HeldLinked ev work e es
+          → Counting ev n work (record { head = h; location = x; source = s; rest = b })
+      by-list [] same some links = false-true some
+      by-list (i ∷ es) same some (is-i, row, links) = record {
+        l = i;
+        ls = es;
+        all = same;
+        head-is = h-is ∙ rw is-i (row .head-is);
+        location-is = x-is ∙ rw is-i (row .location-is);
+        source-is = s-is ∙ rw is-i (row .source-is);
+        others = rw (b-is, is-i) links;
+      }
+
 -- ---- THE MARKS AFTER THE EVENT, by what the code does
 
 module _ (ev : ℕ → Event) (n k : ℕ) (tables work : List ℕ) (m : Marks) (matching : MarksMatch ev n m) where
   pub match-uncounted : Stepped ev n k false tables work → MarksMatch ev (suc n) m
-  unfolding counting
   match-uncounted stepped =
-      rw (stepped .counts-is, judged-none ev work n m) at (match-after ev n k false tables work stepped m matching)
+      rw (none-counts (counting ev n) (stepped .counts-is), judged-none ev work n m) at
+      (match-after ev n k false tables work stepped m matching)
 
   pub match-counted :
-      Stepped ev n k true tables work → (f : Fields) → fieldsOf (ev n) ≡ f
-      → (h : ℕ) → h ≡ headOf (landed ev n (f .location))
-      → (m' : Marks) → m' ≡ judged work m h (f .location) (f .source) n → MarksMatch ev (suc n) m'
-  unfolding counting
-  match-counted stepped f fields-are h head-is m' marks-are =
-      rw (marks-are, head-is, sym fields-are, judged-load ev work n m)
-      (rw (stepped .counts-is) at (match-after ev n k true tables work stepped m matching))
+      Stepped ev n k true tables work → (r : First) → Counting ev n work r
+      → (m' : Marks) → m' ≡ judged work m (r .head) (r .location) (r .source) (r .rest) n → MarksMatch ev (suc n) m'
+  match-counted stepped r it m' marks-are =
+      let few = event-bound ev (suc n) (stepped .accepted) n (omega arith) in
+      let first : loads.First ev work (it .l) (it .ls) (r .head) (r .location) (r .source) (r .rest) =
+      record { head-is = it .head-is; location-is = it .location-is; source-is = it .source-is; others = it .others }
+      in
+      rw (marks-are, judged-all ev work (it .l) (it .ls) m (r .head) (r .location) (r .source) (r .rest) n first (short few))
+      (rw (it .all) at (match-after ev n k true tables work stepped m matching))
+    where
+      short : n ≤ 2048 → length (it .l ∷ it .ls) ≤ 2048
+      short few = subst (λ (ls : List ℕ). length ls ≤ 2048) (it .all) (counting-length ev n few)

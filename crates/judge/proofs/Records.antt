@@ -8,7 +8,7 @@ use mathlib.Core.List.{List}
 use Prim.Native.Nat.{ℕ, suc, _+_, _≤_, _<_, _-_}
 use native.Mathlib.Omega.{arith}
 use native.Mathlib.Nat.{not-suc-le-zero}
-use borrow.Author.Tests.{eqb-true, eqb-false}
+use borrow.Author.Tests.{eqb-true, eqb-false, lt-ltb}
 use lib.Dec.{eqb}
 use lib.ListN.{length}
 use Rattle.record.specs.declared.events.Event.{Event}
@@ -21,17 +21,22 @@ use Rattle.record.specs.Answers.{Answer, event, refused, readAnswer, scanOf}
 use Rattle.record.specs.Reading.{readAt}
 use Rattle.record.specs.Tests.{_gives_else_}
 use Rattle.record.specs.Parts.{start}
+use Rattle.record.specs.Versions.{laterRefusal}
 use Rattle.record.specs.Events.{kindOf}
 use Rattle.record.specs.Fields.{fieldsOf}
 use Rattle.record.proofs.Scans.{refusals-some, scan-read, scan-refused}
 use Rattle.record.proofs.Starts.{read-next, read-grows, read-past-end, one-past-end, start-inside}
+use Rattle.model.specs.Trace.{thread}
+use Rattle.model.specs.Machine.{held}
 use Rattle.model.specs.Rules.{refusal}
-use Rattle.model.specs.Reading.{eventIn, refusalIn, events, passing, recordAt, turnedAway, begunReading}
+use Rattle.model.specs.Reading.{eventIn, refusalIn, events, inTrace, passing, recordAt, turnedAway, begunReading}
 use Rattle.model.specs.Reading.{TurnedAwayWith}
 use Rattle.model.proofs.Searching.{same?, test}
-use Rattle.model.proofs.TurnedAway.{passed→, ends-there, unread-there, forbidden-there, passing-there}
+use Rattle.model.proofs.TurnedAway.{passed→, ends-there, in-trace-1, in-trace-one, unread-there, forbidden-there, passing-there}
 use Rattle.model.proofs.NoBytes.{begun-none, begun-away, no-begin-first}
 use Rattle.area.specs.Cells.{eventAt}
+use Rattle.area.specs.Rows.{HeldLinked}
+use Rattle.machine.specs.Tables.{heldIn}
 use Rattle.machine.specs.Twin.{World, world, started}
 use Rattle.machine.specs.Turning.{refusalW, countsW, beginRefusal}
 use Rattle.machine.specs.Effects.{stepW}
@@ -39,7 +44,7 @@ use Rattle.machine.specs.declared.state.Step.{Step}
 use Rattle.machine.specs.Outcomes.{Outcome, outcome, stepO}
 use Rattle.machine.specs.Sim.{Sim}
 use Rattle.machine.proofs.Refusals.{refusals, begin-refusals}
-use Rattle.machine.proofs.Simulation.{step-next, counts-is}
+use Rattle.machine.proofs.Simulation.{step-next, counts-is, held-is}
 use Rattle.machine.proofs.Taken.{refusal-told, counted-told, after-told}
 use Rattle.machine.proofs.Start.{sim-start}
 use Rattle.marks.specs.Marks.{Marks}
@@ -86,7 +91,7 @@ module _ (bytes : List ℕ) where
     module _ (all-pass : (e : ℕ) → e < n → recordAt bytes e ≡ passing) where
       unread-away :
           (k e : ℕ) → start bytes n ≢ length bytes → readAt bytes (start bytes n) ≡ refused k e
-          → TurnedAwayWith bytes k n
+          → TurnedAwayWith bytes (inTrace bytes n k) n
       unread-away k e inside is =
           record { earlier-pass = all-pass; number = unread-there bytes n k e inside is (unread-some k e is) }
 
@@ -140,7 +145,8 @@ module _ (bytes : List ℕ) where
 
   -- what an accepted begin says
   abbrev begunBy : Fields → ℕ → Begun
-  begunBy f past = record { threads = f .threads; locations = f .locations; at = past; refusal = 0 }
+  begunBy f past =
+      record { version = f .version; threads = f .threads; locations = f .locations; at = past; refusal = 0 }
 
   pub first-passes :
       (x : Event) (past : ℕ) → readAt bytes 0 ≡ event x past → beginRefusal x ≡ 0
@@ -166,19 +172,19 @@ module _ (bytes : List ℕ) where
 
       first-state :
           (work : List ℕ) → 32768 ≤ length work
-          → Sim (events bytes) 1 (world (started (fieldsOf x .threads) (fieldsOf x .locations)) noTables work)
+          → Sim (events bytes) 1 (world (started (fieldsOf x .version) (fieldsOf x .threads) (fieldsOf x .locations)) noTables work)
       first-state work room = rw (sym event-0) (sim-start (events bytes) passes work room)
 
   -- ---- a later record
 
   module _
-      (threads locations n : ℕ) (t : Cursor) (tables : List ℕ) (m : Marks) (work : List ℕ)
-      (reached : Reached bytes threads locations n t tables m work) where
+      (version threads locations n : ℕ) (t : Cursor) (tables : List ℕ) (m : Marks) (work : List ℕ)
+      (reached : Reached bytes version threads locations n t tables m work) where
     abbrev at : ℕ
     at = t .at
 
     abbrev w : World
-    w = worldOf bytes threads locations (t .stretch) (t .row) tables work
+    w = worldOf bytes version threads locations (t .stretch) (t .row) tables work
 
     read-there : (a : Answer) → readAt bytes at ≡ a → readAt bytes (start bytes n) ≡ a
     read-there a is = ap (readAt bytes) (sym (reached .position)) ∙ is
@@ -190,7 +196,7 @@ module _ (bytes : List ℕ) where
     still-inside : (readAt bytes at ≡ refused 1 0 → ⊥) → start bytes n ≢ length bytes
     still-inside not-1 same = not-1 (sym (read-past-end bytes at (omega (arith, reached .position))))
 
-    all-read : length bytes ≤ at → AllRead bytes threads locations n tables m work
+    all-read : length bytes ≤ at → AllRead bytes version threads locations n tables m work
     all-read past = record {
       accepted = record {
         all-pass = reached .all-pass;
@@ -207,18 +213,32 @@ module _ (bytes : List ℕ) where
     rule-is x past is-read =
         sym (refusals (events bytes) n w (reached .state)) ∙ ap (refusalW w) (at-event x past is-read)
 
-    later-unread : (k : ℕ) → readAt bytes at ≡ refused k 0 → Stopped bytes threads locations n k tables m work
+    -- its number, by the version that the begin said
+    in-trace-is : (k : ℕ) → laterRefusal version bytes at k ≡ inTrace bytes n k
+    in-trace-is k =
+        rw (lt-ltb 0 n (reached .state .limits .begun), ← reached .state .numbers .version-is, ← reached .position) refl
+
+    later-unread :
+        (k : ℕ) → readAt bytes at ≡ refused k 0
+        → Stopped bytes version threads locations n (laterRefusal version bytes at k) tables m work
     later-unread k is = record {
-      all-read = λ is-1. all-read (one-past-end bytes at 0 (is ∙ ap (λ (i : ℕ). refused i 0) is-1));
+      all-read = λ is-1.
+          let alone : k ≡ 1 = in-trace-one bytes n k (sym (in-trace-is k) ∙ is-1) in
+          all-read (one-past-end bytes at 0 (is ∙ ap (λ (i : ℕ). refused i 0) alone));
       turned-away = λ not-1.
-          unread-away n (reached .all-pass) k 0 (still-inside (λ is-1. not-1 (ap refusalIn (sym is ∙ is-1))))
-          (read-there (refused k 0) is);
+          rw (in-trace-is k)
+          (unread-away n (reached .all-pass) k 0
+          (still-inside (λ ended. not-1 (rw (ap refusalIn (sym is ∙ ended)) (in-trace-is 1 ∙ one-stays))))
+          (read-there (refused k 0) is));
     }
+      where
+        one-stays : inTrace bytes n 1 ≡ 1
+        one-stays = in-trace-1 bytes n
 
     later-forbidden :
         (k : ℕ) (tables' : List ℕ) (m' : Marks) (work' : List ℕ) (x : Event) (past : ℕ)
         → readAt bytes at ≡ event x past → refusalW w x ≡ k → k ≢ 0
-        → Stopped bytes threads locations n k tables' m' work'
+        → Stopped bytes version threads locations n k tables' m' work'
     later-forbidden k tables' m' work' x past is-read is some-number = record {
       all-read = λ is-1.
           let first = no-begin-first (events bytes) n (rule-is x past is-read ∙ (is ∙ is-1)) .0 in
@@ -239,9 +259,9 @@ module _ (bytes : List ℕ) where
         (x : Event) (past : ℕ) → readAt bytes at ≡ event x past → refusalW w x ≡ 0
         → (j' row' : ℕ) (counted' : Bool) (tables' : List ℕ) (m' : Marks) (work' : List ℕ)
         → counted' ≡ countsW w x
-        → worldOf bytes threads locations j' row' tables' work' ≡ stepW w x
+        → worldOf bytes version threads locations j' row' tables' work' ≡ stepW w x
         → JudgedTo (kindOf x) (fieldsOf x) counted' tables' work' m'
-        → Reached bytes threads locations (suc n) (cursor j' row' past) tables' m' work'
+        → Reached bytes version threads locations (suc n) (cursor j' row' past) tables' m' work'
     later-passes x past is-read is j' row' counted' tables' m' work' counted-is step-is judged-to = record {
       position = read-next bytes n x past (read-there (event x past) is-read);
       all-pass = passing-on n x past (reached .all-pass) (read-there (event x past) is-read) passes;
@@ -255,6 +275,11 @@ module _ (bytes : List ℕ) where
                 sym (counts-is ev n w (reached .state) passes) ∙ (ap (countsW w) event-n ∙ sym counted-is);
             chains = after .chains;
             rows = after .rows;
+            held-are = λ close.
+                let there = held-is ev n w (reached .state) passes close in
+                let world-is = step-is ∙ ap (stepW w) (sym event-n) in
+                subst (λ (v : World). HeldLinked ev (v .work) (heldIn (v .tables) (thread ev n)) (held ev n (thread ev n)))
+                (sym world-is) there;
           })
           (ap fieldsOf event-n) (reached .loads);
     }
@@ -268,7 +293,7 @@ module _ (bytes : List ℕ) where
         passes : refusal ev n ≡ 0
         passes = rule-is x past is-read ∙ is
 
-        after : Sim ev (suc n) (worldOf bytes threads locations j' row' tables' work')
+        after : Sim ev (suc n) (worldOf bytes version threads locations j' row' tables' work')
         after =
             subst (Sim ev (suc n)) (sym (step-is ∙ ap (stepW w) (sym event-n)))
             (step-next ev n w (reached .state) passes)
@@ -276,22 +301,23 @@ module _ (bytes : List ℕ) where
     -- ---- by the record's scan
 
     pub scanned-unread :
-        (k : ℕ) → scanned.Refused k ≡ scanOf (readAt bytes at) → Stopped bytes threads locations n k tables m work
+        (k : ℕ) → scanned.Refused k ≡ scanOf (readAt bytes at)
+        → Stopped bytes version threads locations n (laterRefusal version bytes at k) tables m work
     scanned-unread k is = later-unread k (scan-refused bytes at k is)
 
     -- what the machine's step gave
     module _
         (r : Scan) (is : scanned.Record r ≡ scanOf (readAt bytes at)) (s : Step) (tables' work' : List ℕ)
         (step-is :
-        outcome (machineIn bytes threads locations (t .stretch)) (t .row) s tables' work'
+        outcome (machineIn bytes version threads locations (t .stretch)) (t .row) s tables' work'
         ≡ stepO w (r .kind) (r .fields))
       where
         abbrev given : Outcome
-        given = outcome (machineIn bytes threads locations (t .stretch)) (t .row) s tables' work'
+        given = outcome (machineIn bytes version threads locations (t .stretch)) (t .row) s tables' work'
 
         pub scanned-forbidden :
             s .refusal ≢ 0 → (tables'' : List ℕ) (m' : Marks) (work'' : List ℕ)
-            → Stopped bytes threads locations n (s .refusal) tables'' m' work''
+            → Stopped bytes version threads locations n (s .refusal) tables'' m' work''
         scanned-forbidden some tables'' m' work'' =
             let (x, (read-is, kind-is, fields-are)) = scan-read bytes at r is in
             later-forbidden (s .refusal) tables'' m' work'' x (r .next) read-is
@@ -299,7 +325,7 @@ module _ (bytes : List ℕ) where
 
         pub scanned-passes :
             s .refusal ≡ 0 → (m' : Marks) → JudgedTo (r .kind) (r .fields) (s .counted) tables' work' m'
-            → Reached bytes threads locations (suc n) (cursor (s .stretch) (t .row + 16) (r .next)) tables' m' work'
+            → Reached bytes version threads locations (suc n) (cursor (s .stretch) (t .row + 16) (r .next)) tables' m' work'
         scanned-passes passes m' judged-to =
             let (x, (read-is, kind-is, fields-are)) = scan-read bytes at r is in
             let told : given ≡ stepO w (kindOf x) (fieldsOf x) = rw (← kind-is, ← fields-are) step-is in
@@ -307,7 +333,7 @@ module _ (bytes : List ℕ) where
             later-passes x (r .next) read-is (refusal-told w x given told ∙ passes) (s .stretch) (t .row + 16)
             (s .counted) tables' m' work' (counted-told w x given told passes)
             (subst
-            (λ (e : ℕ). worldOf bytes threads locations (s .stretch) e tables' work' ≡ stepW w x)
+            (λ (e : ℕ). worldOf bytes version threads locations (s .stretch) e tables' work' ≡ stepW w x)
             next-row (after-told w x given told passes))
             (subst (λ (f : Fields). JudgedTo (kindOf x) f (s .counted) tables' work' m') fields-are
             (subst (λ (k : ℕ). JudgedTo k (r .fields) (s .counted) tables' work' m') kind-is judged-to))
@@ -315,15 +341,15 @@ module _ (bytes : List ℕ) where
     -- ---- what is left of the run
 
     -- the cursor knows the record's number
-    pub reached-here : Reached bytes threads locations (eventAt (t .row)) t tables m work
+    pub reached-here : Reached bytes version threads locations (eventAt (t .row)) t tables m work
     reached-here =
-        subst (λ (e : ℕ). Reached bytes threads locations e t tables m work)
+        subst (λ (e : ℕ). Reached bytes version threads locations e t tables m work)
         (sym (event-here (events bytes) n w (reached .state))) reached
 
     -- the next record lies further on
     pub less-left :
         (t' : Cursor) (tables' : List ℕ) (m' : Marks) (work' : List ℕ)
-        → Reached bytes threads locations (suc n) t' tables' m' work' → length bytes - t' .at < length bytes - at
+        → Reached bytes version threads locations (suc n) t' tables' m' work' → length bytes - t' .at < length bytes - at
     less-left t' tables' m' work' next =
         let p = passed→ bytes n (next .all-pass n (omega arith)) in
         omega (

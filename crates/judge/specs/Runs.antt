@@ -24,7 +24,7 @@ use Rattle.judge.specs.declared.run.Next.the-variants.{On, Ended}
 
 -- a begin that is turned away
 abbrev pub beginEnded : ℕ → Begun
-beginEnded refusal = record { threads = 0; locations = 0; at = 0; refusal = refusal }
+beginEnded refusal = record { version = 0; threads = 0; locations = 0; at = 0; refusal = refusal }
 
 -- the cursor after an accepted begin, which ends at `past`
 abbrev pub startedAt : ℕ → Cursor
@@ -44,10 +44,10 @@ noMarks = marksOf (replicate 648 0) (replicate 2048 0)
 
 module _ (bytes : List ℕ) where
   -- what the begin says
-  module _ (threads locations : ℕ) where
+  module _ (version threads locations : ℕ) where
     -- the machine in stretch j
     abbrev pub machineIn : ℕ → Machine
-    machineIn j = record { stretch = j; threads = threads; locations = locations }
+    machineIn j = record { stretch = j; version = version; threads = threads; locations = locations }
 
     -- the machine's whole state: the stretch, where the next event's row begins, its tables and the work area
     abbrev pub worldOf : ℕ → ℕ → List ℕ → List ℕ → World
@@ -82,7 +82,7 @@ module _ (bytes : List ℕ) where
   pub record Began (b : Begun) : Type 0 where
     pub passes :
         b .refusal ≡ 0 → (work : List ℕ) → 32768 ≤ length work
-        → Reached (b .threads) (b .locations) 1 (startedAt (b .at)) noTables noMarks work
+        → Reached (b .version) (b .threads) (b .locations) 1 (startedAt (b .at)) noTables noMarks work
     pub turned-away : b .refusal ≢ 0 → begunReading bytes ≡ turnedAway (b .refusal) 0
 
   -- at the end: the verdict is the definitions', empty bytes being turned away, and of an accepted trace the work area

@@ -20,6 +20,7 @@ use record::Scanned;
 
 // What the begin says, the position past it, and refusal 0. Or the refusal's number.
 pub struct Begun {
+    pub version: u16,
     pub threads: u16,
     pub locations: u16,
     pub at: usize,
@@ -31,6 +32,7 @@ impl Begun {
         ensures { λ r. ⌜ r ≡ beginEnded refusal ⌝ }
     {
         Begun {
+            version: 0,
             threads: 0,
             locations: 0,
             at: 0,
@@ -100,6 +102,7 @@ fn begin(trace: &[u8]) -> Begun
         return Begun::refuse(k);
     }
     Begun {
+        version: f.version,
         threads: f.threads,
         locations: f.locations,
         at: next,
@@ -107,11 +110,13 @@ fn begin(trace: &[u8]) -> Begun
     }
 }
 
-// The judging step: a record that can't be read ends the judging there with its refusal, as does an event that a rule
-// forbids; any other takes its step, and is judged if it is a counted load. At the trace's end there are no bytes to
-// read, which is the reader's refusal 1; no later record has that number otherwise.
+// The judging step: a record that can't be read ends the judging there with its refusal, which is 3 in the place of a wrong
+// length if the trace's version does not know the kind; so does an event that a rule forbids. Any other takes its step,
+// and the loads that count as of it are judged. At the trace's end there are no bytes to read, which is the reader's
+// refusal 1; no later record has that number otherwise.
 fn judge_record(
     trace: &[u8],
+    version: u16,
     threads: u16,
     locations: u16,
     t: Cursor,
@@ -120,19 +125,20 @@ fn judge_record(
     flags: &mut Flags,
     work: &mut [u16],
 ) -> Next
-    requires { ⌜ (Reached (now trace) threads locations (eventAt (t .row)) t
+    requires { ⌜ (Reached (now trace) version threads locations (eventAt (t .row)) t
         (now tables) (marksOf (now marks) (now flags)) (now work)) ⌝ }
-    ensures { λ r. ⌜ (After (now (trace .entry)) threads locations (eventAt (t .row)) r
+    ensures { λ r. ⌜ (After (now (trace .entry)) version threads locations (eventAt (t .row)) r
         (now (tables .exit)) (marksOf (now (marks .exit)) (now (flags .exit))) (now (work .exit))) ⌝ }
 {
     let row = t.row;
     let d = record::scan_at(trace, t.at);
     let Scanned::Record(e) = d else {
-        return Next::Ended(record::refusal_of(d));
+        return Next::Ended(record::later_refusal(version, trace, t.at, record::refusal_of(d)));
     };
     let f = e.fields;
     let m = Machine {
         stretch: t.stretch,
+        version,
         threads,
         locations,
     };
@@ -172,6 +178,7 @@ pub(crate) fn run(trace: &[u8], work: &mut [u16], cut: &mut [u16]) -> Verdict
     loop {
         let r = judge_record(
             trace,
+            b.version,
             b.threads,
             b.locations,
             t,

@@ -4,26 +4,27 @@
 -- And the step of kind 3, which is a commit and nothing else: the next store of the thread is then the oldest.
 -- In order: chains; the store; the chains afterwards; the step.
 use mathlib.Core.Path.{_≡_, refl, sym, _∙_}
-use mathlib.Core.Bool.{true, false, cond}
+use mathlib.Core.Bool.{true, false}
 use mathlib.Core.List.{List, [], _∷_}
 use mathlib.Core.Logic.{_⊎_, inl, inr, _≢_}
-use Prim.Native.Nat.{ℕ, zero, suc, _≤_, _<_}
+use Prim.Native.Nat.{ℕ, suc, _≤_, _<_}
 use native.Mathlib.Omega.{arith}
 use borrow.Author.Tests.{ne-eqb}
 use lib.ListN.{getD}
 use Rattle.record.specs.declared.events.Event.{Event}
-use Rattle.model.specs.Trace.{kind, thread, location, issue?, commit?, load?, crash?, skipOn?, skipOff?, Commit}
+use Rattle.model.specs.Trace.{kind, thread, location, issue?, commit?, load?, crash?, skipOn?, skipOff?, Commit, Load}
 use Rattle.model.specs.Trace.{stretch, place}
 use Rattle.model.specs.Machine.{committed}
 use Rattle.model.specs.Rules.{refusal, Accepted}
-use Rattle.model.specs.Stores.{storeAt, landsAt, landed}
-use Rattle.model.proofs.Searching.{false-true, test, same?, parts}
-use Rattle.model.proofs.Roles.{commit-no-crash}
+use Rattle.model.specs.Stores.{storeAt, landed}
+use Rattle.model.proofs.Searching.{false-true, same?}
+use Rattle.model.proofs.Roles.{commit-no-crash, locked-kind}
 use Rattle.model.proofs.Acceptance.{store-not-0}
 use Rattle.model.proofs.Limits.{accepted-next}
 use Rattle.model.proofs.Ranges.{issue-has-location, commit-has-thread, location-bound}
-use Rattle.model.proofs.StorePlaces.{Store, its-place, committed-at, committed-store, committed-earlier}
-use Rattle.model.proofs.Unchanged.{live-here, store-at-away, landed-away, landed-here, landed-once, Lacks}
+use Rattle.model.proofs.StorePlaces.{Store, its-place, committed-at, committed-store, committed-itself}
+use Rattle.model.proofs.StorePlaces.{committed-earlier}
+use Rattle.model.proofs.Unchanged.{live-here, store-at-away, landed-away, landed-here, landed-once, committed-apart, Lacks}
 use Rattle.area.specs.Cells.{getRow, noStore}
 use Rattle.area.specs.Rows.{Linked}
 use Rattle.area.proofs.ReadBack.{rows-apart, put-same, put-row}
@@ -36,17 +37,13 @@ use Rattle.machine.specs.Sim.{done, Queue, Chain, Chains, Sim}
 use Rattle.machine.proofs.Storing.{Same}
 use Rattle.machine.proofs.TableLaws.{committed-replaced, committed-beyond, committed-last}
 use Rattle.machine.proofs.TableLaws.{committed-stretch}
-use Rattle.machine.proofs.RowLaws.{no-store-is, no-store-links, link-no-store}
-use Rattle.machine.proofs.Keep.{limits-next, in-time, few-own, numbers-next, spares, counted-up}
+use Rattle.machine.proofs.RowLaws.{no-store-is, no-store-earlier, no-store-links, link-no-store}
+use Rattle.machine.proofs.Keep.{Early, landed-early, limits-next, in-time, few-own, numbers-next, spares, counted-up}
 use Rattle.machine.proofs.Keep.{place-stays, issued-stays, newest-stays, skip-stays, queues-with, seen-keep}
 use Rattle.machine.proofs.Keep.{newest-keep, commits-keep, sources-keep, rows-keep, links-keep}
+use Rattle.machine.proofs.Holding.{regions-keep}
 
 -- ---- chains
-
--- the stores of the list are events 1 to n - 1
-abbrev Early : ℕ → List ℕ → Type 0
-Early n [] = Unit
-Early n (q ∷ qs) = ((1 ≤ q) × (q < n)) × Early n qs
 
 -- the links spell the same list where they are as they were but for a store that is not in it
 linked-but :
@@ -59,22 +56,6 @@ linked-but ev n p l l′ same h (q ∷ qs) early lacks linked = (
   rw (same q (early .0 .0) (early .0 .1) (lacks .0))
       (linked-but ev n p l l′ same (getRow l q 14) qs (early .1) (lacks .1) (linked .1)),
 )
-
--- what an event commits comes no later than it
-landed-early : (ev : ℕ → Event) (n : ℕ) → Accepted ev n → (m x : ℕ) → m ≤ n → Early n (landed ev m x)
-unfolding landed
-landed-early ev n accepted zero x within = tt
-landed-early ev n accepted (suc m) x within =
-    by-landing (test (landsAt ev x m)) (landed-early ev n accepted m x (omega arith))
-  where
-    by-landing :
-        (landsAt ev x m ≡ true) ⊎ (landsAt ev x m ≡ false) → Early n (landed ev m x)
-        → Early n (cond (landsAt ev x m) (committed ev m ∷ landed ev m x) (landed ev m x))
-    by-landing (inr elsewhere) earlier = rw elsewhere earlier
-    by-landing (inl lands) earlier =
-        let it = committed-store ev n m accepted within (record { test = parts (commit? ev m) _ lands .0 }) in
-        let some : committed ev m ≢ 0 = store-not-0 ev n accepted (omega arith) (it .store) in
-        rw lands ((omega arith, omega (arith, it .early)), earlier)
 
 -- store p heads the chain of location x, by a commit in stretch j, and the chains are else as they were before event n
 pub record Headed (n p x j : ℕ) (tables tables′ l l′ : List ℕ) : Type 0 where
@@ -251,6 +232,25 @@ module _ (ev : ℕ → Event) (n : ℕ) (w : World) (sim : Sim ev n w) (passes :
               ∙ no-store-links row n (sim .numbers .row-is) n-small l q;
         })
 
+    -- a held load is not the store that takes effect: a locked operation commits its own when it comes
+    not-held : (e : ℕ) → e < n → Load ev e → e ≢ taken
+    not-held e early loads is-taken =
+        let both-kinds = locked-kind ev loads (rw (← is-taken) at (taken-store .store)) in
+        let commits-own : Commit ev e = record { test = rw both-kinds refl } in
+        let own =
+        committed-itself ev (suc n) e accepted (omega arith) (rw both-kinds refl) (rw (← is-taken) at (taken-store .store))
+        in
+        committed-apart ev (suc n) e n accepted early (omega arith) commits-own is-commit (own ∙ is-taken)
+
+    -- so its row stays
+    held-stays : (e k : ℕ) → 1 ≤ e → e < n → Load ev e → k < 16 → getRow l′ e k ≡ getRow l e k
+    unfolding committedWork
+    held-stays e k from-one early loads low =
+        put-row (noStore l row) (old .oldest) 14 _ e k (omega arith) low
+        (rows-apart (old .oldest) e (omega (arith, oldest-is, taken-early, n-small)) from-one (omega (arith, n-small))
+        (λ same. not-held e early loads (sym same ∙ oldest-is)))
+        ∙ no-store-earlier row n (sim .numbers .row-is) n-small l e k from-one early low
+
     pub commit-next : Sim ev (suc n) (commitW w t)
     unfolding commitW committedTables committedWork
     commit-next =
@@ -284,4 +284,8 @@ module _ (ev : ℕ → Event) (n : ℕ) (w : World) (sim : Sim ev n w) (passes :
           chains = chains-next tables′ l′ headed;
           rows = rows-keep ev n l l′ (sim .limits) no-issue (rw kind-is refl) no-store (sim .rows);
           links = links-keep ev n l l′ (sim .limits) no-issue (rw kind-is refl) no-store (sim .links);
+          regions =
+              regions-keep ev n tables tables′ l l′ (sim .limits) no-crash no-load (rw kind-is refl) (rw kind-is refl)
+              (replaced .regions-same) (λ e k from-one early loads low _. held-stays e k from-one early loads low)
+              (sim .regions);
         }

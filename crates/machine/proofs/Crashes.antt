@@ -24,10 +24,11 @@ use Rattle.machine.specs.Threads.{fresh, threadOf, ofThread}
 use Rattle.machine.specs.Twin.{State, World, crashed}
 use Rattle.machine.specs.Effects.{finished, crashW}
 use Rattle.machine.specs.Sim.{issued, done, Numbers, Limits, Queue, Queues, Seen, Commits, Sim}
-use Rattle.machine.proofs.TableLaws.{Finished, finished-is, thread-fresh}
+use Rattle.machine.proofs.TableLaws.{Finished, finished-is, thread-fresh, region-closed}
 use Rattle.machine.proofs.RowLaws.{no-store-is, no-store-links}
 use Rattle.machine.proofs.Keep.{limits-next, in-time, newest-keep, sources-keep, chains-keep, rows-keep}
 use Rattle.machine.proofs.Keep.{links-keep}
+use Rattle.machine.proofs.Holding.{region-crash}
 
 module _ (ev : ℕ → Event) (n : ℕ) (crash : crash? ev n ≡ true) where
   crash-kind : kind ev n ≡ 9
@@ -70,6 +71,7 @@ module _ (ev : ℕ → Event) (n : ℕ) (crash : crash? ev n ≡ true) where
     stretch-is =
         up-is (st .stretch) (omega (arith, numbers .stretch-is, limits .few-crashes))
         ∙ ap suc (numbers .stretch-is) ∙ sym (stretch-crash ev n crash);
+    version-is = numbers .version-is;
     threads-is = numbers .threads-is;
     locations-is = numbers .locations-is;
   }
@@ -87,7 +89,7 @@ module _ (ev : ℕ → Event) (n : ℕ) (crash : crash? ev n ≡ true) where
 
   module _ (tables tables′ : List ℕ) (j : ℕ) (j-is : j ≡ stretch ev n) (it : Finished 8 tables tables′ j) where
     queues-next : Queues ev (suc n) tables′
-    queues-next t few = rw (thread-fresh tables′ t (it .restarts t few)) (fresh-queue t)
+    queues-next t few = rw (thread-fresh tables′ t (λ k low. it .restarts t few k (omega arith))) (fresh-queue t)
 
     seen-next : Seen ev (suc n) tables′
     seen-next t u few-t few-u = it .restarts t few-t u (omega arith) ∙ sym (seen-crash ev n t u crash)
@@ -143,8 +145,8 @@ module _ (ev : ℕ → Event) (n : ℕ) (w : World) (sim : Sim ev n w) (passes :
             sources-keep ev n (w .tables) tables
             (λ i low high. beyond i (omega arith) (λ from below. omega arith)) (sim .sources);
         chains =
-            chains-keep ev n (w .tables) tables (w .work) _ (no-commit ev n crash)
-            (no-store-links (w .state .row) n (sim .numbers .row-is) small (w .work))
+            chains-keep ev n (w .tables) tables (w .work) _ (sim .limits) (no-commit ev n crash)
+            (λ q _ _. no-store-links (w .state .row) n (sim .numbers .row-is) small (w .work) q)
             (λ i low high. beyond i low (λ from below. omega arith))
             (λ i low high. beyond i (omega arith) (λ from below. omega arith)) (sim .chains);
         rows =
@@ -153,4 +155,7 @@ module _ (ev : ℕ → Event) (n : ℕ) (w : World) (sim : Sim ev n w) (passes :
         links =
             links-keep ev n (w .work) _ (sim .limits) (no-issue ev n crash) (no-signal ev n crash) no-store
             (sim .links);
+        regions = λ t few.
+            rw (region-closed tables t (it .restarts t few 13 (omega arith)) (it .restarts t few 14 (omega arith)))
+            (region-crash ev n t _ crash);
       }

@@ -33,8 +33,9 @@ use Rattle.machine.proofs.RowLaws.{signalled-is}
 use Rattle.machine.proofs.RowLaws as rows
 use Rattle.machine.proofs.Keep.{limits-next, in-time, few-own, numbers-next, queues-keep, seen-keep, newest-keep}
 use Rattle.machine.proofs.Keep.{commits-keep, sources-keep, chains-keep, rows-with, links-with}
-use Rattle.machine.proofs.Quiet.{Still, still-next}
-use Rattle.machine.proofs.Meeting.{Brought, met}
+use Rattle.machine.proofs.Holding.{regions-keep}
+use Rattle.machine.proofs.Quiet.{Still, still-next, rows-stay}
+use Rattle.machine.proofs.Meeting.{Brought, met, met-regions}
 
 -- ---- the rule of waits
 
@@ -101,9 +102,16 @@ module _ (ev : ℕ → Event) (n : ℕ) (w : World) (sim : Sim ev n w) (passes :
       (queues-keep ev n tables _ (still .no-crash) (still .no-issue) (still .no-commit) (rw kind-is refl)
       (rw kind-is refl) (its .threads-same) (sim .queues))
       (its .seen-are) (its .sources) (its .heads-same) (its .rest-same)
+      (regions-keep ev n tables _ (w .work) _ (sim .limits) (still .no-crash) (rw kind-is refl) (rw kind-is refl)
+      (rw kind-is refl)
+      (met-regions ev n w sim (waits-signal waits (from .signal)) (from .early) (from .in-stretch) few-t)
+      (rows-stay ev n w sim passes) (sim .regions))
     where
       waits : Wait ev n
       waits = record { test = rw kind-is refl }
+
+      few-t : t < 8
+      few-t = few-own ev n (sim .limits) passes (wait-has-thread ev waits)
 
       still : Still ev n
       still = record {
@@ -118,8 +126,7 @@ module _ (ev : ℕ → Event) (n : ℕ) (w : World) (sim : Sim ev n w) (passes :
 
       its : Brought ev n w (joined 8 (w .work) (source ev n) (threadCell t 0) tables)
       its =
-          met ev n w sim (waits-signal waits (from .signal)) (from .early) (from .in-stretch)
-          (few-own ev n (sim .limits) passes (wait-has-thread ev waits))
+          met ev n w sim (waits-signal waits (from .signal)) (from .early) (from .in-stretch) few-t
 
   -- ---- the row of a signal
 
@@ -187,8 +194,8 @@ module _ (ev : ℕ → Event) (n : ℕ) (w : World) (sim : Sim ev n w) (passes :
       commits-are = commits-keep ev n tables tables no-crash (λ _ _ _. refl) (sim .commits-are);
       sources = sources-keep ev n tables tables (λ _ _ _. refl) (sim .sources);
       chains =
-          chains-keep ev n tables tables (w .work) after (rw kind-is refl) (it .links-stay) (λ _ _ _. refl)
-          (λ _ _ _. refl) (sim .chains);
+          chains-keep ev n tables tables (w .work) after (sim .limits) (rw kind-is refl) (λ q _ _. it .links-stay q)
+          (λ _ _ _. refl) (λ _ _ _. refl) (sim .chains);
       rows =
           rows-with ev n (w .work) after (sim .limits) (it .size)
           (λ p k from-one early _. it .earlier p k from-one early)
@@ -197,4 +204,8 @@ module _ (ev : ℕ → Event) (n : ℕ) (w : World) (sim : Sim ev n w) (passes :
       links =
           links-with ev n (w .work) after (sim .limits) no-issue (λ p from-one early. it .earlier p 12 from-one early)
           (sim .links);
+      regions =
+          regions-keep ev n tables tables (w .work) after (sim .limits) no-crash (rw kind-is refl) (rw kind-is refl)
+          (rw kind-is refl) (λ _ _ _ _ _. refl) (λ e k from-one early _ _ _. it .earlier e k from-one early)
+          (sim .regions);
     }

@@ -39,10 +39,11 @@ use Rattle.machine.specs.Twin.{World}
 use Rattle.machine.specs.Effects.{issuedTables, issuedWork, issueW}
 use Rattle.machine.specs.Sim.{issued, done, Queue, Links, Newest, Sim}
 use Rattle.machine.proofs.TableLaws.{issued-replaced, issued-beyond, issued-newest}
-use Rattle.machine.proofs.RowLaws.{Stored, stored-is, written-links, event-is}
+use Rattle.machine.proofs.RowLaws.{Stored, stored-is, written-links, written-rows, event-is}
 use Rattle.machine.proofs.Keep.{limits-next, in-time, few-own, small-own, numbers-next, spares, counted-up}
 use Rattle.machine.proofs.Keep.{committed-stays, skip-stays, queues-with, seen-keep, commits-keep, sources-keep}
 use Rattle.machine.proofs.Keep.{chains-keep, rows-with}
+use Rattle.machine.proofs.Holding.{regions-keep}
 
 module _ (ev : ℕ → Event) (n : ℕ) (w : World) (sim : Sim ev n w) (passes : refusal ev n ≡ 0)
     (store : Issue ev n) where
@@ -322,10 +323,15 @@ module _ (ev : ℕ → Event) (n : ℕ) (w : World) (sim : Sim ev n w) (passes :
               sources-keep ev n tables tables′ (λ i low high. beyond i (omega arith) (λ same. omega arith))
               (sim .sources);
           chains =
-              chains-keep ev n tables tables′ l _ no-commit
-              (written-links row n begins n-small tables t _ few x _ _ l)
+              chains-keep ev n tables tables′ l _ (sim .limits) no-commit
+              (λ q _ _. written-links row n begins n-small tables t _ few x _ _ l q)
               (λ i low high. beyond i low (λ same. omega arith))
               (λ i low high. beyond i (omega arith) (λ same. omega (arith, few, small))) (sim .chains);
           rows = rows-next (λ u. ofThread tables t u) (λ u. seen-next t u few) _ (stored tables l refl refl);
           links = links-next (λ u. ofThread tables t u) (λ u. seen-next t u few) _ (stored tables l refl refl);
+          regions =
+              regions-keep ev n tables tables′ l _ (sim .limits) no-crash no-load (rw kind-is refl) (rw kind-is refl)
+              (replaced .regions-same)
+              (λ e k from-one early _. written-rows row n begins n-small tables t _ few x _ _ l e k from-one early)
+              (sim .regions);
         }

@@ -5,7 +5,7 @@ use mathlib.Core.Path.{_≡_, refl, sym, ap, _∙_}
 use mathlib.Core.Bool.{Bool, true, false, cond}
 use mathlib.Core.List.{List, [], _∷_}
 use mathlib.Core.Logic.{_⊎_, inl, inr, _≢_}
-use Prim.Native.Nat.{ℕ, suc, _+_, _-_, _*_, _≤_, _<_}
+use Prim.Native.Nat.{ℕ, zero, suc, _+_, _-_, _*_, _≤_, _<_}
 use native.Mathlib.Omega.{arith}
 use borrow.Author.Tests.{ltb-true}
 use lib.Dec.{ltb}
@@ -13,16 +13,16 @@ use lib.ListN.{length, getD}
 use Rattle.record.specs.declared.events.Event.{Event}
 use Rattle.model.specs.Trace.{thread, location, hasThread?, hasLocation?, issue?, commit?, load?, crash?, skipOn?}
 use Rattle.model.specs.Trace.{skipOff?, signal?, wait?, Issue, Signal, stretch, commits, place}
-use Rattle.model.specs.Machine.{skipping}
-use Rattle.model.specs.Rules.{refusal}
+use Rattle.model.specs.Machine.{committed, skipping}
+use Rattle.model.specs.Rules.{refusal, Accepted}
 use Rattle.model.specs.Choice.{finished}
-use Rattle.model.specs.Stores.{storeAt, landed}
-use Rattle.model.proofs.Searching.{false-true, same?}
+use Rattle.model.specs.Stores.{storeAt, landsAt, landed}
+use Rattle.model.proofs.Searching.{false-true, same?, test, parts}
 use Rattle.model.proofs.Counting.{stretch-else}
 use Rattle.model.proofs.Acceptance.{event-bound, store-not-0, signal-not-0}
 use Rattle.model.proofs.Limits.{accepted-next, few-threads, few-locations, few-crashes}
 use Rattle.model.proofs.Ranges.{thread-bound, location-bound}
-use Rattle.model.proofs.StorePlaces.{count-most}
+use Rattle.model.proofs.StorePlaces.{count-most, committed-store}
 use Rattle.model.proofs.Unchanged.{count-away, live, live-away, live-here, store-at-away, skipping-away, newest-away}
 use Rattle.model.proofs.ClockSteps.{meets-none}
 use Rattle.model.proofs.Unchanged.{seen-away, landed-away}
@@ -39,13 +39,36 @@ use Rattle.machine.proofs.Storing.{Same}
 use Rattle.machine.proofs.TableLaws.{thread-same}
 use Rattle.machine.proofs.RowLaws.{NoStore}
 
--- the links spell the same list where they are as they were
+-- the stores of the list are events 1 to n - 1
+abbrev pub Early : ℕ → List ℕ → Type 0
+Early n [] = Unit
+Early n (q ∷ qs) = ((1 ≤ q) × (q < n)) × Early n qs
+
+-- what an event commits comes no later than it
+pub landed-early : (ev : ℕ → Event) (n : ℕ) → Accepted ev n → (m x : ℕ) → m ≤ n → Early n (landed ev m x)
+unfolding landed
+landed-early ev n accepted zero x within = tt
+landed-early ev n accepted (suc m) x within =
+    by-landing (test (landsAt ev x m)) (landed-early ev n accepted m x (omega arith))
+  where
+    by-landing :
+        (landsAt ev x m ≡ true) ⊎ (landsAt ev x m ≡ false) → Early n (landed ev m x)
+        → Early n (cond (landsAt ev x m) (committed ev m ∷ landed ev m x) (landed ev m x))
+    by-landing (inr elsewhere) earlier = rw elsewhere earlier
+    by-landing (inl lands) earlier =
+        let it = committed-store ev n m accepted within (record { test = parts (commit? ev m) _ lands .0 }) in
+        let some : committed ev m ≢ 0 = store-not-0 ev n accepted (omega arith) (it .store) in
+        rw lands ((omega arith, omega (arith, it .early)), earlier)
+
+-- the links spell the same list where those of earlier events are as they were
 linked-same :
-    (l l′ : List ℕ) → ((q : ℕ) → getRow l′ q 14 ≡ getRow l q 14)
-    → (h : ℕ) (ps : List ℕ) → Linked l h ps → Linked l′ h ps
-linked-same l l′ same h [] linked = linked
-linked-same l l′ same h (p ∷ ps) linked =
-    (linked .0, rw (same p) (linked-same l l′ same (getRow l p 14) ps (linked .1)))
+    (n : ℕ) (l l′ : List ℕ) → ((q : ℕ) → 1 ≤ q → q < n → getRow l′ q 14 ≡ getRow l q 14)
+    → (h : ℕ) (ps : List ℕ) → Early n ps → Linked l h ps → Linked l′ h ps
+linked-same n l l′ same h [] early linked = linked
+linked-same n l l′ same h (p ∷ ps) early linked = (
+  linked .0,
+  rw (same p (early .0 .0) (early .0 .1)) (linked-same n l l′ same (getRow l p 14) ps (early .1) (linked .1)),
+)
 
 module _ (ev : ℕ → Event) (n : ℕ) where
   -- ---- limits and numbers
@@ -78,6 +101,7 @@ module _ (ev : ℕ → Event) (n : ℕ) where
   numbers-next st numbers no-crash = record {
     row-is = omega (arith, numbers .row-is);
     stretch-is = numbers .stretch-is ∙ sym (stretch-else ev n no-crash);
+    version-is = numbers .version-is;
     threads-is = numbers .threads-is;
     locations-is = numbers .locations-is;
   }
@@ -218,15 +242,17 @@ module _ (ev : ℕ → Event) (n : ℕ) where
 
     -- an event that is no commit
     pub chains-keep :
-        (l l′ : List ℕ) → commit? ev n ≡ false → ((q : ℕ) → getRow l′ q 14 ≡ getRow l q 14)
+        (l l′ : List ℕ) → Limits ev n → commit? ev n ≡ false
+        → ((q : ℕ) → 1 ≤ q → q < n → getRow l′ q 14 ≡ getRow l q 14)
         → Same 128 384 tables tables′ → Same 2752 3008 tables tables′ → Chains ev n tables l
         → Chains ev (suc n) tables′ l′
-    chains-keep l l′ no-commit links heads stretches chains x few =
+    chains-keep l l′ limits no-commit links heads stretches chains x few =
         let head = heads (lastCell x) (omega arith) (omega arith) in
         record {
           links =
               rw (landed-away ev n x (λ commits _. false-true (sym no-commit ∙ commits .test)), head)
-              (linked-same l l′ links (getD tables (lastCell x) 0) (landed ev n x) (chains x few .links));
+              (linked-same n l l′ links (getD tables (lastCell x) 0) (landed ev n x)
+              (landed-early ev n (limits .accepted) n x (omega arith)) (chains x few .links));
           stretch-is =
               rw (head, stretches (stretchCell x) (omega arith) (omega arith)) (chains x few .stretch-is);
         }

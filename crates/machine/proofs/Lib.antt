@@ -13,6 +13,7 @@ pub mod Storing
 pub mod TableLaws
 pub mod RowLaws
 pub mod Keep
+pub mod Holding
 pub mod Searches
 pub mod Refusals
 pub mod Quiet

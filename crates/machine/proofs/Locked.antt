@@ -3,10 +3,10 @@
 -- links and the newest stores by the issue (Issues), the chains by the commit (Commits); the queue by all, for it is
 -- empty before and after.
 -- In order: the roles; the tables; the thread; the row; the chain; the step.
-use mathlib.Core.Path.{_≡_, refl, sym, ap, _∙_}
-use mathlib.Core.Bool.{false}
+use mathlib.Core.Path.{_≡_, refl, sym, _∙_}
+use mathlib.Core.Bool.{true, false}
 use mathlib.Core.List.{List}
-use mathlib.Core.Logic.{_≢_}
+use mathlib.Core.Logic.{_⊎_, inl, inr, _≢_}
 use Prim.Native.Nat.{ℕ, suc, _+_, _*_, _≤_, _<_}
 use native.Mathlib.Omega.{arith}
 use borrow.Author.Tests.{eqb-true, not-false}
@@ -14,31 +14,35 @@ use lib.ListN.{length, getD}
 use Rattle.record.specs.declared.events.Event.{Event}
 use Rattle.model.specs.Trace.{kind, thread, location, source, issue?, commit?, crash?, skipOn?, skipOff?}
 use Rattle.model.specs.Trace.{Issue, Commit, Load, stretch}
-use Rattle.model.specs.Machine.{committed}
+use Rattle.model.specs.Search.{member}
+use Rattle.model.specs.Machine.{committed, held}
 use Rattle.model.specs.Rules.{refusal, Accepted}
+use Rattle.model.specs.Stores.{landed}
+use Rattle.model.proofs.Searching.{same?}
 use Rattle.model.proofs.Roles.{issue-no-crash}
 use Rattle.model.proofs.Acceptance.{drained-empty}
 use Rattle.model.proofs.Ranges.{issue-has-thread, issue-has-location}
 use Rattle.model.proofs.StorePlaces.{committed-itself, store-at-none}
 use Rattle.model.proofs.Unchanged.{live-here}
-use Rattle.area.specs.Cells.{eventAt, noStore}
-use Rattle.area.proofs.ReadBack.{set-here, set-elsewhere}
+use Rattle.area.specs.Cells.{getRow, eventAt}
+use Rattle.area.proofs.ReadBack.{set-here, set-column, set-elsewhere}
+use Rattle.area.proofs.Chains.{linked-head}
 use Rattle.machine.specs.declared.threads.Thread.{Thread}
 use Rattle.machine.specs.Tables.{lastCell, sourceCell, newestCell, stretchCell}
 use Rattle.machine.specs.Threads.{issuedT, committedT, threadOf, ofThread}
 use Rattle.machine.specs.Twin.{World}
 use Rattle.machine.specs.Effects.{issuedTables, issuedWork, loadW, exchangedTables, exchangedWork, lockedW}
-use Rattle.machine.specs.Sim.{issued, done, Queue, Seen, Sources, Sim}
+use Rattle.machine.specs.Sim.{issued, done, Queue, Seen, Sources, Regions, Sim}
 use Rattle.machine.proofs.Storing.{Same}
-use Rattle.machine.proofs.TableLaws.{thread-same, Replaced, issued-replaced, issued-beyond, issued-newest}
+use Rattle.machine.proofs.TableLaws.{thread-same, region-same, Replaced, issued-replaced, issued-beyond, issued-newest}
 use Rattle.machine.proofs.TableLaws.{committed-replaced, committed-beyond, committed-last, committed-stretch}
-use Rattle.machine.proofs.RowLaws.{NoStore, Stored, no-store-is, no-store-links, stored-behind, link-stored}
-use Rattle.machine.proofs.RowLaws.{written-links, event-is}
-use Rattle.machine.proofs.RuleLaws.{load-is}
+use Rattle.machine.proofs.RowLaws.{NoStore, Stored, stored-behind, link-stored, written-links}
+use Rattle.machine.proofs.RowLaws.{written-rows, written-beside, event-is}
 use Rattle.machine.proofs.Keep.{limits-next, in-time, few-own, small-own, numbers-next, spares, counted-up}
 use Rattle.machine.proofs.Keep.{skip-stays, queues-with, commits-keep}
+use Rattle.machine.proofs.Holding.{StillHeld, still-held, held-same, held-early}
 use Rattle.machine.proofs.Meeting.{Brought}
-use Rattle.machine.proofs.Loads.{loaded}
+use Rattle.machine.proofs.Loads.{Loaded, loaded}
 use Rattle.machine.proofs.Commits.{Headed, chains-next}
 use Rattle.machine.proofs.Issues.{newest, newest-now, rows-next, links-next, newest-next, issue-counted, stored}
 
@@ -106,14 +110,20 @@ module _ (ev : ℕ → Event) (n : ℕ) (w : World) (sim : Sim ev n w) (passes :
     abbrev loadedTables : List ℕ
     loadedTables = loadW w t x (source ev n) .tables
 
+    abbrev loadedWork : List ℕ
+    loadedWork = loadW w t x (source ev n) .work
+
     abbrev withStore : List ℕ
     withStore = issuedTables loadedTables row t x
 
     abbrev tables′ : List ℕ
     tables′ = exchangedTables loadedTables row t x (w .state .stretch)
 
+    after-load : Loaded ev n w sim passes loads loadedTables loadedWork
+    after-load = loaded ev n w sim passes loads
+
     its-load : Brought ev n w loadedTables
-    its-load = loaded ev n w sim passes loads
+    its-load = after-load .brought
 
     abbrev old : Thread
     old = threadOf tables t
@@ -191,17 +201,11 @@ module _ (ev : ℕ → Event) (n : ℕ) (w : World) (sim : Sim ev n w) (passes :
 
     -- ---- the row: what the issue writes, behind what the load wrote
 
-    abbrev loadedWork : List ℕ
-    loadedWork = loadW w t x (source ev n) .work
-
     abbrev l′ : List ℕ
     l′ = exchangedWork loadedTables loadedWork row t x (w .state .stretch)
 
-    work-is : loadedWork ≡ noStore l row
-    work-is = ap (λ (v : World). v .work) (load-is w t x (source ev n))
-
     no-store : NoStore n l loadedWork
-    no-store = rw work-is (no-store-is row n begins n-small l (sim .rows .room))
+    no-store = after-load .no-store
 
     abbrev seen-by : ℕ → ℕ
     seen-by u = ofThread loadedTables t u
@@ -247,8 +251,59 @@ module _ (ev : ℕ → Event) (n : ℕ) (w : World) (sim : Sim ev n w) (passes :
           set-elsewhere written row n begins n-small 14 (getD withStore (lastCell x) 0) q 14 (omega arith) (omega arith)
           from-one (omega arith) (λ same. omega arith)
           ∙ (written-links row n begins n-small loadedTables t _ few x _ _ loadedWork q
-          ∙ rw work-is (no-store-links row n begins n-small l q));
+          ∙ after-load .links-stay q from-one early);
     }
+
+    -- ---- the regions, which are as its load left them
+
+    regions-same : (u : ℕ) → u < 8 → Same (16 * u + 13) (16 * u + 15) loadedTables tables′
+    regions-same u few-u i low high =
+        its-commit .regions-same u few-u i low high ∙ its-issue .regions-same u few-u i low high
+
+    -- what the store and its link write into rows other than column 12: of the event's own, its location and the head that
+    -- its load found
+    row-stays : (p k : ℕ) → 1 ≤ p → p < n → k < 16 → k ≢ 12 → getRow l′ p k ≡ getRow loadedWork p k
+    unfolding exchangedWork issuedWork
+    row-stays p k from-one early low other =
+        set-elsewhere written row n begins n-small 14 (getD withStore (lastCell x) 0) p k (omega arith) low from-one
+        (omega arith) (λ same. omega arith)
+        ∙ written-rows row n begins n-small loadedTables t _ few x _ _ loadedWork p k from-one early low other
+
+    own-column : (k : ℕ) → 13 ≤ k → k < 16 → k ≢ 14 → getRow l′ n k ≡ getRow loadedWork n k
+    unfolding exchangedWork issuedWork
+    own-column k from below other =
+        set-column written row n begins n-small 14 (getD withStore (lastCell x) 0) n k (omega arith) below
+        (λ same. other (sym same))
+        ∙ written-beside row n begins n-small loadedTables t _ few x _ _ loadedWork n k from below
+
+    own-stays : StillHeld ev loadedWork l′ n
+    own-stays = (
+      λ row. record {
+        some-load = row .some-load;
+        location-is = its-row .location-is;
+        source-is = own-column 13 (omega arith) (omega arith) (λ same. omega arith) ∙ row .source-is;
+        head-is = headed .link-is ∙ linked-head l _ (landed ev n x) (sim .chains x small .links);
+      },
+      own-column 15 (omega arith) (omega arith) (λ same. omega arith),
+    )
+
+    regions-next : Regions ev (suc n) tables′ l′
+    regions-next u few-u =
+        let region = after-load .regions u few-u in
+        rw (region-same loadedTables tables′ u (regions-same u few-u))
+        (record {
+          opened-is = region .opened-is;
+          held-are = λ is-open. held-same ev loadedWork l′ _ (held ev (suc n) u) (stays u) (region .held-are is-open);
+        })
+      where
+        stays : (u e : ℕ) → member e (held ev (suc n) u) ≡ true → StillHeld ev loadedWork l′ e
+        stays u e there = by-place (same? e n)
+          where
+            by-place : (e ≡ n) ⊎ (e ≢ n) → StillHeld ev loadedWork l′ e
+            by-place (inl is-n) = rw is-n own-stays
+            by-place (inr differs) =
+                let (from-one, early, _) = held-early ev (suc n) (limits-next ev n (sim .limits) passes) u e there in
+                still-held ev loadedWork l′ e (λ k. row-stays e k from-one (omega arith))
 
     -- ---- the step
 
@@ -277,6 +332,7 @@ module _ (ev : ℕ → Event) (n : ℕ) (w : World) (sim : Sim ev n w) (passes :
           rows-next ev n w sim passes store seen-by (λ u. its-load .seen-are t u few) l′ its-row;
       links =
           links-next ev n w sim passes store seen-by (λ u. its-load .seen-are t u few) l′ its-row;
+      regions = regions-next;
     }
       where
         noted : getD tables′ (newestCell x t) 0 ≡ n

@@ -78,6 +78,10 @@ module _
   abbrev metTables : List ℕ
   metTables = joined 8 (w .work) s (threadCell t 0) tables
 
+  leaves : Elsewhere (16 * t) (16 * t + 8) tables metTables
+  leaves i outside =
+      joined-leaves (w .work) s (threadCell t 0) tables 8 i (λ low high. outside (omega arith) (omega arith))
+
   pub met : Brought ev n w metTables
   met = record {
     size = joined-size (w .work) s (threadCell t 0) tables 8 ∙ sim .size;
@@ -94,7 +98,7 @@ module _
     heads-same = λ i low high. leaves i (λ low′ high′. omega (arith, few));
     rest-same = λ i low high. leaves i (λ low′ high′. omega (arith, few));
   }
-    where
-      leaves : Elsewhere (16 * t) (16 * t + 8) tables metTables
-      leaves i outside =
-          joined-leaves (w .work) s (threadCell t 0) tables 8 i (λ low high. outside (omega arith) (omega arith))
+
+  -- the regions are in other columns
+  pub met-regions : (u : ℕ) → u < 8 → Same (16 * u + 13) (16 * u + 15) tables metTables
+  met-regions u few-u i from below = leaves i (λ low high. omega arith)

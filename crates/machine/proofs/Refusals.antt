@@ -1,7 +1,7 @@
 -- The machine turns an event away exactly by the definitions' number: first what the definitions say of each kind, then
 -- that the machine's tests are theirs.
 use mathlib.Core.Path.{_≡_, refl, sym, ap, _∙_}
-use mathlib.Core.Bool.{Bool, true, false, cond, _&&_, _||_, not}
+use mathlib.Core.Bool.{Bool, true, false, cond, _&&_, _||_, not, and-true, and-false}
 use Prim.Native.Nat.{ℕ, _<_}
 use native.Mathlib.Omega.{arith}
 use borrow.Author.Tests.{ne-eqb, lt-ltb, le-ltb, ltb-true, le-leb, leb-true, leb-false}
@@ -9,17 +9,17 @@ use lib.Dec.{eqb, ltb, leb}
 use Rattle.record.specs.declared.events.Event.{Event}
 use Rattle.record.specs.declared.events.Event.the-variants.{Begin, Issue, Commit, Load, Clflush, Clwb}
 use Rattle.record.specs.declared.events.Event.the-variants.{Sfence, Mfence, Crash, SkipOn, SkipOff, Locked}
-use Rattle.record.specs.declared.events.Event.the-variants.{Signal, Wait}
+use Rattle.record.specs.declared.events.Event.the-variants.{Signal, Wait, Open, Close}
 use Rattle.record.specs.Fields.{fieldsOf}
 use Rattle.record.specs.Table.{rowOf}
 use Rattle.record.specs.Tests.{_gives_else_}
-use Rattle.model.specs.Trace.{thread, location, source, threads, locations, stretch}
-use Rattle.model.specs.Machine.{sourceFits, signalled, skipping}
+use Rattle.model.specs.Trace.{thread, location, source, version, threads, locations, stretch}
+use Rattle.model.specs.Machine.{sourceFits, signalled, skipping, opened}
 use Rattle.model.specs.Rules.{answer, rules, refusal}
 use Rattle.model.proofs.Searching.{same-test}
 use Rattle.machine.specs.Arms.{byKind}
-use Rattle.machine.specs.Twin.{World, threadAt, fitsW, signalledW}
-use Rattle.machine.specs.Turning.{empty, onThread, onPlace, refusalK, refusalW, beginRule, beginK, beginRefusal}
+use Rattle.machine.specs.Twin.{World, threadAt, regionAt, fitsW, signalledW}
+use Rattle.machine.specs.Turning.{empty, onThread, onPlace, onNew, refusalK, refusalW, beginRule, beginK, beginRefusal}
 use Rattle.machine.specs.Sim.{issued, done, Sim}
 use Rattle.machine.proofs.Searches.{none-oldest, fits-is}
 use Rattle.machine.proofs.HandOver.{signalled-found}
@@ -51,7 +51,7 @@ module _ (ev : ℕ → Event) (n : ℕ) (begun : 0 < n) where
   placeRule t x r = threadRule t (cond (leb (locations ev) x) 8 r)
 
   pub refusal-begin : (v a b : ℕ) → ev n ≡ Begin v a b → refusal ev n ≡ 5
-  unfolding rules answer
+  unfolding rules answer rowOf
   refusal-begin v a b is = rw (is, not-first, lt-ltb 0 n begun) refl
 
   refusal-issue : (t x : ℕ) → ev n ≡ Issue t x → refusal ev n ≡ placeRule t x 0
@@ -145,6 +145,32 @@ module _ (ev : ℕ → Event) (n : ℕ) (begun : 0 < n) where
   unfolding rules answer rowOf
   refusal-off t is =
       rw (is, thread-of (SkipOff t) is, not-first, lt-ltb 0 n begun, or-off (ltb 2048 n)) refl
+
+  -- of a kind that version 2 admits
+  abbrev newRule : ℕ → ℕ
+  newRule r = cond (not (leb 2 (version ev))) 3 r
+
+  refusal-open :
+      (t : ℕ) → ev n ≡ Open t → refusal ev n ≡ newRule (threadRule t (cond (opened ev n t || false) 12 0))
+  unfolding rules answer rowOf
+  refusal-open t is =
+      rw (is, thread-of (Open t) is, not-first, lt-ltb 0 n begun, or-off (ltb 2048 n), and-true) refl
+
+  refusal-close :
+      (t o : ℕ) → ev n ≡ Close t o
+      → refusal ev n ≡ newRule (threadRule t (cond (ltb 1 o) 19 (cond (not (opened ev n t)) 12 0)))
+  unfolding rules answer rowOf
+  refusal-close t o is =
+      rw (
+        is,
+        thread-of (Close t o) is,
+        ap (λ (f : Event). fieldsOf f .outcome) is,
+        not-first,
+        lt-ltb 0 n begun,
+        or-off (ltb 2048 n),
+        and-true,
+      )
+      refl
 
 -- ---- the machine's tests are theirs
 
@@ -252,6 +278,20 @@ module _ (ev : ℕ → Event) (n : ℕ) (w : World) (sim : Sim ev n w) where
       rw (queue .oldest-is, none-oldest ev n w sim t)
       (chosen (eqb (issued ev n t) (done ev n t)) a r ∙ swapped (eqb (issued ev n t) (done ev n t)) a r)
 
+  -- the version knows the kind
+  on-new : (r r′ : ℕ) → r ≡ r′ → onNew (w .state) r ≡ newRule ev n begun r′
+  on-new r r′ same = rw (same, sim .numbers .version-is, ltb-not (version ev) 2) (chosen (not (leb 2 (version ev))) 3 r′)
+
+  opened-is : (t a r : ℕ) → t < 8 → (regionAt w t .opened gives a else r) ≡ cond (opened ev n t) a r
+  opened-is t a r few = rw (sim .regions t few .opened-is) (chosen (opened ev n t) a r)
+
+  close-rule :
+      (t o : ℕ) → t < 8
+      → _≡_ {A = ℕ} (ltb 1 o gives 19 else (regionAt w t .opened gives 0 else 12))
+      (cond (ltb 1 o) 19 (cond (not (opened ev n t)) 12 0))
+  close-rule t o few =
+      rw (opened-is t 0 12 few, swapped (opened ev n t) 0 12) (chosen (ltb 1 o) 19 _)
+
   crash-rule :
       (late eighth : Bool) → _≡_ {A = ℕ} (late gives 13 else eighth gives 13 else 0) (cond (late || eighth) 13 0)
   crash-rule true eighth = refl
@@ -292,6 +332,13 @@ module _ (ev : ℕ → Event) (n : ℕ) (w : World) (sim : Sim ev n w) where
       on-thread t _ _ (λ few. oldest-is t 0 11 few) ∙ sym (refusal-signal ev n begun t is)
   refusal-is (Wait t s) is =
       on-thread t _ _ (λ _. wait-rule (Wait t s) is) ∙ sym (refusal-wait ev n begun t s is)
+  refusal-is (Open t) is =
+      on-new _ _
+      (on-thread t _ _
+      (λ few. opened-is t 12 0 few ∙ ap (λ (b : Bool). cond b 12 0) (sym (or-off (opened ev n t)))))
+      ∙ sym (refusal-open ev n begun t is)
+  refusal-is (Close t o) is =
+      on-new _ _ (on-thread t _ _ (λ few. close-rule t o few)) ∙ sym (refusal-close ev n begun t o is)
 
   -- THE MACHINE TURNS AWAY WHAT THE DEFINITIONS DO
   pub refusals : refusalW w (ev n) ≡ refusal ev n
@@ -301,29 +348,31 @@ module _ (ev : ℕ → Event) (n : ℕ) (w : World) (sim : Sim ev n w) where
 
 -- the tests of a begin's fields, one after the other and together
 begin-tests :
-    (version some-threads few-threads some-locations few-locations : Bool)
+    (some-version known some-threads few-threads some-locations few-locations : Bool)
     → _≡_ {A = ℕ}
-    (version gives
-    (not some-threads gives 6 else
+    (not some-version gives 6 else
+    not known gives 6 else
+    not some-threads gives 6 else
     not few-threads gives 6 else
     not some-locations gives 6 else
     not few-locations gives 6 else
-    0) else
-    6)
-    (cond (not (version && (some-threads && few-threads) && (some-locations && few-locations))) 6 0)
-begin-tests false b c d e = refl
-begin-tests true false c d e = refl
-begin-tests true true false d e = refl
-begin-tests true true true false e = refl
-begin-tests true true true true false = refl
-begin-tests true true true true true = refl
+    0)
+    (cond
+    (not ((some-version && known) && (some-threads && few-threads) && (some-locations && few-locations))) 6 0)
+begin-tests false v b c d e = refl
+begin-tests true false b c d e = refl
+begin-tests true true false c d e = refl
+begin-tests true true true false d e = refl
+begin-tests true true true true false e = refl
+begin-tests true true true true true false = refl
+begin-tests true true true true true true = refl
 
 module _ (ev : ℕ → Event) where
   first-is : (e : Event) → ev 0 ≡ e → beginRefusal e ≡ refusal ev 0
   unfolding beginK beginRule rules answer rowOf
   first-is (Begin v a b) is =
-      rw (is, ltb-not a 1, ltb-not 8 a, ltb-not b 1, ltb-not 256 b)
-      (begin-tests (eqb v 1) (leb 1 a) (leb a 8) (leb 1 b) (leb b 256))
+      rw (is, ltb-not v 1, ltb-not 2 v, ltb-not a 1, ltb-not 8 a, ltb-not b 1, ltb-not 256 b)
+      (begin-tests (leb 1 v) (leb v 2) (leb 1 a) (leb a 8) (leb 1 b) (leb b 256))
   first-is (Issue t x) is = rw is
   first-is (Commit t) is = rw is
   first-is (Load t x s) is = rw is
@@ -337,6 +386,8 @@ module _ (ev : ℕ → Event) where
   first-is (Locked t x s) is = rw is
   first-is (Signal t) is = rw is
   first-is (Wait t s) is = rw is
+  first-is (Open t) is = rw (is, and-false) refl
+  first-is (Close t o) is = rw (is, and-false) refl
 
   -- and so of the first event
   pub begin-refusals : beginRefusal (ev 0) ≡ refusal ev 0

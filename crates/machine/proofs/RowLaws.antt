@@ -2,7 +2,7 @@
 -- and its stretch, any other event the two numbers that say that it is neither, and the rows of earlier events stay,
 -- but for the two links.
 -- `row` is where the row of event n begins.
-use mathlib.Core.Path.{_≡_, refl, ap, _∙_}
+use mathlib.Core.Path.{_≡_, refl, sym, ap, _∙_}
 use mathlib.Core.Bool.{true, cond}
 use mathlib.Core.List.{List}
 use mathlib.Core.Logic.{_≢_}
@@ -14,8 +14,10 @@ use lib.ListN.{length, getD, set, length-set}
 use Rattle.area.specs.Cells.{rowStart, getRow, putRow, eventAt, noStore}
 use Rattle.area.proofs.ReadBack.{start-is, rows-apart, length-put, put-same, put-row, put-column}
 use Rattle.area.proofs.ReadBack.{set-here, set-column, set-elsewhere}
+use Rattle.machine.specs.Tables.{lastCell}
 use Rattle.machine.specs.Threads.{ofThread}
-use Rattle.machine.specs.Effects.{clocked, withClock, withStore}
+use Rattle.machine.specs.Regions.{regionOf}
+use Rattle.machine.specs.Effects.{clocked, withClock, withStore, heldWork}
 use Rattle.machine.proofs.Storing.{Elsewhere, set-leaves, column-after, run, run-size, run-leaves, run-in}
 
 -- event n is no store and no signal, and all else that rows hold, but for the links of chains, is as it was
@@ -120,11 +122,117 @@ module _ (row n : ℕ) (begins : row + 16 ≡ 16 * n) (to-last : n ≤ 2048) whe
           set-elsewhere l₁ row n begins to-last u 0 p k inside (omega arith) from-one (omega arith)
           (λ same. omega arith)
 
+  -- nothing of earlier rows
+  pub no-store-earlier :
+      (l : List ℕ) (p k : ℕ) → 1 ≤ p → p < n → k < 16 → getRow (noStore l row) p k ≡ getRow l p k
+  no-store-earlier l p k from-one early low =
+      set-elsewhere (set l (row + 10) 0) row n begins to-last 11 0 p k (omega arith) low from-one (omega arith)
+      (λ same. omega arith)
+      ∙ set-elsewhere l row n begins to-last 10 0 p k (omega arith) low from-one (omega arith) (λ same. omega arith)
+
   -- the links of chains are in another column
   pub no-store-links : (l : List ℕ) (p : ℕ) → getRow (noStore l row) p 14 ≡ getRow l p 14
   no-store-links l p =
       set-column (set l (row + 10) 0) row n begins to-last 11 0 p 14 (omega arith) (omega arith) (λ same. omega arith)
       ∙ set-column l row n begins to-last 10 0 p 14 (omega arith) (omega arith) (λ same. omega arith)
+
+  -- ---- a load that is held
+
+  -- it is no store, and its row has its location, its source, the head of its chain and the load held before it
+  pub record HeldHere (x s h b : ℕ) (l l′ : List ℕ) : Type 0 where
+    pub no-store : NoStore n l l′
+    pub location-is : getRow l′ n 9 ≡ x
+    pub source-is : getRow l′ n 13 ≡ s
+    pub head-is : getRow l′ n 14 ≡ h
+    pub before-is : getRow l′ n 15 ≡ b
+    pub earlier : (p k : ℕ) → 1 ≤ p → p < n → k < 16 → getRow l′ p k ≡ getRow l p k
+
+  pub held-here :
+      (tables : List ℕ) (t x s : ℕ) (l : List ℕ) → 32768 ≤ length l
+      → HeldHere x s (getD tables (lastCell x) 0) (regionOf tables t .newest) l
+      (heldWork tables (noStore l row) row t x s)
+  unfolding heldWork
+  held-here tables t x s l room = record {
+    no-store = record {
+      size = size-4 ∙ none .size;
+      none =
+          column l₃ 15 b n 10 (omega arith) (omega arith) (λ same. omega arith)
+          ∙ column l₂ 14 h n 10 (omega arith) (omega arith) (λ same. omega arith)
+          ∙ column l₁ 13 s n 10 (omega arith) (omega arith) (λ same. omega arith)
+          ∙ column l₀ 9 x n 10 (omega arith) (omega arith) (λ same. omega arith)
+          ∙ none .none;
+      no-signal =
+          column l₃ 15 b n 11 (omega arith) (omega arith) (λ same. omega arith)
+          ∙ column l₂ 14 h n 11 (omega arith) (omega arith) (λ same. omega arith)
+          ∙ column l₁ 13 s n 11 (omega arith) (omega arith) (λ same. omega arith)
+          ∙ column l₀ 9 x n 11 (omega arith) (omega arith) (λ same. omega arith)
+          ∙ none .no-signal;
+      earlier = λ p k from-one early low. rows p k from-one early (omega arith);
+    };
+    location-is =
+        column l₃ 15 b n 9 (omega arith) (omega arith) (λ same. omega arith)
+        ∙ column l₂ 14 h n 9 (omega arith) (omega arith) (λ same. omega arith)
+        ∙ column l₁ 13 s n 9 (omega arith) (omega arith) (λ same. omega arith)
+        ∙ set-here l₀ row n begins to-last 9 x (rw (none .size) room) (omega arith);
+    source-is =
+        column l₃ 15 b n 13 (omega arith) (omega arith) (λ same. omega arith)
+        ∙ column l₂ 14 h n 13 (omega arith) (omega arith) (λ same. omega arith)
+        ∙ set-here l₁ row n begins to-last 13 s (rw (length-set l₀ (row + 9) x, none .size) room) (omega arith);
+    head-is =
+        column l₃ 15 b n 14 (omega arith) (omega arith) (λ same. omega arith)
+        ∙ set-here l₂ row n begins to-last 14 h
+        (rw (length-set l₁ (row + 13) s, length-set l₀ (row + 9) x, none .size) room) (omega arith);
+    before-is =
+        set-here l₃ row n begins to-last 15 b
+        (rw (length-set l₂ (row + 14) h, length-set l₁ (row + 13) s, length-set l₀ (row + 9) x, none .size) room)
+        (omega arith);
+    earlier = rows;
+  }
+    where
+      none : NoStore n l (noStore l row)
+      none = no-store-is l room
+
+      h : ℕ
+      h = getD tables (lastCell x) 0
+
+      b : ℕ
+      b = regionOf tables t .newest
+
+      l₀ : List ℕ
+      l₀ = noStore l row
+
+      l₁ : List ℕ
+      l₁ = set l₀ (row + 9) x
+
+      l₂ : List ℕ
+      l₂ = set l₁ (row + 13) s
+
+      l₃ : List ℕ
+      l₃ = set l₂ (row + 14) h
+
+      size-4 : length (set l₃ (row + 15) b) ≡ length l₀
+      size-4 =
+          length-set l₃ (row + 15) b ∙ length-set l₂ (row + 14) h ∙ length-set l₁ (row + 13) s
+          ∙ length-set l₀ (row + 9) x
+
+      column :
+          (l₁ : List ℕ) (u v p k : ℕ) → u < 16 → k < 16 → u ≢ k → getRow (set l₁ (row + u) v) p k ≡ getRow l₁ p k
+      column l₁ = set-column l₁ row n begins to-last
+
+      elsewhere :
+          (l₁ : List ℕ) (u v p k : ℕ) → u < 16 → 1 ≤ p → p < n → k < 16
+          → getRow (set l₁ (row + u) v) p k ≡ getRow l₁ p k
+      elsewhere l₁ u v p k inside from-one early low =
+          set-elsewhere l₁ row n begins to-last u v p k inside low from-one (omega arith) (λ same. omega arith)
+
+      rows :
+          (p k : ℕ) → 1 ≤ p → p < n → k < 16 → getRow (set l₃ (row + 15) b) p k ≡ getRow l p k
+      rows p k from-one early low =
+          elsewhere l₃ 15 b p k (omega arith) from-one early low
+          ∙ elsewhere l₂ 14 h p k (omega arith) from-one early low
+          ∙ elsewhere l₁ 13 s p k (omega arith) from-one early low
+          ∙ elsewhere l₀ 9 x p k (omega arith) from-one early low
+          ∙ no-store-earlier l p k from-one early low
 
   -- ---- a row with a clock
 
@@ -254,6 +362,20 @@ module _ (row n : ℕ) (begins : row + 16 ≡ 16 * n) (to-last : n ≤ 2048) whe
       written-links p =
           written-leaves (rowStart p + 14) (λ from below. omega arith)
           ∙ put-column l g 12 (eventAt row) p 14 (omega arith) (omega arith) (λ same. omega arith)
+
+      -- nor what stands behind column 12
+      pub written-beside : (p k : ℕ) → 13 ≤ k → k < 16 → getRow after p k ≡ getRow l p k
+      unfolding getRow rowStart
+      written-beside p k from below =
+          written-leaves (rowStart p + k % 16) (λ low high. omega arith)
+          ∙ put-column l g 12 (eventAt row) p k (omega arith) below (λ same. omega arith)
+
+      -- of earlier rows at most column 12 is written
+      pub written-rows :
+          (p k : ℕ) → 1 ≤ p → p < n → k < 16 → k ≢ 12 → getRow after p k ≡ getRow l p k
+      written-rows p k from-one early low other =
+          written-earlier p k from-one early
+          ∙ put-column l g 12 (eventAt row) p k (omega arith) low (λ same. other (sym same))
 
       pub stored-is : 32768 ≤ length l → g ≤ 2048 → Stored n g t c x j seen-by l after
       unfolding withStore

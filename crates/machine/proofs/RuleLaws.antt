@@ -1,7 +1,7 @@
 -- What a step answers, by the rules in their order: a number that is not 0 turns the event away and all is as it was,
 -- else the event passes. And the load rule's three cases.
 use mathlib.Core.Path.{_≡_, refl, sym, ap, _∙_}
-use mathlib.Core.Bool.{Bool, true, false, not}
+use mathlib.Core.Bool.{Bool, true, false, _&&_, not}
 use mathlib.Core.Logic.{_≢_}
 use mathlib.Core.List.{List}
 use Prim.Native.Nat.{ℕ, _+_, _≤_, _<_}
@@ -11,16 +11,22 @@ use lib.Dec.{eqb, leb}
 use lib.ListN.{set}
 use lib.Seq.{getD-set-other}
 use Rattle.record.specs.Tests.{_gives_else_}
+use Rattle.record.proofs.Frames.{clash}
+use Rattle.area.specs.Cells.{noStore, joined}
 use Rattle.machine.specs.declared.state.Machine.{Machine}
 use Rattle.machine.specs.declared.state.Step.{Step}
 use Rattle.machine.specs.Tables.{threadCell, sourceCell}
 use Rattle.machine.specs.Threads.{threadOf}
+use Rattle.machine.specs.declared.regions.Region.{Region}
+use Rattle.machine.specs.Regions.{regionOf}
 use Rattle.machine.specs.Twin.{State, World, stateOf, world, threadAt, ticked, admits, admitted}
 use Rattle.machine.specs.Twin.{waitingIn, waitingW, lastW, hereW, crossingW, fitsW}
-use Rattle.machine.specs.Turning.{Fits, placeFits, placeRefusal, onPlace, loadRule, lockedRule, countedW}
-use Rattle.machine.specs.Effects.{passWith, meetW, crossW, loadW, exchangedTables, exchangedWork, lockedW}
-use Rattle.machine.specs.Outcomes.{Outcome, stateAfter, outcome, turned, byRule, onlyO, acrossO, memoryO}
-use Rattle.machine.specs.Outcomes.{loadO, lockedO}
+use Rattle.machine.specs.Turning.{Fits, placeFits, placeRefusal, onPlace, loadRule, lockedRule}
+use Rattle.machine.specs.Turning.{holdsW, countedW}
+use Rattle.machine.specs.Effects.{passWith, meetW, heldTables, heldWork, crossW, loadW, exchangedTables}
+use Rattle.machine.specs.Effects.{exchangedWork, lockedW}
+use Rattle.machine.specs.Outcomes.{Outcome, stateAfter, outcome, turned, byRule, onlyO, plainO, acrossO}
+use Rattle.machine.specs.Outcomes.{memoryO, loadO, lockedO}
 
 -- ---- the work area
 
@@ -158,17 +164,23 @@ module _ (w : World) (t x s : ℕ) where
       unfolding byRule
       loaded passes-it = o-is ∙ (by-load-rule ∙ rw (number-is ∙ passes-it) refl)
 
--- a load changes the tables, and its own row says that it is no store and no signal
-pub load-is : (w : World) (t x s : ℕ) → loadW w t x s ≡ passWith w (loadW w t x s .tables)
+-- a load is followed by the next event
+pub load-ticks : (w : World) (t x s : ℕ) → loadW w t x s .state ≡ ticked (w .state)
 unfolding loadW crossW meetW
-load-is w t x s = by-test (crossingW w t x)
+load-ticks w t x s = by-tests (crossingW w t x) (holdsW w t)
   where
-    by-test :
-        (crosses : Bool)
-        → (crosses gives crossW w x s else meetW w t s)
-        ≡ passWith w ((crosses gives crossW w x s else meetW w t s) .tables)
-    by-test true = refl
-    by-test false = refl
+    by-tests :
+        (crosses holds : Bool)
+        → (crosses gives
+        (holds gives
+        world (ticked (w .state)) (heldTables (set (w .tables) (sourceCell x) s) (w .state .row) t)
+        (heldWork (set (w .tables) (sourceCell x) s) (noStore (w .work) (w .state .row)) (w .state .row) t x s) else
+        world (ticked (w .state)) (set (w .tables) (sourceCell x) s) (noStore (w .work) (w .state .row))) else
+        passWith w (joined 8 (w .work) s (threadCell t 0) (w .tables))) .state
+        ≡ ticked (w .state)
+    by-tests true true = refl
+    by-tests true false = refl
+    by-tests false holds = refl
 
 -- the load passes, and the store follows
 pub locked-passes :
@@ -193,7 +205,7 @@ locked-passes m row tables l t x s placed none r tables₁ l₁ is passes-it tab
     its-rule w t x s placed none ∙ (number-is w t x s placed none (outcome m row r tables₁ l₁) is ∙ passes-it)
     in
     let stretch-is : r .stretch ≡ m .stretch =
-    ap (λ (st : State). st .stretch) (state-is ∙ ap (λ (v : World). v .state) (load-is w t x s))
+    ap (λ (st : State). st .stretch) (state-is ∙ load-ticks w t x s)
     in
     rw (rule-is, passes-it, counted-is, tables-are, l-is, ← tables-loaded, ← l-loaded, stretch-is) refl
 
@@ -213,3 +225,97 @@ pub skip-stays :
 unfolding threadOf
 skip-stays tables t x s few =
     rw (getD-set-other tables (sourceCell x) (threadCell t 12) s 0 (λ same. omega arith)) refl
+
+pub region-stays :
+    (tables : List ℕ) (t x s : ℕ) → t < 8 → regionOf (set tables (sourceCell x) s) t ≡ regionOf tables t
+unfolding regionOf
+region-stays tables t x s few =
+    rw (
+      getD-set-other tables (sourceCell x) (threadCell t 13) s 0 (λ same. omega arith),
+      getD-set-other tables (sourceCell x) (threadCell t 14) s 0 (λ same. omega arith),
+    )
+    refl
+
+-- ---- a crossing load, behind the step r that leaves aside whether its thread is open
+
+module _
+    (m : Machine) (row : ℕ) (tables l : List ℕ) (t x s : ℕ) (few : t < 8) (r : Step) (tables₁ l₁ : List ℕ)
+    (is : outcome m row r tables₁ l₁ ≡ plainO (world (stateOf m row) tables l) t x s) where
+  abbrev before : World
+  before = world (stateOf m row) tables l
+
+  abbrev noted : List ℕ
+  noted = set tables (sourceCell x) s
+
+  abbrev fits : Bool
+  fits = admits (m .stretch) row tables l x s
+
+  abbrev skips : Bool
+  skips = threadOf tables t .skip
+
+  -- what it left, if the source may be
+  plain-tables : (b : Bool) → fits ≡ b → tables₁ ≡ (b gives noted else tables)
+  unfolding byRule
+  plain-tables true on = ap (λ (o : Outcome). o .after .tables) is ∙ rw on refl
+  plain-tables false off = ap (λ (o : Outcome). o .after .tables) is ∙ rw off refl
+
+  plain-counted : (b : Bool) → fits ≡ b → r .counted ≡ (b gives not skips else false)
+  unfolding byRule
+  plain-counted true on = ap (λ (o : Outcome). o .counted) is ∙ rw on refl
+  plain-counted false off = ap (λ (o : Outcome). o .counted) is ∙ rw off refl
+
+  same-region : (b : Bool) → fits ≡ b → regionOf tables₁ t ≡ regionOf tables t
+  same-region true on = ap (λ (v : List ℕ). regionOf v t) (plain-tables true on) ∙ region-stays tables t x s few
+  same-region false off = ap (λ (v : List ℕ). regionOf v t) (plain-tables false off)
+
+  -- its thread is not open
+  pub not-open : regionOf tables₁ t .opened ≡ false → outcome m row r tables₁ l₁ ≡ acrossO before t x s
+  unfolding crossW
+  not-open shut =
+      let closed-before : regionOf tables t .opened ≡ false =
+      ap (λ (g : Region). g .opened) (sym (same-region fits refl)) ∙ shut
+      in
+      is ∙ rw closed-before (by-skip skips)
+    where
+      by-skip :
+          (skip : Bool)
+          → byRule (fits gives 0 else 9) before (not skip) (passWith before noted)
+          ≡ byRule (fits gives 0 else 9) before (not skip && true)
+          ((not skip && false) gives
+          world (ticked (stateOf m row)) (heldTables noted row t) (heldWork noted (noStore l row) row t x s) else
+          world (ticked (stateOf m row)) noted (noStore l row))
+      by-skip true = refl
+      by-skip false = refl
+
+  -- it is turned away, or in a skip
+  pub not-held : r .counted ≡ false → outcome m row r tables₁ l₁ ≡ acrossO before t x s
+  unfolding crossW byRule
+  not-held none = is ∙ by-test fits refl
+    where
+      by-test : (b : Bool) → fits ≡ b → plainO before t x s ≡ acrossO before t x s
+      by-test false off = rw off refl
+      by-test true on =
+          let in-skip : skips ≡ true = not-false skips (sym (plain-counted true on) ∙ none) in
+          rw (on, in-skip) refl
+
+  -- it is held
+  pub now-held :
+      r .counted ≡ true → regionOf tables₁ t .opened ≡ true → (tables₂ l₂ : List ℕ) → tables₂ ≡ heldTables tables₁ row t
+      → l₂ ≡ heldWork tables₁ l₁ row t x s → (a : Step) → a ≡ passed m false
+      → outcome m row a tables₂ l₂ ≡ acrossO before t x s
+  unfolding crossW byRule
+  now-held counts opens tables₂ l₂ tables-are l-is a answer = by-test fits refl
+    where
+      by-test : (b : Bool) → fits ≡ b → outcome m row a tables₂ l₂ ≡ acrossO before t x s
+      by-test false off =
+          let none : false ≡ true = sym (plain-counted false off) ∙ counts in
+          absurd (clash cc)
+      by-test true on =
+          let no-skip : skips ≡ false = not-true skips (sym (plain-counted true on) ∙ counts) in
+          let opened-before : regionOf tables t .opened ≡ true =
+          ap (λ (g : Region). g .opened) (sym (same-region true on)) ∙ opens
+          in
+          let tables₁-are = plain-tables true on in
+          let l₁-is : l₁ ≡ noStore l row = ap (λ (o : Outcome). o .after .work) is ∙ rw on refl in
+          rw (on, no-skip, opened-before)
+          (passes m row tables₂ l₂ a false _ 0 before refl (rw (tables-are, l-is, tables₁-are, l₁-is) refl) answer)

@@ -9,9 +9,9 @@ use borrow.Author.Tests.{eqb-true, le-ltb}
 use lib.ListN.{length, getD, replicate, length-replicate}
 use Rattle.record.specs.declared.events.Event.{Event}
 use Rattle.model.specs.Search.{last}
-use Rattle.model.specs.Trace.{kind, issue?, commit?, crash?, skipOn?, skipOff?, Issue, threads, locations}
-use Rattle.model.specs.Trace.{stretch, count}
-use Rattle.model.specs.Machine.{switched, skipping}
+use Rattle.model.specs.Trace.{kind, issue?, commit?, crash?, skipOn?, skipOff?, open?, close?, Issue}
+use Rattle.model.specs.Trace.{version, threads, locations, stretch, count}
+use Rattle.model.specs.Machine.{switched, skipping, opened}
 use Rattle.model.specs.Rules.{refusal, Accepted}
 use Rattle.model.specs.Choice.{finished}
 use Rattle.model.specs.Stores.{newestAt, landed}
@@ -21,13 +21,14 @@ use Rattle.model.proofs.ClockSteps.{meets-none, seen-zero}
 use Rattle.model.proofs.Acceptance.{begins, store-not-0, signal-not-0}
 use Rattle.model.proofs.Limits.{few-threads, few-locations}
 use Rattle.model.proofs.StorePlaces.{store-at-none}
-use Rattle.model.proofs.Unchanged.{live, live-away, skipping-away, newest-away, seen-away, landed-away}
+use Rattle.model.proofs.Unchanged.{live, live-away, skipping-away, opened-away, newest-away}
+use Rattle.model.proofs.Unchanged.{seen-away, landed-away}
 use Rattle.area.proofs.ReadBack.{cleared-at}
 use Rattle.machine.specs.Tables.{lastCell, sourceCell, commitsCell, newestCell, stretchCell}
 use Rattle.machine.specs.Threads.{fresh}
 use Rattle.machine.specs.Twin.{world, started}
 use Rattle.machine.specs.Sim.{issued, done, Queue, Seen, Newest, Commits, Chains, Sim}
-use Rattle.machine.proofs.TableLaws.{thread-fresh}
+use Rattle.machine.proofs.TableLaws.{thread-fresh, region-closed}
 use Rattle.machine.proofs.Keep.{spares}
 
 module _ (ev : ℕ → Event) (passes : refusal ev 0 ≡ 0) where
@@ -83,6 +84,16 @@ module _ (ev : ℕ → Event) (passes : refusal ev 0 ≡ 0) where
       (spares ev 0 (skipOff? ev) (rw kind-is refl) t)
       ∙ skipping-0 t
 
+  opened-0 : (t : ℕ) → opened ev 0 t ≡ false
+  unfolding switched
+  opened-0 t = refl
+
+  opened-1 : (t : ℕ) → opened ev 1 t ≡ false
+  opened-1 t =
+      opened-away ev 0 t no-crash (spares ev 0 (open? ev) (rw kind-is refl) t)
+      (spares ev 0 (close? ev) (rw kind-is refl) t)
+      ∙ opened-0 t
+
   fresh-queue : (t : ℕ) → Queue ev 1 t fresh
   fresh-queue t =
       let none = live-1 (issue? ev) t (rw kind-is refl) in
@@ -129,9 +140,15 @@ module _ (ev : ℕ → Event) (passes : refusal ev 0 ≡ 0) where
     }
 
     start-with :
-        length tables ≡ 3008 → 32768 ≤ length l → Sim ev 1 (world (started (threads ev) (locations ev)) tables l)
+        length tables ≡ 3008 → 32768 ≤ length l → Sim ev 1 (world (started (version ev) (threads ev) (locations ev)) tables l)
     start-with size room = record {
-      numbers = record { row-is = omega arith; stretch-is = sym stretch-1; threads-is = refl; locations-is = refl };
+      numbers = record {
+        row-is = omega arith;
+        stretch-is = sym stretch-1;
+        version-is = refl;
+        threads-is = refl;
+        locations-is = refl;
+      };
       limits = record {
         accepted = accepted;
         begun = omega arith;
@@ -155,9 +172,13 @@ module _ (ev : ℕ → Event) (passes : refusal ev 0 ≡ 0) where
         no-signals = λ p from-one early _. absurd (omega arith);
       };
       links = λ p early store. absurd (no-store p early store);
+      regions = λ t _.
+          rw (region-closed tables t (clear (16 * t + 13)) (clear (16 * t + 14)))
+          (record { opened-is = sym (opened-1 t); held-are = λ is-open. false-true (sym (opened-1 t) ∙ is-open) });
     }
 
   -- THE STATE AFTER AN ACCEPTED BEGIN
   pub sim-start :
-      (l : List ℕ) → 32768 ≤ length l → Sim ev 1 (world (started (threads ev) (locations ev)) (replicate 3008 0) l)
+      (l : List ℕ) → 32768 ≤ length l
+      → Sim ev 1 (world (started (version ev) (threads ev) (locations ev)) (replicate 3008 0) l)
   sim-start l room = start-with (replicate 3008 0) l (cleared-at 3008) (length-replicate {A = ℕ} 3008 0) room

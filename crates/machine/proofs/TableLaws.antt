@@ -18,6 +18,8 @@ use Rattle.machine.specs.Tables.{lastCell, commitsCell, newestCell, stre
 use Rattle.model.specs.Search.{bit}
 use Rattle.machine.specs.Threads.{fresh, issuedT, committedT, skippedT, crashedT, threadOf, ofThread}
 use Rattle.machine.specs.Threads.{putIssued, putCommitted, putSkip, unseen, restarted}
+use Rattle.machine.specs.declared.regions.Region.{Region}
+use Rattle.machine.specs.Regions.{closed, crashedR, regionOf, putRegion}
 use Rattle.machine.specs.Effects.{issuedTables, finishedThread, finished}
 use Rattle.machine.proofs.Storing.{Same, Elsewhere, set-leaves, column-after, run, run-size, run-leaves, run-in}
 
@@ -64,6 +66,29 @@ pub record Replaced (tables tables′ : List ℕ) (t : ℕ) (s : Thread) : Type 
   pub own : threadOf tables′ t ≡ s
   pub others : (u : ℕ) → u < 8 → t ≢ u → Same (16 * u + 8) (16 * u + 13) tables tables′
   pub seen-same : (u : ℕ) → u < 8 → Same (16 * u) (16 * u + 8) tables tables′
+  pub regions-same : (u : ℕ) → u < 8 → Same (16 * u + 13) (16 * u + 15) tables tables′
+
+-- ---- a thread's region
+
+-- it is in columns 13 and 14
+pub region-same :
+    (tables tables′ : List ℕ) (t : ℕ) → Same (16 * t + 13) (16 * t + 15) tables tables′
+    → regionOf tables′ t ≡ regionOf tables t
+unfolding regionOf
+region-same tables tables′ t same =
+    rw (same (16 * t + 13) (omega arith) (omega arith), same (16 * t + 14) (omega arith) (omega arith)) refl
+
+-- two zeros are a region that is closed
+pub region-closed :
+    (tables : List ℕ) (t : ℕ) → ofThread tables t 13 ≡ 0 → ofThread tables t 14 ≡ 0 → regionOf tables t ≡ closed
+unfolding regionOf
+region-closed tables t not-open none = rw (not-open, none) refl
+
+-- of the threads' rows only the region of thread t is changed, to r
+pub record Reopened (tables tables′ : List ℕ) (t : ℕ) (r : Region) : Type 0 where
+  pub size : length tables′ ≡ length tables
+  pub own : regionOf tables′ t ≡ r
+  pub leaves : Elsewhere (16 * t + 13) (16 * t + 15) tables tables′
 
 module _ (tables : List ℕ) (t : ℕ) (few : t < 8) (size : length tables ≡ 3008) where
   -- the other numbers of the threads' rows are as they were
@@ -76,6 +101,7 @@ module _ (tables : List ℕ) (t : ℕ) (few : t < 8) (size : length tables ≡ 3
     own = own;
     others = λ u low differ i from below. leaves i (omega arith) (λ from′ below′. differ (omega arith));
     seen-same = λ u low i from below. leaves i (omega arith) (λ from′ below′. omega arith);
+    regions-same = λ u low i from below. leaves i (omega arith) (λ from′ below′. omega arith);
   }
 
   row-inside : leb (16 * t + 16) (length tables) ≡ true
@@ -84,6 +110,19 @@ module _ (tables : List ℕ) (t : ℕ) (few : t < 8) (size : length tables ≡ 3
   -- a column of the state is in the thread's part
   column-apart : (i k : ℕ) → (16 * t + 8 ≤ i → i < 16 * t + 13 → ⊥) → 8 ≤ k → k < 13 → 16 * t + k ≢ i
   column-apart i k apart low high same = apart (omega arith) (omega arith)
+
+  -- ---- an open, a close or a held load
+
+  pub reopened : (r : Region) → Reopened tables (putRegion tables t r) t r
+  unfolding regionOf putRegion
+  reopened r = record {
+    size = simp length-set;
+    own = simp (column-after, length-set, row-inside, bit-back);
+    leaves = λ i apart.
+        let not-13 : 16 * t + 13 ≢ i = λ same. apart (omega arith) (omega arith) in
+        let not-14 : 16 * t + 14 ≢ i = λ same. apart (omega arith) (omega arith) in
+        simp (set-leaves, not-13, not-14);
+  }
 
   -- ---- a skip on or off
 
@@ -213,14 +252,15 @@ abbrev zeros : ℕ → ℕ
 zeros _ = 0
 
 restarted-is :
-    (tables : List ℕ) (t : ℕ) (old : Thread) → restarted tables t (crashedT old) ≡ run (16 * t) 13 zeros tables
-unfolding restarted putSkip unseen run
-restarted-is tables t old = refl
+    (tables : List ℕ) (t : ℕ) (old : Thread) (region : Region)
+    → putRegion (restarted tables t (crashedT old)) t (crashedR region) ≡ run (16 * t) 15 zeros tables
+unfolding restarted putSkip putRegion unseen run
+restarted-is tables t old region = refl
 
 -- stretch j is finished for threads 0 to k - 1
 pub record Finished (k : ℕ) (tables tables′ : List ℕ) (j : ℕ) : Type 0 where
   pub size : length tables′ ≡ length tables
-  pub restarts : (t : ℕ) → t < k → (u : ℕ) → u < 13 → ofThread tables′ t u ≡ 0
+  pub restarts : (t : ℕ) → t < k → (u : ℕ) → u < 15 → ofThread tables′ t u ≡ 0
   pub notes : (t : ℕ) → t < k → getD tables′ (commitsCell j t) 0 ≡ ofThread tables t 11
   pub later : Same (16 * k) 128 tables tables′
   pub leaves :
@@ -233,9 +273,9 @@ module _ (tables : List ℕ) (j : ℕ) (room : length tables ≡ 3008) (from-one
       → Finished (suc k) tables (finishedThread so-far j k) j
   unfolding finishedThread threadOf
   finished-more k so-far few before =
-      rw (restarted-is noted k (threadOf so-far k))
+      rw (restarted-is noted k (threadOf so-far k) (regionOf so-far k))
       (record {
-        size = run-size (16 * k) zeros noted 13 ∙ noted-size;
+        size = run-size (16 * k) zeros noted 15 ∙ noted-size;
         restarts = λ t below u low. last-or-earlier-row t below u low (same? t k);
         notes = λ t below. last-or-earlier-count t below (same? t k);
         later = λ i low high.
@@ -253,17 +293,17 @@ module _ (tables : List ℕ) (j : ℕ) (room : length tables ≡ 3008) (from-one
       noted-size = length-set so-far _ _ ∙ before .size
 
       after : List ℕ
-      after = run (16 * k) 13 zeros noted
+      after = run (16 * k) 15 zeros noted
 
-      beside-row : Elsewhere (16 * k) (16 * k + 13) noted after
-      beside-row = run-leaves (16 * k) zeros noted 13
+      beside-row : Elsewhere (16 * k) (16 * k + 15) noted after
+      beside-row = run-leaves (16 * k) zeros noted 15
 
       beside-count : (i : ℕ) → commitsCell j k ≢ i → getD noted i 0 ≡ getD so-far i 0
       beside-count i differ = set-leaves so-far (commitsCell j k) (ofThread so-far k 11) i differ
 
-      last-or-earlier-row : (t : ℕ) → t < suc k → (u : ℕ) → u < 13 → (t ≡ k) ⊎ (t ≢ k) → ofThread after t u ≡ 0
+      last-or-earlier-row : (t : ℕ) → t < suc k → (u : ℕ) → u < 15 → (t ≡ k) ⊎ (t ≢ k) → ofThread after t u ≡ 0
       last-or-earlier-row t below u low (inl is) =
-          rw is (run-in (16 * k) zeros noted 13 u (omega (arith, noted-size)) low)
+          rw is (run-in (16 * k) zeros noted 15 u (omega (arith, noted-size)) low)
       last-or-earlier-row t below u low (inr differs) =
           beside-row (16 * t + u) (λ from to. omega arith) ∙ beside-count (16 * t + u) (λ same. omega arith)
           ∙ before .restarts t (omega arith) u low

@@ -4,7 +4,7 @@ use mathlib.Core.Path.{_≡_, refl, sym, ap, _∙_}
 use Rattle.record.specs.declared.events.Event.{Event}
 use Rattle.record.specs.declared.events.Event.the-variants.{Begin, Issue, Commit, Load, Clflush, Clwb}
 use Rattle.record.specs.declared.events.Event.the-variants.{Sfence, Mfence, Crash, SkipOn, SkipOff, Locked}
-use Rattle.record.specs.declared.events.Event.the-variants.{Signal, Wait}
+use Rattle.record.specs.declared.events.Event.the-variants.{Signal, Wait, Open, Close}
 use Rattle.record.specs.Events.{kindOf}
 use Rattle.record.specs.Fields.{fieldsOf}
 use Rattle.machine.specs.Arms.{byKind}
@@ -32,6 +32,8 @@ outcome-is w (SkipOff t) = refl
 outcome-is w (Locked t x s) = refl
 outcome-is w (Signal t) = refl
 outcome-is w (Wait t s) = refl
+outcome-is w (Open t) = refl
+outcome-is w (Close t o) = refl
 
 module _ (w : World) (e : Event) (o : Outcome) (is : o ≡ stepO w (kindOf e) (fieldsOf e)) where
   by-its-rule : o ≡ byRule (refusalW w e) w (countsW w e) (stepW w e)

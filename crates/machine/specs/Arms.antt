@@ -4,8 +4,8 @@ use lib.Dec.{eqb}
 use Rattle.record.specs.Tests.{_gives_else_}
 use Rattle.model.specs.Rules.{within}
 
-unfoldable pub byKind : {A : Type 0} → ℕ → A → A → A → A → A → A → A → A → A → A → A → A
-byKind k issue commit load flush fence crash skip locked signal wait other =
+unfoldable pub byKind : {A : Type 0} → ℕ → A → A → A → A → A → A → A → A → A → A → A → A → A → A
+byKind k issue commit load flush fence crash skip locked signal wait opening closing other =
     eqb k 2 gives issue else
     eqb k 3 gives commit else
     eqb k 4 gives load else
@@ -16,4 +16,6 @@ byKind k issue commit load flush fence crash skip locked signal wait other =
     eqb k 12 gives locked else
     eqb k 13 gives signal else
     eqb k 14 gives wait else
+    eqb k 15 gives opening else
+    eqb k 16 gives closing else
     other

@@ -14,8 +14,10 @@ use Rattle.area.specs.Cells.{getRow, putRow, eventAt, noStore, joined, up}
 use Rattle.machine.specs.Tables.{threadCell, lastCell, sourceCell, commitsCell, newestCell, stretchCell}
 use Rattle.machine.specs.Threads.{issuedT, committedT, skippedT, crashedT, threadOf, ofThread}
 use Rattle.machine.specs.Threads.{putIssued, putCommitted, putSkip, restarted}
-use Rattle.machine.specs.Twin.{World, world, threadAt, ticked, crashed, crossingW}
+use Rattle.machine.specs.Regions.{beganR, heldR, endedR, crashedR, regionOf, putRegion}
+use Rattle.machine.specs.Twin.{World, world, threadAt, regionAt, ticked, crashed, crossingW}
 use Rattle.machine.specs.Arms.{byKind}
+use Rattle.machine.specs.Turning.{holdsW}
 
 -- ---- clocks
 
@@ -101,13 +103,28 @@ passW w = passWith w (w .tables)
 unfoldable pub meetW : World → ℕ → ℕ → World
 meetW w t s = passWith w (joined 8 (w .work) s (threadCell t 0) (w .tables))
 
--- a crossing load at location x from s, which is noted
-unfoldable pub crossW : World → ℕ → ℕ → World
-crossW w x s = passWith w (set (w .tables) (sourceCell x) s)
+-- after a crossing load of thread t, which is open, at location x from s: it is held
+unfoldable pub heldTables : List ℕ → ℕ → ℕ → List ℕ
+heldTables tables row t = putRegion tables t (heldR (regionOf tables t) (eventAt row))
+
+unfoldable pub heldWork : List ℕ → List ℕ → ℕ → ℕ → ℕ → ℕ → List ℕ
+heldWork tables l row t x s =
+    let with-source = set (set l (row + 9) x) (row + 13) s in
+    set (set with-source (row + 14) (getD tables (lastCell x) 0)) (row + 15) (regionOf tables t .newest)
+
+-- a crossing load by thread t at location x from s, which is noted; it is held if the thread is open and in no skip
+unfoldable pub crossW : World → ℕ → ℕ → ℕ → World
+crossW w t x s =
+    let st = w .state in
+    let noted = set (w .tables) (sourceCell x) s in
+    let l = noStore (w .work) (st .row) in
+    holdsW w t gives
+    world (ticked st) (heldTables noted (st .row) t) (heldWork noted l (st .row) t x s) else
+    world (ticked st) noted l
 
 -- a load by thread t at location x from s: a crossing load brings no clock
 unfoldable pub loadW : World → ℕ → ℕ → ℕ → World
-loadW w t x s = crossingW w t x gives crossW w x s else meetW w t s
+loadW w t x s = crossingW w t x gives crossW w t x s else meetW w t s
 
 -- after an issue of thread t at location x in stretch j, and the commit of that store alone
 unfoldable pub exchangedTables : List ℕ → ℕ → ℕ → ℕ → ℕ → List ℕ
@@ -131,7 +148,8 @@ lockedW w t x s =
 unfoldable pub finishedThread : List ℕ → ℕ → ℕ → List ℕ
 finishedThread tables j t =
     let old = threadOf tables t in
-    restarted (set tables (commitsCell j t) (old .committed)) t (crashedT old)
+    let restart = restarted (set tables (commitsCell j t) (old .committed)) t (crashedT old) in
+    putRegion restart t (crashedR (regionOf tables t))
 
 -- so of threads 0 to k - 1
 unfoldable pub finished : ℕ → List ℕ → ℕ → List ℕ
@@ -145,6 +163,13 @@ crashW w =
 
 unfoldable pub skipW : World → ℕ → Bool → World
 skipW w t on = passWith w (putSkip (w .tables) t (skippedT (threadAt w t) on))
+
+-- thread t opens, and closes
+unfoldable pub openW : World → ℕ → World
+openW w t = passWith w (putRegion (w .tables) t (beganR (regionAt w t)))
+
+unfoldable pub closeW : World → ℕ → World
+closeW w t = passWith w (putRegion (w .tables) t (endedR (regionAt w t)))
 
 -- ---- the effect
 
@@ -163,6 +188,8 @@ stepK w k f =
     (lockedW w t (f .location) (f .source))
     (signalW w t)
     (meetW w t (f .source))
+    (openW w t)
+    (closeW w t)
     w
 
 -- the effect of an event that passes

@@ -1,7 +1,8 @@
--- The code's steps as total functions, which its contracts cite (Tables, Threads, Twin, Arms, Turning, Effects,
+-- The code's steps as total functions, which its contracts cite (Tables, Threads, Regions, Twin, Arms, Turning, Effects,
 -- Outcomes, Orders), and what ties them to the definitions (Sim).
 pub mod Tables
 pub mod Threads
+pub mod Regions
 pub mod Twin
 pub mod Arms
 pub mod Turning

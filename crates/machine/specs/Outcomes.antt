@@ -4,15 +4,18 @@ use Prim.Native.Nat.{ℕ, _+_}
 use mathlib.Core.Bool.{Bool, false, not}
 use mathlib.Core.List.{List}
 use lib.Dec.{eqb}
+use lib.ListN.{set}
 use Rattle.record.specs.declared.events.Fields.{Fields}
 use Rattle.record.specs.Tests.{_gives_else_}
 use Rattle.machine.specs.declared.state.Step.{Step}
 use Rattle.machine.specs.Arms.{byKind}
 use Rattle.machine.specs.declared.state.Machine.{Machine}
-use Rattle.machine.specs.Twin.{State, World, world, threadAt, lastW, hereW, admitsW}
+use Rattle.machine.specs.Tables.{sourceCell}
+use Rattle.machine.specs.Twin.{State, World, world, threadAt, regionAt, lastW, hereW, admitsW}
 use Rattle.machine.specs.Turning.{commitRule, loadRule, lockedRule, fenceRule, crashRule, skipRule, signalRule}
-use Rattle.machine.specs.Turning.{waitRule, onThread, onPlace, countedW}
-use Rattle.machine.specs.Effects.{issueW, commitW, passW, meetW, crossW, loadW, lockedW, crashW, skipW, signalW}
+use Rattle.machine.specs.Turning.{waitRule, openRule, closeRule, closeCounts, onThread, onPlace, onNew, atOnceW, countedW}
+use Rattle.machine.specs.Effects.{issueW, commitW, passWith, passW, meetW, crossW, loadW, lockedW, crashW, skipW, signalW}
+use Rattle.machine.specs.Effects.{openW, closeW}
 
 pub record Outcome : Type 0 where
   pub refusal : ℕ
@@ -25,6 +28,7 @@ stateAfter m row r =
     record {
       row = eqb (r .refusal) 0 gives row + 16 else row;
       stretch = r .stretch;
+      version = m .version;
       threads = m .threads;
       locations = m .locations;
     }
@@ -54,10 +58,15 @@ commitO w t = byRule (onThread (w .state) t (commitRule w t)) w false (commitW w
 abbrev pub onlyO : World → ℕ → ℕ → ℕ → Outcome
 onlyO w t s only = byRule (eqb s only gives 0 else 9) w false (meetW w t s)
 
+-- a crossing load, whether its thread is open left aside
+abbrev pub plainO : World → ℕ → ℕ → ℕ → Outcome
+plainO w t x s =
+    byRule (admitsW w x s gives 0 else 9) w (not (threadAt w t .skip)) (passWith w (set (w .tables) (sourceCell x) s))
+
 -- a crossing load
 abbrev pub acrossO : World → ℕ → ℕ → ℕ → Outcome
 acrossO w t x s =
-    byRule (admitsW w x s gives 0 else 9) w (not (threadAt w t .skip)) (crossW w x s)
+    byRule (admitsW w x s gives 0 else 9) w (atOnceW w t) (crossW w t x s)
 
 -- a load where no store waits
 abbrev pub memoryO : World → ℕ → ℕ → ℕ → Outcome
@@ -88,6 +97,12 @@ signalO w t = byRule (onThread (w .state) t (signalRule w t)) w false (signalW w
 abbrev pub waitO : World → ℕ → ℕ → Outcome
 waitO w t s = byRule (onThread (w .state) t (waitRule w s)) w false (meetW w t s)
 
+abbrev pub openO : World → ℕ → Outcome
+openO w t = byRule (onNew (w .state) (onThread (w .state) t (openRule w t))) w false (openW w t)
+
+abbrev pub closeO : World → ℕ → ℕ → Outcome
+closeO w t o = byRule (onNew (w .state) (onThread (w .state) t (closeRule w t o))) w (closeCounts o (regionAt w t .newest)) (closeW w t)
+
 -- a later event: a begin, and what is no kind, is turned away by 5
 unfoldable pub stepO : World → ℕ → Fields → Outcome
 stepO w k f =
@@ -104,4 +119,6 @@ stepO w k f =
     (lockedO w t x (f .source))
     (signalO w t)
     (waitO w t (f .source))
+    (openO w t)
+    (closeO w t (f .outcome))
     (turned 5 w)

@@ -3,25 +3,32 @@
 -- stores and signals.
 use Prim.Native.Nat.{ℕ, suc, _+_, _-_, _*_, _≤_, _<_}
 use mathlib.Core.Path.{_≡_}
-use mathlib.Core.Bool.{true}
-use mathlib.Core.List.{List}
+use mathlib.Core.Bool.{Bool, true, false}
+use mathlib.Core.List.{List, [], _∷_}
 use mathlib.Core.Logic.{_≢_}
 use lib.Dec.{eqb}
 use lib.ListN.{length, getD}
 use Rattle.record.specs.declared.events.Event.{Event}
 use Rattle.record.specs.Tests.{_gives_else_}
-use Rattle.model.specs.Trace.{thread, location, Issue, threads, locations, stretch, issues, commits, place}
-use Rattle.model.specs.Machine.{skipping, past}
+use Rattle.model.specs.Trace.{thread, location, Issue, version, threads, locations, stretch, issues, commits, place}
+use Rattle.model.specs.Machine.{skipping, opened, held, past}
 use Rattle.model.specs.Rules.{Accepted}
 use Rattle.model.specs.Choice.{finished}
 use Rattle.model.specs.Clocks.{seen}
 use Rattle.model.specs.Stores.{storeAt, newestAt, landed}
 use Rattle.area.specs.Cells.{getRow}
-use Rattle.area.specs.Rows.{Linked, Rows}
+use Rattle.area.specs.Rows.{Linked, HeldLinked, Rows}
 use Rattle.machine.specs.declared.threads.Thread.{Thread}
 use Rattle.machine.specs.Tables.{lastCell, sourceCell, commitsCell, newestCell, stretchCell}
 use Rattle.machine.specs.Threads.{threadOf, ofThread}
+use Rattle.machine.specs.declared.regions.Region.{Region}
+use Rattle.machine.specs.Regions.{regionOf}
 use Rattle.machine.specs.Twin.{State, World}
+
+-- there is one
+abbrev pub some? : List ℕ → Bool
+some? [] = false
+some? (l ∷ ls) = true
 
 module _ (ev : ℕ → Event) where
   -- the issues and the commits of thread t in the stretch of event n, before it
@@ -35,6 +42,7 @@ module _ (ev : ℕ → Event) where
   pub record Numbers (n : ℕ) (st : State) : Type 0 where
     pub row-is : st .row + 16 ≡ 16 * n
     pub stretch-is : st .stretch ≡ stretch ev n
+    pub version-is : st .version ≡ version ev
     pub threads-is : st .threads ≡ threads ev
     pub locations-is : st .locations ≡ locations ev
 
@@ -101,6 +109,14 @@ module _ (ev : ℕ → Event) where
   Links n l =
       (p : ℕ) → p < n → Issue ev p → getRow l p 12 ≡ storeAt ev n (stretch ev p) (thread ev p) (suc (place ev p))
 
+  -- the region of thread t: if it is open, the links of the rows from the newest load on spell the loads that it holds
+  pub record InRegion (n t : ℕ) (r : Region) (l : List ℕ) : Type 0 where
+    pub opened-is : r .opened ≡ opened ev n t
+    pub held-are : opened ev n t ≡ true → HeldLinked ev l (r .newest) (held ev n t)
+
+  abbrev pub Regions : ℕ → List ℕ → List ℕ → Type 0
+  Regions n tables l = (t : ℕ) → t < 8 → InRegion n t (regionOf tables t) l
+
   -- THE STATE BEFORE EVENT n
   pub record Sim (n : ℕ) (w : World) : Type 0 where
     pub numbers : Numbers n (w .state)
@@ -114,3 +130,4 @@ module _ (ev : ℕ → Event) where
     pub chains : Chains n (w .tables) (w .work)
     pub rows : Rows ev n (w .work)
     pub links : Links n (w .work)
+    pub regions : Regions n (w .tables) (w .work)

@@ -35,6 +35,10 @@ stretchCell x = 2752 + x
 abbrev pub lastIn : List ℕ → ℕ → ℕ
 lastIn tables x = getD tables (lastCell (x % 256)) 0
 
+-- the newest load that thread t, below 8, holds; 0 if there is none
+abbrev pub heldIn : List ℕ → ℕ → ℕ
+heldIn tables t = getD tables (threadCell (t % 8) 14) 0
+
 -- the stores committed in all finished stretches
 abbrev pub committedIn : List ℕ → ℕ
 committedIn tables = total 56 tables 648

@@ -10,7 +10,7 @@ use Rattle.record.specs.Fields.{fieldsOf}
 use Rattle.machine.specs.declared.threads.Thread.{Thread}
 use Rattle.machine.specs.declared.state.Machine.{Machine}
 use Rattle.machine.specs.Arms.{byKind}
-use Rattle.machine.specs.Twin.{State, World, threadAt, crossingW, fitsW, signalledW}
+use Rattle.machine.specs.Twin.{State, World, threadAt, regionAt, crossingW, fitsW, signalledW}
 
 -- what a step asks of its caller: the begin's numbers are in range, and `row` is where a row begins, or behind the last
 -- row of the work area, which has `size` numbers
@@ -62,6 +62,21 @@ skipBy kind skip = eqb kind 10 gives (skip gives 12 else 0) else (skip gives 0 e
 abbrev pub skipRule : World → ℕ → ℕ → ℕ
 skipRule w kind t = skipBy kind (threadAt w t .skip)
 
+-- of an open
+abbrev pub openRule : World → ℕ → ℕ
+openRule w t = regionAt w t .opened gives 12 else 0
+
+-- of a close with outcome o, by a thread that is open or not
+abbrev pub closeBy : ℕ → Bool → ℕ
+closeBy o opened = ltb 1 o gives 19 else opened gives 0 else 12
+
+abbrev pub closeRule : World → ℕ → ℕ → ℕ
+closeRule w t o = closeBy o (regionAt w t .opened)
+
+-- loads count as of it: its outcome is 1, and something is held
+abbrev pub closeCounts : ℕ → ℕ → Bool
+closeCounts o newest = eqb o 1 && not (eqb newest 0)
+
 -- ---- the rules that kinds share, of the event whose row begins at `row`
 
 abbrev pub threadFits : ℕ → ℕ → ℕ → Bool
@@ -83,6 +98,10 @@ abbrev pub onPlace : State → ℕ → ℕ → ℕ → ℕ
 onPlace st t x r =
     placeFits (st .threads) (st .locations) (st .row) t x gives r else placeRefusal (st .threads) (st .row) t
 
+-- of a kind that version 2 admits
+abbrev pub onNew : State → ℕ → ℕ
+onNew st r = ltb (st .version) 2 gives 3 else r
+
 -- ---- the answers
 
 -- by the kind
@@ -102,6 +121,8 @@ refusalK w k f =
     (onPlace st t x (lockedRule w t x (f .source)))
     (onThread st t (signalRule w t))
     (onThread st t (waitRule w (f .source)))
+    (onNew st (onThread st t (openRule w t)))
+    (onNew st (onThread st t (closeRule w t (f .outcome))))
     5
 
 -- what turns the next event away, after the first
@@ -111,13 +132,11 @@ refusalW w e = refusalK w (kindOf e) (fieldsOf e)
 -- what turns a begin away
 unfoldable pub beginRule : ℕ → ℕ → ℕ → ℕ
 beginRule version threads locations =
-    eqb version 1 gives
-    (ltb threads 1 gives 6 else
+    ltb version 1 gives 6 else
+    ltb 2 version gives 6 else
+    ltb threads 1 gives 6 else
     ltb 8 threads gives 6 else
-    ltb locations 1 gives 6 else
-    ltb 256 locations gives 6 else
-    0) else
-    6
+    ltb locations 1 gives 6 else (ltb 256 locations gives 6 else 0)
 
 -- what turns the first event away
 unfoldable pub beginK : ℕ → Fields → ℕ
@@ -126,13 +145,22 @@ beginK k f = eqb k 1 gives beginRule (f .version) (f .threads) (f .locations) el
 abbrev pub beginRefusal : Event → ℕ
 beginRefusal e = beginK (kindOf e) (fieldsOf e)
 
--- a load by thread t at location x is crossing, and the thread is in no skip
-abbrev pub countedW : World → ℕ → ℕ → Bool
-countedW w t x = crossingW w t x && not (threadAt w t .skip)
+-- a crossing load of thread t counts as of itself, or is held
+abbrev pub atOnceW : World → ℕ → Bool
+atOnceW w t = not (threadAt w t .skip) && not (regionAt w t .opened)
 
--- the event is a counted load, of kind 4 or 12
+abbrev pub holdsW : World → ℕ → Bool
+holdsW w t = not (threadAt w t .skip) && regionAt w t .opened
+
+-- a load by thread t at location x counts as of itself
+abbrev pub countedW : World → ℕ → ℕ → Bool
+countedW w t x = crossingW w t x && atOnceW w t
+
+-- loads count as of the event: a close, or a load, of kind 4 or 12
 unfoldable pub countsK : World → ℕ → Fields → Bool
-countsK w k f = (eqb k 4 || eqb k 12) && countedW w (f .thread) (f .location)
+countsK w k f =
+    eqb k 16 gives closeCounts (f .outcome) (regionAt w (f .thread) .newest) else
+    ((eqb k 4 || eqb k 12) && countedW w (f .thread) (f .location))
 
 abbrev pub countsW : World → Event → Bool
 countsW w e = countsK w (kindOf e) (fieldsOf e)

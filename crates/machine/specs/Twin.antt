@@ -11,11 +11,14 @@ use Rattle.machine.specs.declared.threads.Thread.{Thread}
 use Rattle.machine.specs.declared.state.Machine.{Machine}
 use Rattle.machine.specs.Tables.{lastCell, sourceCell, commitsCell, newestCell, stretchCell}
 use Rattle.machine.specs.Threads.{threadOf}
+use Rattle.machine.specs.declared.regions.Region.{Region}
+use Rattle.machine.specs.Regions.{regionOf}
 
 -- the state before an event: where its row begins, its stretch, and what the begin said
 pub record State : Type 0 where
   pub row : ℕ
   pub stretch : ℕ
+  pub version : ℕ
   pub threads : ℕ
   pub locations : ℕ
 
@@ -25,7 +28,14 @@ pub record World : Type 0 where
   pub work : List ℕ
 
 abbrev pub stateOf : Machine → ℕ → State
-stateOf m row = record { row = row; stretch = m .stretch; threads = m .threads; locations = m .locations }
+stateOf m row =
+    record {
+      row = row;
+      stretch = m .stretch;
+      version = m .version;
+      threads = m .threads;
+      locations = m .locations;
+    }
 
 abbrev pub world : State → List ℕ → List ℕ → World
 world st tables l = record { state = st; tables = tables; work = l }
@@ -35,26 +45,48 @@ world st tables l = record { state = st; tables = tables; work = l }
 abbrev pub threadAt : World → ℕ → Thread
 threadAt w t = threadOf (w .tables) t
 
--- after an accepted begin
-abbrev pub begun : ℕ → ℕ → Machine
-begun threads locations = record { stretch = 1; threads = threads; locations = locations }
+abbrev pub regionAt : World → ℕ → Region
+regionAt w t = regionOf (w .tables) t
 
-abbrev pub started : ℕ → ℕ → State
-started threads locations = stateOf (begun threads locations) 0
+-- after an accepted begin
+abbrev pub begun : ℕ → ℕ → ℕ → Machine
+begun version threads locations =
+    record { stretch = 1; version = version; threads = threads; locations = locations }
+
+abbrev pub started : ℕ → ℕ → ℕ → State
+started version threads locations = stateOf (begun version threads locations) 0
 
 -- before the next event
 unfoldable pub ticked : State → State
 ticked st =
-    record { row = st .row + 16; stretch = st .stretch; threads = st .threads; locations = st .locations }
+    record {
+      row = st .row + 16;
+      stretch = st .stretch;
+      version = st .version;
+      threads = st .threads;
+      locations = st .locations;
+    }
 
 -- in the stretch after this one
 abbrev pub nextStretch : Machine → Machine
-nextStretch m = record { stretch = up (m .stretch); threads = m .threads; locations = m .locations }
+nextStretch m =
+    record {
+      stretch = up (m .stretch);
+      version = m .version;
+      threads = m .threads;
+      locations = m .locations;
+    }
 
 -- before the next event after a crash
 unfoldable pub crashed : State → State
 crashed st =
-    record { row = st .row + 16; stretch = up (st .stretch); threads = st .threads; locations = st .locations }
+    record {
+      row = st .row + 16;
+      stretch = up (st .stretch);
+      version = st .version;
+      threads = st .threads;
+      locations = st .locations;
+    }
 
 -- ---- the load rule: j is the stretch, `row` where the load's row begins, l the work area
 

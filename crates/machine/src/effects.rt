@@ -7,8 +7,9 @@ ghost use Rattle.area.specs.Cells.{noStore, joined};
 ghost use Rattle.machine.specs.Tables.{threadCell};
 ghost use Rattle.machine.specs.Effects.{issuedTables, issuedWork, committedTables, committedWork};
 ghost use Rattle.machine.specs.Effects.{headed, exchangedTables, exchangedWork, signalledWork};
-ghost use Rattle.machine.specs.Effects.{finishedThread, finished};
+ghost use Rattle.machine.specs.Effects.{heldTables, heldWork, finishedThread, finished};
 use crate::clocks;
+use crate::regions;
 use crate::tables;
 use crate::tables::Tables;
 use crate::threads;
@@ -92,14 +93,31 @@ pub(crate) fn meet(tables: &mut Tables, work: &mut [u16], row: usize, t: u16, s:
     area::no_store(work, row);
 }
 
+// A crossing load of thread t, which is open, at location x from s is held: its row has its location and source, the last
+// store committed there, and the load held before it.
+pub(crate) fn hold(tables: &mut Tables, work: &mut [u16], row: usize, t: u16, x: u16, s: u16)
+    requires { ⌜ (t < 8) × (x < 256) × (row < 32768) × (row + 16 ≤ length (now work)) ⌝ }
+    ensures { λ _. ⌜ now (tables .exit) ≡ heldTables (now (tables .entry)) row t ⌝ }
+    ensures { λ _. ⌜ now (work .exit) ≡ heldWork (now (tables .entry)) (now (work .entry)) row t x s ⌝ }
+{
+    let old = regions::region_of(tables, t);
+    work[row + 9] = x;
+    work[row + 13] = s;
+    work[row + 14] = tables[tables::last(x)];
+    work[row + 15] = old.newest;
+    regions::put_region(tables, t, old.hold(area::event_at(row)));
+}
+
 // Stretch j is finished: the commits of thread t go to their table, and the thread starts afresh.
 fn finish_thread(tables: &mut Tables, j: u16, t: u16)
     requires { ⌜ t < 8 ⌝ }
     ensures { λ _. ⌜ now (tables .exit) ≡ finishedThread (now (tables .entry)) j t ⌝ }
 {
     let old = threads::thread_of(tables, t);
+    let region = regions::region_of(tables, t);
     tables[tables::commits(j, t)] = old.committed;
     threads::restart(tables, t, old.crash());
+    regions::put_region(tables, t, region.crash());
 }
 
 // So of all threads.

@@ -4,6 +4,7 @@
 mod clocks;
 mod effects;
 mod order;
+mod regions;
 mod rules;
 mod state;
 mod steps;
@@ -19,3 +20,4 @@ pub use steps::step;
 pub use tables::Tables;
 pub use tables::all_committed;
 pub use tables::last_committed;
+pub use tables::newest_held;

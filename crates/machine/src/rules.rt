@@ -5,7 +5,8 @@ ghost use mathlib.Core.Path.{_≡_};
 ghost use mathlib.Core.Bool.{true};
 ghost use Prim.Native.Nat.{_<_};
 ghost use Rattle.machine.specs.Twin.{waitingIn, pastIn, acrossIn, signalledIn};
-ghost use Rattle.machine.specs.Turning.{threadFits, placeFits, placeRefusal, fenceBy, skipBy, beginRule, beginK};
+ghost use Rattle.machine.specs.Turning.{threadFits, placeFits, placeRefusal, fenceBy, skipBy, closeBy, closeCounts};
+ghost use Rattle.machine.specs.Turning.{beginRule, beginK};
 use crate::state::Machine;
 use crate::tables;
 use crate::tables::Tables;
@@ -142,13 +143,35 @@ pub(crate) fn skip_rule(kind: u16, skip: bool) -> u16
     if skip { 0 } else { 12 }
 }
 
+// ---- regions under a checksum
+
+// 19: another outcome than 0 or 1; 12: "close when not" open.
+pub(crate) fn close_rule(outcome: u16, opened: bool) -> u16
+    ensures { λ r. ⌜ r ≡ closeBy outcome opened ⌝ }
+{
+    if 1 < outcome {
+        return 19;
+    }
+    if opened { 0 } else { 12 }
+}
+
+// Loads count as of a close: its outcome is 1, and something is held.
+pub(crate) fn close_counts(outcome: u16, newest: u16) -> bool
+    ensures { λ r. ⌜ r ≡ closeCounts outcome newest ⌝ }
+{
+    if outcome == 1 { newest != 0 } else { false }
+}
+
 // ---- the begin
 
 // 6: "begin field out of range".
 fn begin_rule(version: u16, threads: u16, locations: u16) -> u16
     ensures { λ r. ⌜ r ≡ beginRule version threads locations ⌝ }
 {
-    if version != 1 {
+    if version < 1 {
+        return 6;
+    }
+    if 2 < version {
         return 6;
     }
     if threads < 1 {

@@ -5,13 +5,14 @@ ghost use Rattle.machine.specs.Twin.{nextStretch};
 
 pub struct Machine {
     pub stretch: u16,
+    pub version: u16,
     pub threads: u16,
     pub locations: u16,
 }
 
-// After an event: the stretch, refusal 0, and whether the event is a counted load. Or the number of what turns the
-// event away, with the stretch as it was. The rest of the state is the caller's to keep: threads and locations stay,
-// and an event that passes is followed by the next row.
+// After an event: the stretch, refusal 0, and whether loads count as of it: a load itself, or at a close those that its
+// thread holds. Or the number of what turns the event away, with the stretch as it was. The rest of the state is the
+// caller's to keep: version, threads and locations stay, and an event that passes is followed by the next row.
 pub struct Step {
     pub stretch: u16,
     pub refusal: u16,

@@ -2,14 +2,18 @@
 // that fails; else the event takes effect. An event that is turned away changes nothing. `row` is where the event's row
 // begins: the caller sees to it that it is a row's begin, and that the begin's numbers are in range (`Fits`).
 ghost use mathlib.Core.Path.{_≡_};
+ghost use mathlib.Core.Bool.{true};
 ghost use mathlib.Core.List.{List};
-ghost use Prim.Native.Nat.{ℕ, _<_};
+ghost use Prim.Native.Nat.{ℕ, _+_, _≤_, _<_};
 ghost use lib.ListN.{length};
 ghost use Rattle.machine.specs.Twin.{stateOf, world, admits, admitted};
 ghost use Rattle.machine.specs.Turning.{Fits};
-ghost use Rattle.machine.specs.Outcomes.{outcome, issueO, commitO, onlyO, acrossO, memoryO, loadO, lockedO};
-ghost use Rattle.machine.specs.Outcomes.{flushO, fenceO, crashO, skipO, signalO, waitO, stepO};
+ghost use Rattle.machine.specs.Outcomes.{outcome, issueO, commitO, onlyO, plainO, acrossO, memoryO, loadO};
+ghost use Rattle.machine.specs.Outcomes.{flushO, fenceO, crashO, skipO, signalO, waitO, openO};
+ghost use Rattle.machine.specs.Outcomes.{lockedO, closeO, stepO};
+ghost use Rattle.machine.specs.Regions.{regionOf};
 use crate::effects;
+use crate::regions;
 use crate::rules;
 use crate::state::Machine;
 use crate::state::Step;
@@ -86,7 +90,7 @@ fn admit(m: Machine, row: usize, tables: &mut Tables, work: &[u16], x: u16, s: u
     true
 }
 
-// A crossing load, which brings no clock. It counts if its thread is in no skip.
+// A crossing load, which brings no clock, of a thread that is not open. It counts if its thread is in no skip.
 fn load_across(
     m: Machine,
     row: usize,
@@ -98,7 +102,7 @@ fn load_across(
 ) -> Step
     requires { ⌜ Fits m row (length (now work)) × (row < 32768) × (t < 8) × (x < 256) ⌝ }
     ensures { λ r. ⌜ (outcome m row r (now (tables .exit)) (now (work .exit))
-        ≡ acrossO (world (stateOf m row) (now (tables .entry)) (now (work .entry))) t x s) ⌝ }
+        ≡ plainO (world (stateOf m row) (now (tables .entry)) (now (work .entry))) t x s) ⌝ }
 {
     if !admit(m, row, tables, work, x, s) {
         return m.refuse(9);
@@ -106,6 +110,31 @@ fn load_across(
     area::no_store(work, row);
     let own = threads::thread_of(tables, t);
     m.pass(!own.skip)
+}
+
+// The same of an open thread, behind the step r: a load that would count is held. This stands apart from the function
+// above, which the compiler takes into the judge's loop only if it is small.
+fn hold_open(
+    m: Machine,
+    row: usize,
+    tables: &mut Tables,
+    work: &mut [u16],
+    t: u16,
+    x: u16,
+    s: u16,
+    r: Step,
+) -> Step
+    requires { ⌜ (t < 8) × (x < 256) × (row < 32768) × (row + 16 ≤ length (now work)) ⌝ }
+    ensures { λ a. ⌜ ((tables' work' : List ℕ)
+        → outcome m row r (now (tables .entry)) (now (work .entry)) ≡ plainO (world (stateOf m row) tables' work') t x s
+        → regionOf (now (tables .entry)) t .opened ≡ true
+        → outcome m row a (now (tables .exit)) (now (work .exit)) ≡ acrossO (world (stateOf m row) tables' work') t x s) ⌝ }
+{
+    if !r.counted {
+        return r;
+    }
+    effects::hold(tables, work, row, t, x, s);
+    m.pass(false)
 }
 
 // A load where no store of its thread waits at the location. `load` makes these two cases in its own body: with two
@@ -125,7 +154,11 @@ fn load_memory(
 {
     let committed = tables[tables::stretch(x)];
     if committed != m.stretch {
-        return load_across(m, row, tables, work, t, x, s);
+        let r = load_across(m, row, tables, work, t, x, s);
+        if !regions::is_open(tables, t) {
+            return r;
+        }
+        return hold_open(m, row, tables, work, t, x, s, r);
     }
     let q = tables[tables::last(x)];
     load_only(m, row, tables, work, t, s, q)
@@ -157,7 +190,11 @@ fn load(
         let q = tables[tables::last(x)];
         return load_only(m, row, tables, work, t, s, q);
     }
-    load_across(m, row, tables, work, t, x, s)
+    let r = load_across(m, row, tables, work, t, x, s);
+    if !regions::is_open(tables, t) {
+        return r;
+    }
+    hold_open(m, row, tables, work, t, x, s, r)
 }
 
 // A locked operation: a load, then an issue and a commit. 11: its thread "has a waiting store".
@@ -290,6 +327,56 @@ fn wait(m: Machine, row: usize, tables: &mut Tables, work: &mut [u16], t: u16, s
     m.pass(false)
 }
 
+// An open, kind 15. 3: the trace's version does not know it; 12: "open when open".
+fn open_region(m: Machine, row: usize, tables: &mut Tables, work: &mut [u16], t: u16) -> Step
+    requires { ⌜ Fits m row (length (now work)) ⌝ }
+    ensures { λ r. ⌜ (outcome m row r (now (tables .exit)) (now (work .exit))
+        ≡ openO (world (stateOf m row) (now (tables .entry)) (now (work .entry))) t) ⌝ }
+{
+    if m.version < 2 {
+        return m.refuse(3);
+    }
+    if !rules::thread_fits(m, row, t) {
+        return m.refuse(rules::place_refusal(m, row, t));
+    }
+    let old = regions::region_of(tables, t);
+    if old.opened {
+        return m.refuse(12);
+    }
+    area::no_store(work, row);
+    regions::put_region(tables, t, old.begin());
+    m.pass(false)
+}
+
+// A close, kind 16, with its outcome, `result`: at 1 the loads that its thread holds count, if there is one.
+fn close_region(
+    m: Machine,
+    row: usize,
+    tables: &mut Tables,
+    work: &mut [u16],
+    t: u16,
+    result: u16,
+) -> Step
+    requires { ⌜ Fits m row (length (now work)) ⌝ }
+    ensures { λ r. ⌜ (outcome m row r (now (tables .exit)) (now (work .exit))
+        ≡ closeO (world (stateOf m row) (now (tables .entry)) (now (work .entry))) t result) ⌝ }
+{
+    if m.version < 2 {
+        return m.refuse(3);
+    }
+    if !rules::thread_fits(m, row, t) {
+        return m.refuse(rules::place_refusal(m, row, t));
+    }
+    let old = regions::region_of(tables, t);
+    let k = rules::close_rule(result, old.opened);
+    if k != 0 {
+        return m.refuse(k);
+    }
+    area::no_store(work, row);
+    regions::put_region(tables, t, old.end());
+    m.pass(rules::close_counts(result, old.newest))
+}
+
 // A later event, by its kind and fields. 5: a begin.
 pub fn step(
     m: Machine,
@@ -315,6 +402,8 @@ pub fn step(
         12 => locked(m, row, tables, work, t, f.location, f.source),
         13 => signal(m, row, tables, work, t),
         14 => wait(m, row, tables, work, t, f.source),
+        15 => open_region(m, row, tables, work, t),
+        16 => close_region(m, row, tables, work, t, f.outcome),
         _ => m.refuse(5),
     }
 }

@@ -4,7 +4,7 @@
 ghost use mathlib.Core.Path.{_≡_};
 ghost use Prim.Native.Nat.{_<_};
 ghost use Rattle.machine.specs.Tables.{threadCell, lastCell, sourceCell, commitsCell, newestCell, stretchCell};
-ghost use Rattle.machine.specs.Tables.{lastIn, committedIn};
+ghost use Rattle.machine.specs.Tables.{lastIn, heldIn, committedIn};
 
 pub type Tables = [u16; 3008];
 
@@ -58,6 +58,13 @@ pub fn last_committed(tables: &Tables, x: u16) -> u16
     ensures { λ r. ⌜ r ≡ lastIn (now (tables .entry)) x ⌝ }
 {
     tables[last(x % 256)]
+}
+
+// The newest load that thread t, below 8, holds, or held before it closed; 0 if there is none.
+pub fn newest_held(tables: &Tables, t: u16) -> u16
+    ensures { λ r. ⌜ r ≡ heldIn (now (tables .entry)) t ⌝ }
+{
+    tables[thread(t % 8, 14)]
 }
 
 // The stores committed in all finished stretches.

@@ -24,7 +24,7 @@ fn first_of(a: u16, b: u16) -> u16
     if a == 0 { b } else { a }
 }
 
-fn bit(b: bool) -> u16
+pub(crate) fn bit(b: bool) -> u16
     ensures { λ r. ⌜ r ≡ bit b ⌝ }
 {
     if b { 1 } else { 0 }

@@ -57,58 +57,29 @@ module _ (l : List ℕ) where
 
 -- ---- noting
 
-module _ (counts : List ℕ) (h x s e : ℕ) (breaks : Bool) where
+module _ (counts : List ℕ) (h x s : ℕ) where
   abbrev after : List ℕ
-  after = noted counts h x s e breaks
-
-  abbrev with-load : List ℕ
-  with-load = set (set counts (lastCell x) h) (sourceCell x) s
-
-  with-load-size : length with-load ≡ length counts
-  with-load-size = length-set (set counts (lastCell x) h) (sourceCell x) s ∙ length-set counts (lastCell x) h
-
-  -- whether it breaks or not
-  before-broken : (i : ℕ) → i ≢ brokenCell → countIn after i ≡ countIn with-load i
-  unfolding noted
-  before-broken i differs = by-test breaks
-    where
-      by-test : (b : Bool) → countIn (noted counts h x s e b) i ≡ countIn with-load i
-      by-test true = getD-set-other with-load brokenCell i _ 0 differs
-      by-test false = refl
+  after = noted counts h x s
 
   pub noted-size : length after ≡ length counts
   unfolding noted
-  noted-size = by-test breaks ∙ with-load-size
-    where
-      by-test : (b : Bool) → length (noted counts h x s e b) ≡ length with-load
-      by-test true = length-set with-load brokenCell _
-      by-test false = refl
+  noted-size = length-set (set counts (lastCell x) h) (sourceCell x) s ∙ length-set counts (lastCell x) h
 
-  pub noted-leaves : (i : ℕ) → i ≢ lastCell x → i ≢ sourceCell x → i ≢ brokenCell → countIn after i ≡ countIn counts i
-  noted-leaves i not-last not-source not-broken =
-      before-broken i not-broken
-      ∙ (getD-set-other (set counts (lastCell x) h) (sourceCell x) i s 0 not-source
-      ∙ getD-set-other counts (lastCell x) i h 0 not-last)
+  pub noted-leaves : (i : ℕ) → i ≢ lastCell x → i ≢ sourceCell x → countIn after i ≡ countIn counts i
+  unfolding noted
+  noted-leaves i not-last not-source =
+      getD-set-other (set counts (lastCell x) h) (sourceCell x) i s 0 not-source
+      ∙ getD-set-other counts (lastCell x) i h 0 not-last
 
   module _ (size : length counts ≡ 648) where
     pub noted-last : countIn after (lastCell x) ≡ h
+    unfolding noted
     noted-last =
-        before-broken (lastCell x) (λ same. omega arith)
-        ∙ (getD-set-other (set counts (lastCell x) h) (sourceCell x) (lastCell x) s 0 (λ same. omega arith)
-        ∙ getD-set-same counts (lastCell x) h 0 (omega arith))
+        getD-set-other (set counts (lastCell x) h) (sourceCell x) (lastCell x) s 0 (λ same. omega arith)
+        ∙ getD-set-same counts (lastCell x) h 0 (omega arith)
 
     pub noted-source : countIn after (sourceCell x) ≡ s
-    noted-source =
-        before-broken (sourceCell x) (λ same. omega arith)
-        ∙ getD-set-same (set counts (lastCell x) h) (sourceCell x) s 0
-        (omega (arith, length-set counts (lastCell x) h))
-
-    pub noted-broken : brokenIn after ≡ cond breaks e (brokenIn counts)
     unfolding noted
-    noted-broken = by-test breaks
-      where
-        by-test : (b : Bool) → brokenIn (noted counts h x s e b) ≡ cond b e (brokenIn counts)
-        by-test true = getD-set-same with-load brokenCell e 0 (omega (arith, with-load-size))
-        by-test false =
-            getD-set-other (set counts (lastCell x) h) (sourceCell x) brokenCell s 0 (λ same. omega arith)
-            ∙ getD-set-other counts (lastCell x) brokenCell h 0 (λ same. omega arith)
+    noted-source =
+        getD-set-same (set counts (lastCell x) h) (sourceCell x) s 0
+        (omega (arith, length-set counts (lastCell x) h))

@@ -9,7 +9,6 @@ use mathlib.Core.Bool.{Bool, true, false, cond, _&&_, _||_, not, or-false}
 use mathlib.Core.Logic.{_⊎_, inl, inr}
 use mathlib.Core.List.{List, [], _∷_}
 use lib.Dec.{eqb}
-use lib.ListN.{set}
 use Rattle.record.specs.declared.events.Event.{Event}
 use Rattle.model.specs.Search.{any, member}
 use Rattle.model.specs.Trace.{thread, location, source, stretch}
@@ -19,7 +18,7 @@ use Rattle.model.specs.Rules.{Accepted}
 use Rattle.model.specs.Choice.{Choice}
 use Rattle.model.specs.Verdict.{observes?}
 use Rattle.model.proofs.Searching.{test, less?, or-cases, or-left, or-right, eqb-same}
-use Rattle.model.proofs.Acceptance.{counted-crosses}
+use Rattle.model.proofs.Acceptance.{countable-crosses}
 use Rattle.model.proofs.Ranges.{load-has-location, location-bound}
 use Rattle.model.proofs.CountedLoads.{counts-as-of}
 use Rattle.model.proofs.Closure.{observes→}
@@ -28,18 +27,14 @@ use Rattle.area.specs.Rows.{Linked, Rows}
 use Rattle.marks.specs.Marks.{Marks, marksOf, brokenCell, brokenIn}
 use Rattle.marks.specs.Marking.{loaded}
 use Rattle.marks.specs.Testing.{loadHits}
-use Rattle.marks.specs.Judged.{repeated, noted}
+use Rattle.marks.specs.Judged.{repeated, noted, withBreaking, judgedFrom, breaksFrom}
 use Rattle.marks.specs.Matching.{Says, Loads}
-use Rattle.marks.proofs.Counts.{loaded-leaves, noted-size, noted-leaves, noted-broken}
+use Rattle.marks.proofs.Counts.{loaded-leaves, noted-size, noted-leaves}
 use Rattle.marks.proofs.Says.{says-same}
 use Rattle.marks.proofs.Stepping.{chain, chained, alsoMarks, alsoSees, alsoAsks, Due, due-next}
 use Rattle.marks.proofs.Stepping.{marked-so-far, Found, load-says}
 use Rattle.marks.proofs.Breaking.{Hit, hit-stays, load-hits→, →load-hits}
 use Rattle.marks.proofs.Noting.{says-there, loads-later, Again, repeats-noted, noted-loads}
-
--- event e is recorded if it breaks the trace
-abbrev pub withBreaking : ℕ → Bool → Marks → Marks
-withBreaking e breaks m = cond breaks (marksOf (set (m .counts) brokenCell e) (m .flags)) m
 
 module _ (ev : ℕ → Event) where
   -- ---- the loads that count as of an event, one after the other
@@ -67,13 +62,10 @@ module _ (ev : ℕ → Event) where
     walkedOver m k = loaded l m (headOf (chain ev k)) (source ev k)
 
     abbrev pub judgedOne : Marks → ℕ → Marks
-    judgedOne m k =
-        cond (again? m k) m
-        (marksOf (noted (walkedOver m k .counts) (headOf (chain ev k)) (location ev k) (source ev k) 0 false)
-        (walkedOver m k .flags))
+    judgedOne m k = judgedFrom l m (headOf (chain ev k)) (location ev k) (source ev k)
 
     abbrev pub breaksOne : Marks → ℕ → Bool
-    breaksOne m k = not (again? m k) && loadHits l m (headOf (chain ev k)) (source ev k)
+    breaksOne m k = breaksFrom l m (headOf (chain ev k)) (location ev k) (source ev k)
 
     -- the loads ks, one after the other
     unfoldable pub judgedAll : List ℕ → Marks → Marks
@@ -96,7 +88,7 @@ module _ (ev : ℕ → Event) where
     x-there : location ev k < 256
     x-there =
         location-bound ev (suc n) accepted k (omega (arith, found .not-later))
-        (load-has-location ev (counted-crosses ev k (found .is-counted) .loads))
+        (load-has-location ev (countable-crosses ev k (found .is-countable) .loads))
 
     abbrev F′ : ℕ → Bool
     F′ = alsoMarks ev k (part .F)
@@ -176,7 +168,7 @@ module _ (ev : ℕ → Event) where
 
     new-then :
         Part n ks (b || loadHits l m (headOf (chain ev k)) (source ev k))
-        (marksOf (noted (walkedOver l m k .counts) (headOf (chain ev k)) (location ev k) (source ev k) 0 false)
+        (marksOf (noted (walkedOver l m k .counts) (headOf (chain ev k)) (location ev k) (source ev k))
         (walkedOver l m k .flags))
     new-then = record {
       F = F′;
@@ -184,16 +176,15 @@ module _ (ev : ℕ → Event) where
       C = C′;
       due = due-then;
       says =
-          says-there ev walked-over _ (noted-size (walked-over .counts) h x s 0 false)
+          says-there ev walked-over _ (noted-size (walked-over .counts) h x s)
           (λ i below.
-          noted-leaves (walked-over .counts) h x s 0 false i (λ same. omega arith) (λ same. omega arith)
-          (λ same. omega arith))
+          noted-leaves (walked-over .counts) h x s i (λ same. omega arith) (λ same. omega arith))
           says-walked;
       loads =
-          noted-loads ev n k accepted (found .not-later) x-there (part .F) (part .O) walked-over same-loads 0
+          noted-loads ev n k accepted (found .not-later) x-there (part .F) (part .O) walked-over same-loads
           (says-walked .counts-size);
       unbroken =
-          noted-broken (walked-over .counts) h x s 0 false (says-walked .counts-size)
+          noted-leaves (walked-over .counts) h x s brokenCell (λ same. omega arith) (λ same. omega arith)
           ∙ (loaded-leaves l m h s brokenCell (omega arith) ∙ part .unbroken);
       told = λ passes. by-told (or-cases b hits-now passes);
       tells = λ hit.
@@ -246,7 +237,7 @@ module _ (ev : ℕ → Event) where
         let it = counts-as-of ev n k here in
         record {
           not-later = it .not-later;
-          is-counted = it .is-counted;
+          is-countable = it .is-countable;
           rows = area k here .0;
           links = area k here .1;
         }

@@ -10,4 +10,5 @@ pub mod Finding
 pub mod Closing
 pub mod Noting
 pub mod EachLoad
+pub mod HeldLoads
 pub mod Matched

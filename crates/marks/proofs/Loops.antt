@@ -1,6 +1,6 @@
 -- One turn of each of the code's loops, and the functions that make several calls: laws over plain variables, which the
 -- functions' proofs hand what their calls ensure.
--- In order: marking and the walk; a counted load; the searches; the end.
+-- In order: marking and the walk; a counted load; the loads that a close counts; the searches; the end.
 use Prim.Native.Nat.{ℕ, zero, suc, _+_, _-_, _*_, _/_, _≤_, _<_, min}
 use native.Mathlib.Nat.{not-suc-le-zero}
 use native.Mathlib.Numerals.{sub-one, add-one}
@@ -14,10 +14,10 @@ use borrow.Author.Tests.{eq-eqb, ne-eqb}
 use Rattle.model.specs.Search.{some, firstFrom}
 use Rattle.model.specs.Answers.{percent}
 use Rattle.area.specs.Cells.{getRow}
-use Rattle.marks.specs.Marks.{Marks, marksOf, cutCell, lowCell, flagCell, countIn, brokenIn}
+use Rattle.marks.specs.Marks.{Marks, marksOf, cutCell, lowCell, flagCell, brokenCell, countIn, brokenIn}
 use Rattle.marks.specs.Marking.{forbid, lower, marked, walked, seenFrom, loaded}
 use Rattle.marks.specs.Testing.{markHits, walkHits, hits, loadHits}
-use Rattle.marks.specs.Judged.{repeated, noted, judgedNew, judged}
+use Rattle.marks.specs.Judged.{repeated, noted, judgedFrom, breaksFrom, allJudged, allBreak, judged}
 use Rattle.marks.specs.Ending.{leastAt, copied}
 
 -- ---- marking and the walk
@@ -95,23 +95,74 @@ module _
   load-from m₂ j source any store j-is see-is source-is any-is =
       rw (any-is, source-is, see-is, j-is, walk-is, walks-is, ne-eqb s 0 store) (refl, refl)
 
-module _
-    (l : List ℕ) (m : Marks) (h x s e : ℕ) (again : Bool) (again-is : again ≡ repeated (m .counts) h x s) where
-  pub judged-again : again ≡ true → m ≡ judged l m h x s e
-  unfolding judged
-  judged-again repeats = rw (← again-is, repeats)
+-- ---- the loads that count as of an event
 
-  pub judged-behind : again ≡ false → (brokenIn (m .counts) ≡ 0 → ⊥) → m ≡ judged l m h x s e
-  unfolding judged
-  judged-behind new broken = rw (← again-is, new, ne-eqb (brokenIn (m .counts)) 0 broken)
+module _ (l : List ℕ) (m : Marks) (h x s : ℕ) (again : Bool) (again-is : again ≡ repeated (m .counts) h x s) where
+  pub one-again : again ≡ true → (false ≡ breaksFrom l m h x s) × (m ≡ judgedFrom l m h x s)
+  one-again repeats = rw (← again-is, repeats) (refl, refl)
 
-  pub judged-steps :
+  pub one-new :
       (m₁ : Marks) (counts : List ℕ) (breaks : Bool)
-      → again ≡ false → brokenIn (m .counts) ≡ 0 → (breaks ≡ loadHits l m h s) × (m₁ ≡ loaded l m h s)
-      → counts ≡ noted (m₁ .counts) h x s e breaks → marksOf counts (m₁ .flags) ≡ judged l m h x s e
-  unfolding judged judgedNew
-  judged-steps m₁ counts breaks new unbroken (breaks-is, load-is) note-is =
-      rw (← again-is, new, eq-eqb (brokenIn (m .counts)) 0 unbroken, note-is, breaks-is, load-is)
+      → again ≡ false → (breaks ≡ loadHits l m h s) × (m₁ ≡ loaded l m h s) → counts ≡ noted (m₁ .counts) h x s
+      → (breaks ≡ breaksFrom l m h x s) × (marksOf counts (m₁ .flags) ≡ judgedFrom l m h x s)
+  one-new m₁ counts breaks new (breaks-is, load-is) note-is =
+      rw (← again-is, new, note-is, breaks-is, load-is) (refl, refl)
+
+-- The loop in rows l that leaves the marks w and answers b: after some turns n are left, the marks are m, the load of
+-- location x from s with the head h is next and those from k on behind it, and `hit` says what it has found.
+module _ (l : List ℕ) (w : Marks) (b : Bool) where
+  abbrev pub Due : ℕ → Marks → ℕ → ℕ → ℕ → ℕ → Bool → Type 0
+  Due n m h x s k hit = (allJudged n l m h x s k ≡ w) × ((hit || allBreak n l m h x s k) ≡ b)
+
+  pub all-out :
+      (n : ℕ) (m : Marks) (h x s k : ℕ) (hit : Bool) → Due n m h x s k hit → n ≡ 0 → (hit ≡ b) × (m ≡ w)
+  unfolding allJudged allBreak
+  all-out n m h x s k hit (judged-is, hit-is) none =
+      (sym (or-false hit) ∙ rw none at hit-is, rw none at judged-is)
+
+  -- it was the last one
+  pub all-end :
+      (n : ℕ) (m : Marks) (h x s k : ℕ) (hit : Bool) (m₁ : Marks) (here found : Bool) → Due n m h x s k hit → 0 < n
+      → (here ≡ breaksFrom l m h x s) × (m₁ ≡ judgedFrom l m h x s) → found ≡ (hit || here) → k ≡ 0
+      → (found ≡ b) × (m₁ ≡ w)
+  unfolding allJudged allBreak
+  all-end zero m h x s k hit m₁ here found due some one found-is last = absurd (not-suc-le-zero some)
+  all-end (suc n) m h x s k hit m₁ here found (judged-is, hit-is) some (here-is, one-is) found-is last =
+      (found-is ∙ rw here-is (rw (eq-eqb k 0 last) at hit-is), one-is ∙ rw (eq-eqb k 0 last) at judged-is)
+
+  -- others follow
+  pub all-more :
+      (n : ℕ) (m : Marks) (h x s k : ℕ) (hit : Bool) (m₁ : Marks) (here found : Bool) (h₁ x₁ s₁ k₁ : ℕ)
+      → Due n m h x s k hit → 0 < n → (here ≡ breaksFrom l m h x s) × (m₁ ≡ judgedFrom l m h x s)
+      → found ≡ (hit || here) → (k ≡ 0 → ⊥) → h₁ ≡ getRow l k 14 → x₁ ≡ getRow l k 9 → s₁ ≡ getRow l k 13
+      → k₁ ≡ getRow l k 15 → Due (n - 1) m₁ h₁ x₁ s₁ k₁ found
+  unfolding allJudged allBreak
+  all-more zero m h x s k hit m₁ here found h₁ x₁ s₁ k₁ due some one found-is load h-is x-is s-is k-is =
+      absurd (not-suc-le-zero some)
+  all-more (suc n) m h x s k hit m₁ here found h₁ x₁ s₁ k₁ (judged-is, hit-is) some (here-is, one-is) found-is load h-is
+      x-is s-is k-is =
+      rw (found-is, here-is, one-is, h-is, x-is, s-is, k-is, sub-one) (
+        rw (ne-eqb k 0 load) at judged-is,
+        or-assoc hit (breaksFrom l m h x s) _ ∙ rw (ne-eqb k 0 load) at hit-is,
+      )
+
+module _ (l : List ℕ) (m : Marks) (h x s k e : ℕ) where
+  pub judged-behind : (brokenIn (m .counts) ≡ 0 → ⊥) → m ≡ judged l m h x s k e
+  unfolding judged
+  judged-behind broken = rw (ne-eqb (brokenIn (m .counts)) 0 broken)
+
+  module _
+      (m₁ : Marks) (breaks : Bool) (unbroken : brokenIn (m .counts) ≡ 0)
+      (all : (breaks ≡ allBreak 2048 l m h x s k) × (m₁ ≡ allJudged 2048 l m h x s k)) where
+    pub judged-breaks :
+        breaks ≡ true → (e' : ℕ) → e' ≡ e → marksOf (set (m₁ .counts) brokenCell e') (m₁ .flags) ≡ judged l m h x s k e
+    unfolding judged
+    judged-breaks passes e' e-is =
+        rw (eq-eqb (brokenIn (m .counts)) 0 unbroken, ← all .0, passes, ← all .1, e-is) refl
+
+    pub judged-holds : breaks ≡ false → m₁ ≡ judged l m h x s k e
+    unfolding judged
+    judged-holds holds = rw (eq-eqb (brokenIn (m .counts)) 0 unbroken, ← all .0, holds) (all .1)
 
 -- ---- the searches
 

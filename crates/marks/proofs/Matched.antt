@@ -16,14 +16,14 @@ use borrow.Author.Tests.{eq-eqb, ne-eqb}
 use Rattle.record.specs.declared.events.Event.{Event}
 use Rattle.model.specs.Search.{some, any, most}
 use Rattle.model.specs.Trace.{thread, location, source, stretch}
-use Rattle.model.specs.Machine.{counted, counting, counts}
+use Rattle.model.specs.Machine.{countable, counting, counts}
 use Rattle.model.specs.Stores.{headOf, marked?}
 use Rattle.model.specs.Rules.{Accepted}
 use Rattle.model.specs.Choice.{robust, broken, finished}
 use Rattle.model.specs.Verdict.{forbidden?, observed?, bad?, closure, rulingOf}
 use Rattle.model.specs.Answers.{sum, percent, cutOf, shareOf}
 use Rattle.model.proofs.Searching.{false-true, test, same?, same-test}
-use Rattle.model.proofs.Roles.{begin-no-load}
+use Rattle.model.proofs.Roles.{one-kind, begin-no-load}
 use Rattle.model.proofs.Acceptance.{prefix, begins, store-not-0}
 use Rattle.model.proofs.RulingSteps.{marked-over, hit→, →hit, hit-is-bad, bad-has-hit}
 use Rattle.model.proofs.RulingSteps.{robust-ruling, broken-ruling}
@@ -31,7 +31,7 @@ use Rattle.area.specs.Rows.{Linked, Rows}
 use Rattle.area.proofs.ReadBack.{cleared-at}
 use Rattle.marks.specs.Marks.{Marks, marksOf, lastCell, sourceCell, brokenCell, countIn, brokenIn}
 use Rattle.marks.specs.Testing.{loadHits, missingBy, observedBy}
-use Rattle.marks.specs.Judged.{noted, judgedNew, judged}
+use Rattle.marks.specs.Judged.{withBreaking}
 use Rattle.marks.specs.Ending.{copied, storesIn}
 use Rattle.marks.specs.Matching.{Judging, Loads, Unbroken, BrokenAt, MarksMatch}
 use Rattle.marks.proofs.Stepping.{chain, due-start}
@@ -40,7 +40,7 @@ use Rattle.marks.proofs.Breaking.{Hit}
 use Rattle.marks.proofs.Noting.{loads-start, says-there, loads-later}
 use Rattle.marks.proofs.Finding.{missing-is, observed-is}
 use Rattle.marks.proofs.Closing.{cut-is, stores-in-is, share-is}
-use Rattle.marks.proofs.EachLoad.{Part, again?, walkedOver, judgedAll, breaksAll, withBreaking}
+use Rattle.marks.proofs.EachLoad.{Part, again?, walkedOver, judgedAll, breaksAll}
 use Rattle.marks.proofs.EachLoad.{judgedAs, part-all}
 
 module _ (ev : ℕ → Event) where
@@ -217,38 +217,14 @@ module _ (ev : ℕ → Event) where
       by-test true = refl
       by-test false = refl
 
-  -- a load that counts as of itself is judged as the code does it
-  pub judged-load :
-      (l : List ℕ) (k : ℕ) (m : Marks)
-      → judged l m (headOf (chain ev k)) (location ev k) (source ev k) k ≡ judgedAs ev l k (k ∷ []) m
-  unfolding judgedAs judgedAll breaksAll judged judgedNew noted
-  judged-load l k m =
-      by-tests (eqb (brokenIn (m .counts)) 0) (again? ev m k) (loadHits l m (headOf (chain ev k)) (source ev k))
-    where
-      v : Marks
-      v = walkedOver ev l m k
-
-      with-load : List ℕ
-      with-load =
-          set (set (v .counts) (lastCell (location ev k)) (headOf (chain ev k))) (sourceCell (location ev k))
-          (source ev k)
-
-      by-tests :
-          (unbroken again hits : Bool)
-          → cond (not again && unbroken) (marksOf (cond hits (set with-load brokenCell k) with-load) (v .flags)) m
-          ≡ cond unbroken (withBreaking k (not again && hits) (cond again m (marksOf with-load (v .flags)))) m
-      by-tests true true hits = refl
-      by-tests true false true = refl
-      by-tests true false false = refl
-      by-tests false true hits = refl
-      by-tests false false hits = refl
-
   -- ---- the start
 
   -- no load counts as of the begin of an accepted trace
   none-at-begin : Accepted ev 1 → counting ev 0 ≡ []
-  unfolding counting counted
-  none-at-begin accepted = rw (begin-no-load ev 0 (begins ev 1 accepted (omega arith)))
+  unfolding counting countable
+  none-at-begin accepted =
+      let begun = begins ev 1 accepted (omega arith) in
+      rw (begin-no-load ev 0 begun, one-kind ev 0 1 16 (omega arith) begun)
 
   pub match-start : Accepted ev 1 → MarksMatch ev 1 (marksOf (replicate 648 0) (replicate 2048 0))
   unfolding any

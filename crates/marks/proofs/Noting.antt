@@ -130,16 +130,16 @@ module _ (ev : ℕ → Event) where
 
     -- the load is noted, among the loads that are judged with it
     pub noted-loads :
-        (e : ℕ) → length (m .counts) ≡ 648
+        length (m .counts) ≡ 648
         → Loads ev (suc n) (alsoMarks ev k F) (alsoSees ev k O)
-        (marksOf (noted (m .counts) (headOf (chain ev k)) (location ev k) (source ev k) e false) (m .flags))
-    noted-loads e size y there = by-location (same? y x)
+        (marksOf (noted (m .counts) (headOf (chain ev k)) (location ev k) (source ev k)) (m .flags))
+    noted-loads size y there = by-location (same? y x)
       where
         after : List ℕ
-        after = noted (m .counts) h x s e false
+        after = noted (m .counts) h x s
 
         source-is : countIn after (sourceCell x) ≡ s
-        source-is = noted-source (m .counts) h x s e false size
+        source-is = noted-source (m .counts) h x s size
 
         observes : s ≢ 0 → alsoSees ev k O s ≡ true
         observes some = or-left _ _ (→observes ev k s (record { from = refl; some-store = some }))
@@ -148,7 +148,7 @@ module _ (ev : ℕ → Event) where
         by-location (inl is-x) = rw is-x (record {
           k = k;
           early = omega arith;
-          last-is = noted-last (m .counts) h x s e false size;
+          last-is = noted-last (m .counts) h x s size;
           marked = λ p passes. or-left _ _ (rw source-is at passes);
           observed = λ some. rw source-is (observes (rw source-is at some));
         })
@@ -160,4 +160,4 @@ module _ (ev : ℕ → Event) where
           where
             leaves : (i : ℕ) → i < 640 → i ≢ lastCell x → i ≢ sourceCell x → countIn after i ≡ countIn (m .counts) i
             leaves i below not-last not-source =
-                noted-leaves (m .counts) h x s e false i not-last not-source (λ same. omega arith)
+                noted-leaves (m .counts) h x s i not-last not-source

@@ -13,14 +13,14 @@ use borrow.Author.Tests.{eqb-true, eq-eqb, ne-eqb}
 use Rattle.record.specs.declared.events.Event.{Event}
 use Rattle.model.specs.Search.{any}
 use Rattle.model.specs.Trace.{location, source, commit?, Commit, stretch}
-use Rattle.model.specs.Machine.{committed, counted, counting}
+use Rattle.model.specs.Machine.{committed, countable, counting}
 use Rattle.model.specs.Stores.{headOf, passed, landsAt, landed, marked?}
 use Rattle.model.specs.Rules.{Accepted}
 use Rattle.model.specs.Choice.{Choice}
 use Rattle.model.specs.Clocks.{vc}
 use Rattle.model.specs.Verdict.{observes?, observed?, closure}
 use Rattle.model.proofs.Searching.{test, same?, less?, parts, or-cases, or-right, eqb-same, greatest}
-use Rattle.model.proofs.Acceptance.{prefix, event-bound, counted-source}
+use Rattle.model.proofs.Acceptance.{prefix, event-bound, countable-source}
 use Rattle.model.proofs.Counting.{stretch-mono, earlier-stretch}
 use Rattle.model.proofs.Effects.{Effect, effect}
 use Rattle.model.proofs.Closure.{observes→, observed→, clock-in-closure}
@@ -138,7 +138,7 @@ module _ (ev : ℕ → Event) where
 
   pub record Found (n : ℕ) (l : List ℕ) (k : ℕ) : Type 0 where
     pub not-later : k ≤ n
-    pub is-counted : counted ev k ≡ true
+    pub is-countable : countable ev k ≡ true
     pub rows : Rows ev (suc n) l
     pub links : Linked l (headOf (chain k)) (chain k)
 
@@ -179,7 +179,7 @@ module _ (ev : ℕ → Event) where
             over : Over ev (suc n) (committed ev m)
             over =
                 let before-k =
-                chain-earlier ev (suc n) accepted k inside (found .is-counted) m (committed ev m) early commits it
+                chain-earlier ev (suc n) accepted k inside (found .is-countable) m (committed ev m) early commits it
                 (eqb-true _ _ (both-hold .1))
                 in
                 record {
@@ -191,7 +191,7 @@ module _ (ev : ℕ → Event) where
     pub source-fits : s ≢ 0 → Fit ev (suc n) s
     source-fits some =
         let inside : k < suc n = omega (arith, found .not-later) in
-        let from = counted-source ev (suc n) accepted k inside (found .is-counted) some in
+        let from = countable-source ev (suc n) accepted k inside (found .is-countable) some in
         fits ev (suc n) (suc n) s accepted (omega arith)
         (record {
           store = from .store;

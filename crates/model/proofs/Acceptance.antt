@@ -2,7 +2,7 @@
 -- for if the answer of a list of tests is 0, then every test in it failed.
 -- In order: the list read backwards, once; what an event has passed (a wait: `wait-signalled`); what a counted load is;
 -- where a load's source comes from (`own-source`, `commit-source` and `crossing-source`, by case; `source-from`,
--- `source-early`, `counted-source`).
+-- `source-early`, `countable-source`).
 use Prim.Native.Nat.{ℕ, zero, suc, _≤_, _<_}
 use native.Mathlib.Omega.{arith}
 use mathlib.Core.Path.{_≡_, refl, sym, _∙_}
@@ -14,10 +14,10 @@ use Rattle.record.specs.declared.events.Event.{Event}
 use Rattle.model.specs.Search.{last}
 use Rattle.model.specs.Trace.{thread, location, source, is, issue?, commit?, load?, crash?, begin?, drained?}
 use Rattle.model.specs.Trace.{skipOn?, skipOff?, signal?, wait?, Issue, Commit, Load, Signal, Wait}
-use Rattle.model.specs.Trace.{hasThread?, hasLocation?}
+use Rattle.model.specs.Trace.{hasThread?, hasLocation?, outcome, new?, open?, close?}
 use Rattle.model.specs.Trace.{threads, locations, stretch, commits, place}
 use Rattle.model.specs.Machine.{beside, commitsBefore, queued, oldest, committed, waits, waiting, commitsHere}
-use Rattle.model.specs.Machine.{current, past, sourceFits, signalled, crossing, skipping, counted}
+use Rattle.model.specs.Machine.{current, past, sourceFits, signalled, crossing, skipping, opened, countable}
 use Rattle.model.specs.Rules.{Rules, pass, _refuses_else_, answer, beginFits, rules, Accepted}
 use Rattle.model.proofs.Searching.{false-true, same?, parts, or-cases, or-fails, not-without, fails-after}
 use Rattle.model.proofs.Searching.{last-is}
@@ -48,6 +48,7 @@ module _ (ev : ℕ → Event) where
 
   -- the tests that it failed, by the numbers of the refusals, in the order of `rules`
   pub record Passed (n : ℕ) : Type 0 where
+    pub no-3 : new? ev n ≡ false
     pub no-1 : (eqb n 0 && not (begin? ev n)) ≡ false
     pub no-5 : (ltb 0 n && begin? ev n) ≡ false
     pub no-13 : (ltb 2048 n || crash? ev n && eqb (stretch ev n) 8) ≡ false
@@ -60,6 +61,9 @@ module _ (ev : ℕ → Event) where
     pub no-12 :
         (skipOn? ev n && skipping ev n (thread ev n) || skipOff? ev n && not (skipping ev n (thread ev n))) ≡ false
     pub no-18 : (wait? ev n && not (signalled ev n)) ≡ false
+    pub no-19 : (close? ev n && ltb 1 (outcome ev n)) ≡ false
+    pub no-12-open :
+        (open? ev n && opened ev n (thread ev n) || close? ev n && not (opened ev n (thread ev n))) ≡ false
 
   -- what the test of a wait's source says
   pub record Signalled (n : ℕ) : Type 0 where
@@ -73,8 +77,10 @@ module _ (ev : ℕ → Event) where
     passed n inside = by-number (passes (rules ev n) (accepted .passes n inside))
       where
         by-number : Passes (rules ev n) → Passed n
-        by-number (no-1, (no-5, (no-13, (no-6, (no-7, (no-8, (no-11, (no-9, (no-10, (no-12, (no-18, end))))))))))) =
+        by-number
+            (no-3, (no-1, (no-5, (no-13, (no-6, (no-7, (no-8, (no-11, (no-9, (no-10, (no-12, (no-18, (no-19, (no-12-open, end)))))))))))))) =
             record {
+              no-3 = no-3;
               no-1 = no-1;
               no-5 = no-5;
               no-13 = no-13;
@@ -86,6 +92,8 @@ module _ (ev : ℕ → Event) where
               no-10 = no-10;
               no-12 = no-12;
               no-18 = no-18;
+              no-19 = no-19;
+              no-12-open = no-12-open;
             }
 
     -- event 0, if there is any event, is a begin
@@ -144,9 +152,9 @@ module _ (ev : ℕ → Event) where
     pub none-waits : waiting ev l ≡ 0
     pub none-current : current ev l ≡ 0
 
-  pub counted-crosses : (l : ℕ) → counted ev l ≡ true → Crosses l
-  unfolding counted
-  counted-crosses l counts =
+  pub countable-crosses : (l : ℕ) → countable ev l ≡ true → Crosses l
+  unfolding countable
+  countable-crosses l counts =
       let crosses = parts (load? ev l && eqb (waiting ev l) 0) _ (parts (crossing ev l) _ counts .0) in
       let unqueued = parts (load? ev l) _ (crosses .0) in
       record {
@@ -321,8 +329,8 @@ module _ (ev : ℕ → Event) where
         by-source (inr some) = by-case (source-from l inside loads some)
 
     -- the source of a counted load, if it is a store
-    pub counted-source : (l : ℕ) → l < N → counted ev l ≡ true → source ev l ≢ 0 → FromPast l (source ev l)
-    counted-source l inside counts =
-        let crosses = counted-crosses l counts in
+    pub countable-source : (l : ℕ) → l < N → countable ev l ≡ true → source ev l ≢ 0 → FromPast l (source ev l)
+    countable-source l inside counts =
+        let crosses = countable-crosses l counts in
         let fits = fitting N accepted l inside (crosses .loads) in
         crossing-source l fits (crosses .none-waits) (crosses .none-current)

@@ -17,7 +17,7 @@ use Rattle.model.specs.Trace.{thread, location, source, issue?, commit?,
 use Rattle.model.specs.Trace.{stretch, count, issues, commits, place}
 use Rattle.model.specs.Machine.{beside, commitsBefore, queued, oldest, committed, commitsIt, commitOf}
 use Rattle.model.specs.Machine.{waits, waiting, commitsHere, current, past, sourceFits, signalled, switched}
-use Rattle.model.specs.Machine.{skipping, counted, counting}
+use Rattle.model.specs.Machine.{skipping, opened, countable, held, counting}
 use Rattle.model.specs.Rules.{beginFits, rules, refusal, Accepted}
 use Rattle.model.specs.HappensBefore.{Precedes, own, read, handed, chain, Before, AtOrBefore}
 use Rattle.model.proofs.Searching.{less?, last-same, last-within}
@@ -204,13 +204,39 @@ module _ {N : ℕ} {ev other : ℕ → Event} (agree : Agree N ev other) where
   skipping-same : (n t : ℕ) → n ≤ N → skipping ev n t ≡ skipping other n t
   skipping-same = switched-same _ _ _ _ (λ e inside. rw (agree e inside)) (λ e inside. rw (agree e inside))
 
-  pub counting-same : (n : ℕ) → n < N → counting ev n ≡ counting other n
-  unfolding counting counted
-  counting-same n inside =
+  opened-same : (n t : ℕ) → n ≤ N → opened ev n t ≡ opened other n t
+  opened-same = switched-same _ _ _ _ (λ e inside. rw (agree e inside)) (λ e inside. rw (agree e inside))
+
+  countable-same : (n : ℕ) → n < N → countable ev n ≡ countable other n
+  unfolding countable
+  countable-same n inside =
       rw (
         waiting-same n inside,
         current-same n inside,
         skipping-same n (thread ev n) (omega arith),
+        thread-same n inside,
+        agree n inside,
+      )
+
+  held-same : (n t : ℕ) → n ≤ N → held ev n t ≡ held other n t
+  unfolding held
+  held-same zero t within = refl
+  held-same (suc n) t within =
+      rw (
+        held-same n t (omega arith),
+        countable-same n within,
+        opened-same (suc n) t within,
+        thread-same n within,
+      )
+
+  pub counting-same : (n : ℕ) → n < N → counting ev n ≡ counting other n
+  unfolding counting
+  counting-same n inside =
+      rw (
+        held-same n (thread ev n) (omega arith),
+        countable-same n inside,
+        opened-same n (thread ev n) (omega arith),
+        field-same n inside (λ f. f .outcome),
         thread-same n inside,
         agree n inside,
       )
@@ -249,10 +275,13 @@ module _ {N : ℕ} {ev other : ℕ → Event} (agree : Agree N ev other) where
         signalled-same n inside,
         queued-same n inside,
         skipping-same n (thread ev n) (omega arith),
+        opened-same n (thread ev n) (omega arith),
         stretch-same n (omega arith),
         thread-same n inside,
         location-same n inside,
         beginFits-same n inside,
+        field-same n inside (λ f. f .outcome),
+        field-same 0 (omega arith) (λ f. f .version),
         field-same 0 (omega arith) (λ f. f .threads),
         field-same 0 (omega arith) (λ f. f .locations),
         agree n inside,

@@ -9,9 +9,10 @@ use Rattle.record.specs.Reading.{readAt, readFirst, readFramed, frame}
 use Rattle.record.specs.Parts.{start, sizeAt}
 use Rattle.record.specs.Table.{rowOf}
 use Rattle.record.specs.Fields.{eventOf}
+use Rattle.record.specs.Versions.{laterRefusal}
 use Rattle.model.specs.Search.{some, any, first, firstFrom, most}
 use Rattle.model.specs.Trace.{stretch, count}
-use Rattle.model.specs.Machine.{counted, counting}
+use Rattle.model.specs.Machine.{countable, held, counting}
 use Rattle.model.specs.Rules.{answer, rules}
 use Rattle.model.specs.Choice.{finished}
 use Rattle.model.specs.Verdict.{forbidden?, observed?, pair?, missing?, bad?, closure, rulingOf}
@@ -130,6 +131,6 @@ answers =
 
 pub no-bytes-as-worked : map outcomeOf sessions ≡ answers
 unfolding sessions answers judgeOf cutAfter readingOf stop recordAt events some any first firstFrom most answer rules
-    readAt readFirst readFramed frame start sizeAt rowOf eventOf stretch count counted counting finished forbidden?
-    observed? pair? missing? bad? closure rulingOf tabulate cutOf sum shareOf
+    readAt readFirst readFramed frame start sizeAt rowOf eventOf laterRefusal stretch count countable held counting
+    finished forbidden? observed? pair? missing? bad? closure rulingOf tabulate cutOf sum shareOf
 no-bytes-as-worked = refl

@@ -16,7 +16,7 @@ use borrow.Author.Tests.{eqb-true, eqb-false, eq-eqb, ne-eqb, ltb-true, lt-ltb, 
 use Rattle.record.specs.declared.events.Event.{Event}
 use Rattle.model.specs.Search.{any, last}
 use Rattle.model.specs.Trace.{thread, location, source, commit?, Commit, stretch, count}
-use Rattle.model.specs.Machine.{committed, commitsHere, current, counted, counting, counts, commitOf}
+use Rattle.model.specs.Machine.{committed, commitsHere, current, countable, counting, counts, commitOf}
 use Rattle.model.specs.Stores.{headOf, passed, landsAt, landed, committed?, marked?}
 use Rattle.model.specs.Rules.{Accepted}
 use Rattle.model.specs.Choice.{Newer, Forbids}
@@ -27,7 +27,7 @@ use Rattle.model.proofs.StorePlaces.{last-most}
 use Rattle.model.proofs.Unchanged.{count-away, Lacks, landed-once}
 use Rattle.model.proofs.Counting.{stretch-mono}
 use Rattle.model.proofs.CountedLoads.{counts-as-of}
-use Rattle.model.proofs.Acceptance.{store-not-0, counted-crosses, counted-source}
+use Rattle.model.proofs.Acceptance.{store-not-0, countable-crosses, countable-source}
 use Rattle.model.proofs.Committed.{Committed, CommitOf, commit-of, is-commit-of, has-commit}
 use Rattle.model.proofs.Effects.{Effect, effect, effect-is, effect-commit, commit-effect}
 use Rattle.model.proofs.Pairs.{forbids→, →forbids}
@@ -234,13 +234,13 @@ module _ (ev : ℕ → Event) where
             let d-inside : d < N = omega (arith, found .0) in
             store-not-0 ev N accepted (omega arith) (effect ev N d accepted d-inside d-commits .own .store) none
 
-    module _ (n : ℕ) (inside : n < N) (counts : counted ev n ≡ true) where
+    module _ (n : ℕ) (inside : n < N) (counts : countable ev n ≡ true) where
       -- a store of the chain of the load's location is of an earlier stretch
       pub chain-earlier :
           (c p : ℕ) → c < n → Commit ev c → Effect ev c p → location ev p ≡ location ev n
           → stretch ev p < stretch ev n
       chain-earlier c p early commits it at-n =
-          let none = counted-crosses ev n counts .none-current in
+          let none = countable-crosses ev n counts .none-current in
           let elsewhere = none-here n c p (omega arith) none early commits it at-n in
           omega (arith, stretch-mono ev p n (omega (arith, it .early)))
 
@@ -252,7 +252,7 @@ module _ (ev : ℕ → Event) where
 
       source-commit : source ev n ≢ 0 → SourceCommit
       source-commit some =
-          let from = counted-source ev N accepted n inside counts some in
+          let from = countable-source ev N accepted n inside counts some in
           let commit = commit-of ev n (source ev n) (from .committed) in
           record {
             d = commitOf ev n (source ev n);
@@ -329,7 +329,7 @@ module _ (ev : ℕ → Event) where
       forbids-is-passed p = same-test _ _ to-passed from-passed
         where
           source-there : source ev n ≢ 0 → location ev (source ev n) ≡ location ev n
-          source-there some = counted-source ev N accepted n inside counts some .to-it
+          source-there some = countable-source ev N accepted n inside counts some .to-it
 
           to-passed :
               (forbids? ev n p && committed? ev n p) ≡ true
@@ -409,4 +409,4 @@ module _ (ev : ℕ → Event) where
         each l here =
             let it = counts-as-of ev n l here in
             forbids-then l n p (it .not-later)
-            ∙ forbids-is-passed l (omega (arith, it .not-later)) (it .is-counted) p
+            ∙ forbids-is-passed l (omega (arith, it .not-later)) (it .is-countable) p

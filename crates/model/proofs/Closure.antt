@@ -23,9 +23,9 @@ use Rattle.model.proofs.Searching.{test, less?, both, parts, eqb-same, 
 use Rattle.model.proofs.Counting.{stretch-mono, earlier-stretch, count-mono}
 use Rattle.model.proofs.Ordering.{before-first, before-last, before-at-or-before, same-stretch}
 use Rattle.model.proofs.Clocks.{clock-is-happens-before, ClockPlace, clock-place}
-use Rattle.model.proofs.Acceptance.{FromPast, counted-source}
+use Rattle.model.proofs.Acceptance.{FromPast, countable-source}
 use Rattle.model.proofs.Committed.{Committed, before-committed}
-use Rattle.model.proofs.CountedLoads.{counted-early, counted-load}
+use Rattle.model.proofs.CountedLoads.{counted-early, countable-load}
 
 module _ (ev : ℕ → Event) where
   -- ---- the observed stores, as a test
@@ -67,9 +67,9 @@ module _ (ev : ℕ → Event) where
   pub observed-is-committed : (N : ℕ) → Accepted ev N → (s : ℕ) → Observed ev N s → CommittedEarlier N s
   observed-is-committed N accepted s (l, counts, it) =
       let inside : l < N = counted-early ev N l counts in
-      let heeds = counted-load ev N l counts in
+      let heeds = countable-load ev N l counts in
       let from : FromPast ev l s =
-      rw (it .from) at (counted-source ev N accepted l inside heeds (rw (it .from) (it .some-store)))
+      rw (it .from) at (countable-source ev N accepted l inside heeds (rw (it .from) (it .some-store)))
       in
       let j = stretch ev s in
       let no-fewer = count-mono ev (commit? ev) l N j (thread ev s) (omega arith) in

@@ -9,15 +9,17 @@ use lib.Dec.{eqb, ltb, leb}
 use borrow.Author.Tests.{le-ltb}
 use Rattle.record.specs.declared.events.Event.{Event}
 use Rattle.model.specs.Trace.{thread, location, hasThread?, hasLocation?, threads, locations, stretch, begin?}
-use Rattle.model.specs.Trace.{source, issue?, commit?, load?, drained?, skipOn?, skipOff?, wait?}
-use Rattle.model.specs.Machine.{queued, sourceFits, signalled, skipping}
+use Rattle.model.specs.Trace.{source, issue?, commit?, load?, drained?, skipOn?, skipOff?, wait?, open?, close?}
+use Rattle.model.specs.Trace.{outcome, new?}
+use Rattle.model.specs.Machine.{queued, sourceFits, signalled, skipping, opened}
 use Rattle.model.specs.Rules.{beginFits, rules, refusal, Accepted}
 use Rattle.model.specs.Embedding.{Naming, Embedding, Apart, SameEvent, SameBegin}
 use Rattle.model.proofs.Acceptance.{event-bound}
 use Rattle.model.proofs.Ranges.{commit-has-thread, drained-has-thread, skip-on-has-thread, skip-off-has-thread}
+use Rattle.model.proofs.Ranges.{open-has-thread, close-has-thread}
 use Rattle.model.proofs.Numberings.{number-zero, kept-le, number-below, number-eqb-zero, number-ltb}
 use Rattle.model.proofs.EmbeddedTrace.{by-role, stretch-kept, stretch-store, issues-at, commits-before-at}
-use Rattle.model.proofs.EmbeddedTrace.{skipping-kept}
+use Rattle.model.proofs.EmbeddedTrace.{skipping-kept, opened-kept}
 use Rattle.model.proofs.EmbeddedMachine.{sourceFits-at}
 
 module _
@@ -26,6 +28,9 @@ module _
   module _ (n e : ℕ) (same : SameEvent via n e) where
     at-store : via .stores .kept n ≡ e
     at-store = rw (same .as-store) at (via .stores .kept-number e)
+
+    at-load : via .loads .kept n ≡ e
+    at-load = rw (same .as-load) at (via .loads .kept-number e)
 
     at-commit : via .commits .kept n ≡ e
     at-commit = rw (same .as-commit) at (via .commits .kept-number e)
@@ -96,6 +101,30 @@ module _
         by-role (skipOff? part e) (λ it. rw (skipping-same (skip-off-has-thread part e it), same .kind-same))
         (λ other. rw (same .kind-same, other))
 
+    opened-same : hasThread? part e ≡ true → opened whole n (thread whole n) ≡ opened part e (thread part e)
+    opened-same has =
+        rw (same .thread-same has) (opened-kept via n (thread part e) (same .thread-own has) ∙ rw at-load)
+
+    open-rule : (open? whole n && opened whole n (thread whole n)) ≡ (open? part e && opened part e (thread part e))
+    open-rule =
+        by-role (open? part e) (λ it. rw (opened-same (open-has-thread part e it), same .kind-same))
+        (λ other. rw (same .kind-same, other))
+
+    close-rule :
+        (close? whole n && not (opened whole n (thread whole n)))
+        ≡ (close? part e && not (opened part e (thread part e)))
+    close-rule =
+        by-role (close? part e) (λ it. rw (opened-same (close-has-thread part e it), same .kind-same))
+        (λ other. rw (same .kind-same, other))
+
+    outcome-rule : (close? whole n && ltb 1 (outcome whole n)) ≡ (close? part e && ltb 1 (outcome part e))
+    outcome-rule =
+        by-role (close? part e)
+        (λ it.
+        let there : outcome whole n ≡ outcome part e = rw (same .as-load) at (via .outcome-same e it) in
+        rw (there, same .kind-same))
+        (λ other. rw (same .kind-same, other))
+
     signalled-same : wait? part e ≡ true → signalled whole n ≡ signalled part e
     signalled-same waits =
         let s = source part e in
@@ -114,6 +143,9 @@ module _
     later-same : ltb 0 n ≡ ltb 0 e
     later-same = rw (same .as-store, number-zero (via .stores)) at (number-ltb (via .stores) 0 e)
 
+    new-rule : new? whole n ≡ new? part e
+    new-rule = rw (begins .version-same, same .kind-same, later-same)
+
     begin-rule : (begin? whole n && not (beginFits whole n)) ≡ (begin? part e && not (beginFits part e))
     begin-rule =
         by-role (begin? part e) (λ begin. rw (same .begin-fits begin, same .kind-same))
@@ -127,6 +159,7 @@ module _
         le-ltb 2048 n inside ∙ sym (le-ltb 2048 e (omega (arith, kept-le (via .stores) n, at-store)))
         in
         rw (
+          new-rule,
           begin-rule,
           thread-rule,
           location-rule,
@@ -136,6 +169,9 @@ module _
           skip-on-rule,
           skip-off-rule,
           wait-rule,
+          outcome-rule,
+          open-rule,
+          close-rule,
           first-same,
           later-same,
           limit-same,

@@ -12,7 +12,7 @@ use lib.Dec.{eqb}
 use Rattle.record.specs.declared.events.Event.{Event}
 use Rattle.model.specs.Search.{bit, last}
 use Rattle.model.specs.Trace.{thread, issue?, commit?, load?, crash?, stretch, count, issues, commits, place}
-use Rattle.model.specs.Machine.{commitsBefore, switched, skipping}
+use Rattle.model.specs.Machine.{commitsBefore, switched, skipping, opened}
 use Rattle.model.specs.Embedding.{Numbering, Naming, Role, Near, Embedding}
 use Rattle.model.proofs.Searching.{third-fails, test}
 use Rattle.model.proofs.Counting.{stretch-else}
@@ -74,7 +74,7 @@ module _
     carried-thread : (e : ℕ) → plays? part e ≡ true → eqb (thread whole (by .number e)) u ≡ eqb (thread part e) t
     carried-thread e plays = rw (role .thread-same e plays, same-thread) (into-eqb threadsBy (thread part e) t)
 
-    of-thread :
+    pub of-thread :
         Carried by (λ n. plays? whole n && eqb (thread whole n) u) (λ e. plays? part e && eqb (thread part e) t)
     of-thread = record {
       gap-fails = λ n gap.
@@ -171,42 +171,98 @@ module _
       commits-before-at (via .loads .number l) l (via .loading .thread-same l loads) (via .loading .thread-own l loads)
       (stretch-load l) (via .commits-at-load l)
 
+  -- ---- crashes, by the numbers of stores and of loads
+
+  record Crashing (by : Numbering) : Type 0 where
+    pub there : (n : ℕ) → by .gap? n ≡ false → crash? whole n ≡ crash? part (by .kept n)
+    pub gap-none : (n : ℕ) → by .gap? n ≡ true → crash? whole n ≡ false
+
+  store-crashes : Crashing (via .stores)
+  store-crashes = record { there = crash-kept; gap-none = via .crash-stays }
+
+  -- an event that has loaded, but not yet stored, is no crash: no crash is divided
+  load-crashes : Crashing (via .loads)
+  load-crashes = record {
+    there = λ n event. here n event (test (via .stores .gap? n)) (via .store-near n) (via .store-near (suc n));
+    gap-none = λ n gap. none n gap (test (via .stores .gap? n)) (via .store-near n) (via .store-near (suc n));
+  }
+    where
+      here :
+          (n : ℕ) → via .loads .gap? n ≡ false → (via .stores .gap? n ≡ true) ⊎ (via .stores .gap? n ≡ false)
+          → Near part (via .loads .kept n) (via .stores .kept n)
+          → Near part (via .loads .kept (suc n)) (via .stores .kept (suc n))
+          → crash? whole n ≡ crash? part (via .loads .kept n)
+      here n event (inr stored) (inl same) next = rw same (crash-kept n stored)
+      here n event (inr stored) (inr (one-more, none)) (inl same) =
+          absurd (omega (arith, via .loads .kept-event n event, via .stores .kept-event n stored))
+      here n event (inr stored) (inr (one-more, none)) (inr (again, none-again)) =
+          crash-kept n stored ∙ none ∙ sym (rw (via .stores .kept-event n stored, ← one-more) at none-again)
+      here n event (inl gap) (inl same) (inl next-same) =
+          absurd (omega (arith, via .loads .kept-event n event, via .stores .kept-gap n gap))
+      here n event (inl gap) (inl same) (inr (one-more, none)) =
+          via .crash-stays n gap ∙ sym (rw (via .stores .kept-gap n gap, ← same) at none)
+      here n event (inl gap) (inr (one-more, none)) next =
+          absurd (by-next next)
+        where
+          by-next : Near part (via .loads .kept (suc n)) (via .stores .kept (suc n)) → ⊥
+          by-next (inl same) = omega (arith, via .loads .kept-event n event, via .stores .kept-gap n gap)
+          by-next (inr (again, none-again)) =
+              omega (arith, via .loads .kept-event n event, via .stores .kept-gap n gap)
+
+      none :
+          (n : ℕ) → via .loads .gap? n ≡ true → (via .stores .gap? n ≡ true) ⊎ (via .stores .gap? n ≡ false)
+          → Near part (via .loads .kept n) (via .stores .kept n)
+          → Near part (via .loads .kept (suc n)) (via .stores .kept (suc n)) → crash? whole n ≡ false
+      none n gap (inl stores-gap) near next = via .crash-stays n stores-gap
+      none n gap (inr stored) (inr (one-more, no-crash)) next = crash-kept n stored ∙ no-crash
+      none n gap (inr stored) (inl same) next = absurd (by-next next)
+        where
+          by-next : Near part (via .loads .kept (suc n)) (via .stores .kept (suc n)) → ⊥
+          by-next (inl next-same) = omega (arith, via .loads .kept-gap n gap, via .stores .kept-event n stored)
+          by-next (inr (again, none-again)) =
+              omega (arith, via .loads .kept-gap n gap, via .stores .kept-event n stored)
+
   -- ---- switches
 
   module _
-      {on? off? : (ℕ → Event) → ℕ → Bool} (on : Role on? (via .stores) threadsBy part whole)
-      (off : Role off? (via .stores) threadsBy part whole) where
+      {by : Numbering} (crashes : Crashing by) {on? off? : (ℕ → Event) → ℕ → Bool}
+      (on : Role on? by threadsBy part whole) (off : Role off? by threadsBy part whole) where
     switched-kept :
         (n t : ℕ) → threadsBy .own? (threadsBy .into t) ≡ true
         → switched whole (on? whole) (off? whole) n (threadsBy .into t)
-        ≡ switched part (on? part) (off? part) (via .stores .kept n) t
+        ≡ switched part (on? part) (off? part) (by .kept n) t
     unfolding switched
-    switched-kept zero t own = rw (via .stores .kept-none)
-    switched-kept (suc n) t own = by-gap (test (via .stores .gap? n)) (switched-kept n t own)
+    switched-kept zero t own = rw (by .kept-none)
+    switched-kept (suc n) t own = by-gap (test (by .gap? n)) (switched-kept n t own)
       where
         by-gap :
-            (via .stores .gap? n ≡ true) ⊎ (via .stores .gap? n ≡ false)
+            (by .gap? n ≡ true) ⊎ (by .gap? n ≡ false)
             → switched whole (on? whole) (off? whole) n (threadsBy .into t)
-            ≡ switched part (on? part) (off? part) (via .stores .kept n) t
+            ≡ switched part (on? part) (off? part) (by .kept n) t
             → switched whole (on? whole) (off? whole) (suc n) (threadsBy .into t)
-            ≡ switched part (on? part) (off? part) (via .stores .kept (suc n)) t
+            ≡ switched part (on? part) (off? part) (by .kept (suc n)) t
         by-gap (inl gap) earlier =
             rw (
-              via .stores .kept-gap n gap,
-              via .crash-stays n gap,
+              by .kept-gap n gap,
+              crashes .gap-none n gap,
               of-thread on {t = t} refl own .gap-fails n gap,
               of-thread off {t = t} refl own .gap-fails n gap,
             ) (and-true _ ∙ earlier)
         by-gap (inr event) earlier =
             rw (
-              via .stores .kept-event n event,
-              kept-same (via .stores) (of-thread on {t = t} refl own) n event,
-              kept-same (via .stores) (of-thread off {t = t} refl own) n event,
-              crash-kept n event,
+              by .kept-event n event,
+              kept-same by (of-thread on {t = t} refl own) n event,
+              kept-same by (of-thread off {t = t} refl own) n event,
+              crashes .there n event,
               earlier,
             )
 
   pub skipping-kept :
       (n t : ℕ) → threadsBy .own? (threadsBy .into t) ≡ true
       → skipping whole n (threadsBy .into t) ≡ skipping part (via .stores .kept n) t
-  skipping-kept = switched-kept (via .skip-on) (via .skip-off)
+  skipping-kept = switched-kept store-crashes (via .skip-on) (via .skip-off)
+
+  pub opened-kept :
+      (n t : ℕ) → threadsBy .own? (threadsBy .into t) ≡ true
+      → opened whole n (threadsBy .into t) ≡ opened part (via .loads .kept n) t
+  opened-kept = switched-kept load-crashes (via .opening) (via .closing)

@@ -6,21 +6,21 @@
 -- broken ruling names is a counted one; `named-missing`, `named-observed`: what it names are stores.
 use Prim.Native.Nat.{ℕ, zero, suc, _≤_, _<_}
 use native.Mathlib.Omega.{arith}
-use mathlib.Core.Path.{_≡_, sym, _∙_, ap, fun-ext}
+use mathlib.Core.Path.{_≡_, refl, sym, _∙_, ap, fun-ext}
 use mathlib.Core.Bool.{true, false}
 use mathlib.Core.Logic.{_⊎_, inl, inr}
-use mathlib.Core.List.{[]}
-use lib.Dec.{ltb}
-use borrow.Author.Tests.{lt-ltb, le-ltb}
+use mathlib.Core.List.{List, [], _∷_}
+use lib.Dec.{eqb, ltb}
+use borrow.Author.Tests.{eq-eqb, lt-ltb, le-ltb}
 use Rattle.record.specs.declared.events.Event.{Event}
 use Rattle.model.specs.Trace.{commit?, Issue, stretch, count}
 use Rattle.model.specs.Search.{some, any}
-use Rattle.model.specs.Machine.{counted, counting, counts}
+use Rattle.model.specs.Machine.{counting, counts}
 use Rattle.model.specs.Rules.{Accepted}
 use Rattle.model.specs.Choice.{Choice, Ruling, robust, broken, finished, Counted, ExplainsLoad, Explains}
 use Rattle.model.specs.Choice.{Robust, Least, Pair, Broken, Exact}
 use Rattle.model.specs.Verdict.{pair?, missing?, bad?, closure, loadOf, missingOf, observedOf, rulingOf}
-use Rattle.model.proofs.Searching.{false-true, test, either-way, less?, →some, First, first-is}
+use Rattle.model.proofs.Searching.{false-true, test, either-way, or-left, less?, →some, First, first-is}
 use Rattle.model.proofs.Counting.{stretch-mono, count-mono}
 use Rattle.model.proofs.Acceptance.{prefix}
 use Rattle.model.proofs.CountedLoads.{counted-later, counted-step}
@@ -245,14 +245,15 @@ module _ (ev : ℕ → Event) where
       by-last l (inr before) = explains .loads l before
       by-last l (inl now) = false-true (rw none at now)
 
-  pub named-load-counts : {N load missing observed : ℕ} → Broken ev N load missing observed → counted ev load ≡ true
-  unfolding counting
-  named-load-counts {N} {load} it = by-test (test (counted ev load))
+  -- the event that it names as load has a load that counts as of it
+  pub named-load-counts :
+      {N load missing observed : ℕ} → Broken ev N load missing observed → (l : ℕ) × (counts ev load l ≡ true)
+  unfolding any
+  named-load-counts {N} {load} it = by-list (counting ev load) refl
     where
-      by-test : (counted ev load ≡ true) ⊎ (counted ev load ≡ false) → counted ev load ≡ true
-      by-test (inl counts) = counts
-      by-test (inr fails) =
-          absurd (it .none-yet (uncounted-adds-nothing load (rw fails) (it .first load (omega arith))))
+      by-list : (ls : List ℕ) → counting ev load ≡ ls → (l : ℕ) × (counts ev load l ≡ true)
+      by-list [] none = absurd (it .none-yet (uncounted-adds-nothing load none (it .first load (omega arith))))
+      by-list (l ∷ ls) is = (l, rw is (or-left (eqb l l) _ (eq-eqb l l refl)))
 
   -- the stores that it names: missing is a store, and observed is one that is committed
   pub named-missing : {N load missing observed : ℕ} → Broken ev N load missing observed → Issue ev missing

@@ -33,6 +33,7 @@ pub mod LoadRule
 pub mod Committed
 pub mod Effects
 pub mod Ranges
+pub mod Holding
 pub mod CountedLoads
 pub mod FlushPlaces
 pub mod Closure
@@ -84,5 +85,6 @@ pub mod CasesOfLocked
 pub mod CasesOfHandOver
 pub mod CasesOfOneLine
 pub mod CasesOfNoBytes
+pub mod CasesOfChecksums
 pub mod NoTrace
 pub mod RandomSessions

@@ -9,8 +9,7 @@ use mathlib.Core.Logic.{_⊎_, inl, inr, _≢_}
 use lib.Dec.{eqb, ltb, leb}
 use borrow.Author.Tests.{eqb-true, eqb-false, leb-true, leb-false}
 use Rattle.record.specs.declared.events.Event.{Event}
-use Rattle.record.specs.Fields.{fieldsOf}
-use Rattle.model.specs.Trace.{thread, location, is, crash?, hasThread?, hasLocation?, threads, locations}
+use Rattle.model.specs.Trace.{thread, location, is, crash?, hasThread?, hasLocation?, version, threads, locations}
 use Rattle.model.specs.Trace.{stretch}
 use Rattle.model.specs.Rules.{within, beginFits, refusal, Accepted}
 use Rattle.model.proofs.Searching.{test, parts, or-fails, not-without, fails-after}
@@ -46,8 +45,8 @@ module _ (ev : ℕ → Event) where
 
       threads-fit : within 1 8 (threads ev) ≡ true
       threads-fit =
-          let both-ranges = parts (eqb (fieldsOf (ev 0) .version) 1 && within 1 8 (threads ev)) _ begin-fits in
-          parts (eqb (fieldsOf (ev 0) .version) 1) _ (both-ranges .0) .1
+          let both-ranges = parts (within 1 2 (version ev) && within 1 8 (threads ev)) _ begin-fits in
+          parts (within 1 2 (version ev)) _ (both-ranges .0) .1
 
       pub some-thread : 1 ≤ threads ev
       some-thread = leb-true 1 (threads ev) (parts (leb 1 (threads ev)) _ threads-fit .0)
@@ -57,7 +56,7 @@ module _ (ev : ℕ → Event) where
 
       pub few-locations : locations ev ≤ 256
       few-locations =
-          let both-ranges = parts (eqb (fieldsOf (ev 0) .version) 1 && within 1 8 (threads ev)) _ begin-fits in
+          let both-ranges = parts (within 1 2 (version ev) && within 1 8 (threads ev)) _ begin-fits in
           leb-true (locations ev) 256 (parts (leb 1 (locations ev)) _ (both-ranges .1) .1)
 
     -- ---- an event's thread and location

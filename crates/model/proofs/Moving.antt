@@ -11,6 +11,7 @@ use lib.ListN.{List·getD-map}
 use Rattle.record.specs.declared.events.Event.{Event}
 use Rattle.record.specs.declared.events.Event.the-variants.{Begin, Issue, Commit, Load, Clflush, Clwb, Sfence, Mfence}
 use Rattle.record.specs.declared.events.Event.the-variants.{Crash, SkipOn, SkipOff, Locked, Signal, Wait}
+use Rattle.record.specs.declared.events.Event.the-variants.{Open, Close}
 use Rattle.record.specs.declared.events.Fields.{Fields}
 use Rattle.record.specs.Events.{kindOf}
 use Rattle.record.specs.Fields.{eventOf, threadFields, fieldsOf, TwoByte}
@@ -29,6 +30,7 @@ pub record Renumbered (f : ℕ → ℕ) (e d : Event) : Type 0 where
   pub version-same : fieldsOf e .version ≡ fieldsOf d .version
   pub threads-same : fieldsOf e .threads ≡ fieldsOf d .threads
   pub locations-same : fieldsOf e .locations ≡ fieldsOf d .locations
+  pub outcome-same : fieldsOf e .outcome ≡ fieldsOf d .outcome
 
 -- an event loads or waits, and then its fields but the source stay; or it has no source, and stays
 data Source (f : ℕ → ℕ) (e : Event) : Type 0 where
@@ -53,6 +55,8 @@ source-of f (SkipOff t) = stays refl refl
 source-of f (Locked t x s) = moves refl refl refl
 source-of f (Signal t) = stays refl refl
 source-of f (Wait t s) = moves refl refl refl
+source-of f (Open t) = stays refl refl
+source-of f (Close t o) = stays refl refl
 
 pub moved-is : (f : ℕ → ℕ) → f 0 ≡ 0 → (e : Event) → Renumbered f e (moved f e)
 moved-is f keeps-0 e = by-source (source-of f e)
@@ -66,6 +70,7 @@ moved-is f keeps-0 e = by-source (source-of f e)
       version-same = sym (ap (λ (x : Fields). x .version) fields-are);
       threads-same = sym (ap (λ (x : Fields). x .threads) fields-are);
       locations-same = sym (ap (λ (x : Fields). x .locations) fields-are);
+      outcome-same = sym (ap (λ (x : Fields). x .outcome) fields-are);
     }
     by-source (stays left no-source) = record {
       kind-same = rw left;
@@ -75,6 +80,7 @@ moved-is f keeps-0 e = by-source (source-of f e)
       version-same = rw left;
       threads-same = rw left;
       locations-same = rw left;
+      outcome-same = rw left;
     }
 
 pub moved-kind : (f : ℕ → ℕ) (e : Event) → kindOf (moved f e) ≡ kindOf e
@@ -107,7 +113,7 @@ moved-there f es n = rw (moved-crash f) at (List·getD-map (moved f) es n Crash)
 pub fields-two-byte : {t x s : ℕ} → t < 65536 → x < 65536 → s < 65536 → TwoByte (threadFields t x s)
 fields-two-byte thread location source =
     let none : 0 < 65536 = omega arith in
-    record { small = (thread, (location, (source, (none, (none, (none, tt)))))) }
+    record { small = (thread, (location, (source, (none, (none, (none, (none, tt))))))) }
 
 -- a renumbered event has two-byte fields, if its source is a two-byte number
 pub moved-two-byte :
@@ -123,6 +129,7 @@ moved-two-byte is new-source two-byte =
             ← is .version-same,
             ← is .threads-same,
             ← is .locations-same,
+            ← is .outcome-same,
           )
           (thread, (location, (new-source, rest)));
     }

@@ -7,7 +7,7 @@
 use Prim.Native.Nat.{ℕ, _≤_, _<_}
 use native.Mathlib.Omega.{arith}
 use mathlib.Core.Path.{_≡_, refl, sym, _∙_}
-use mathlib.Core.Bool.{Bool, true, false, _&&_, not}
+use mathlib.Core.Bool.{Bool, true, false, _&&_, not, and-false}
 use mathlib.Core.Logic.{_⊎_, inl, inr, _≢_, _↔_}
 use mathlib.Core.List.{List, [], _∷_}
 use lib.ListN.{length, replicate}
@@ -16,12 +16,13 @@ use borrow.Author.Tests.{eqb-true, eqb-false, eq-eqb, ne-eqb, not-true}
 use Rattle.record.specs.declared.events.Event.{Event}
 use Rattle.record.specs.Events.{kindOf}
 use Rattle.record.specs.Parts.{start}
+use Rattle.record.specs.Versions.{knownIn}
 use Rattle.record.specs.Reading.{readAt}
 use Rattle.record.specs.Tests.{_gives_else_}
 use Rattle.record.proofs.Frames.{clash, Answers, an-event, a-refusal}
 use Rattle.record.proofs.Starts.{start-inside, one-past-end, read-at-answers}
 use Rattle.model.specs.Search.{some, first, firstFrom, most}
-use Rattle.model.specs.Trace.{begin?, stretch, count}
+use Rattle.model.specs.Trace.{kind, version, new?, begin?, stretch, count}
 use Rattle.model.specs.Rules.{Rules, pass, _refuses_else_, answer, rules, refusal}
 use Rattle.model.specs.Choice.{Ruling, robust, broken, finished}
 use Rattle.model.specs.Verdict.{bad?, closure, rulingOf}
@@ -31,7 +32,7 @@ use Rattle.model.specs.Answers.{tabulate, cutOf, sum, shareOf}
 use Rattle.model.specs.Answers as answers
 use Rattle.model.specs.Judge.{smallWork, wrongCut, ruledAnswer, readingAnswer, readingCut, judgeOf, cutAfter}
 use Rattle.model.proofs.Searching.{false-true, same?, less?, parts}
-use Rattle.model.proofs.TurnedAway.{ends-there, unread-there, forbidden-there, passing-there, ended→}
+use Rattle.model.proofs.TurnedAway.{ends-there, in-trace-one, unread-there, forbidden-there, passing-there, ended→}
 use Rattle.model.proofs.TurnedAway.{four-bytes-each, accepted-exactly, turned-away-exactly}
 
 -- ---- accepted with no records
@@ -165,16 +166,21 @@ not-by-1 (true refuses k else r) others is =
     eqb-false k 1 (not-true _ (parts (not (eqb k 1)) (noneBy1 r) others .0)) is
 not-by-1 (false refuses k else r) others is = not-by-1 r (parts (not (eqb k 1)) (noneBy1 r) others .1) is
 
-first-by-1 : (b : Bool) (r : Rules) → noneBy1 r ≡ true → answer (b refuses 1 else r) ≡ 1 → b ≡ true
+second-by-1 : (a b : Bool) (r : Rules) → noneBy1 r ≡ true → answer (a refuses 3 else b refuses 1 else r) ≡ 1 → b ≡ true
 unfolding answer
-first-by-1 true r others is = refl
-first-by-1 false r others is = absurd (not-by-1 r others is)
+second-by-1 true b r others is = absurd (omega arith)
+second-by-1 false true r others is = refl
+second-by-1 false false r others is = absurd (not-by-1 r others is)
 
--- the first of all rules is the only one with that number
+-- the first record's kind is known, whatever the version
+first-known : (ev : ℕ → Event) → new? ev 0 ≡ false
+first-known ev = and-false (not (knownIn (version ev) (kind ev 0)))
+
+-- the second of all rules is the only one with that number
 pub no-begin-first : (ev : ℕ → Event) (n : ℕ) → refusal ev n ≡ 1 → (n ≡ 0) × (begin? ev n ≡ false)
 unfolding rules
 no-begin-first ev n is =
-    let both-hold = parts (eqb n 0) (not (begin? ev n)) (first-by-1 _ _ refl is) in
+    let both-hold = parts (eqb n 0) (not (begin? ev n)) (second-by-1 _ _ _ refl is) in
     (eqb-true n 0 (both-hold .0), not-true _ (both-hold .1))
 
 module _ (bytes : List ℕ) where
@@ -192,7 +198,7 @@ module _ (bytes : List ℕ) where
       by-answer (inl ended) answers = let none = ends-there bytes e ended in absurd (clash cc)
       by-answer (inr inside) (a-refusal k low high is) =
           let there = unread-there bytes e k 0 inside is (λ z. omega arith) in
-          let number : k ≡ 1 = cc in
+          let number : k ≡ 1 = in-trace-one bytes e k (cc) in
           absurd (inside (omega (arith, start-inside bytes e, one-past-end bytes (start bytes e) 0 (rw number at is))))
       by-answer (inr inside) (an-event x next is) = by-rules (same? (refusal (events bytes) e) 0)
         where
@@ -220,7 +226,7 @@ module _ (bytes : List ℕ) where
     earlier-pass = λ i l. absurd (omega arith);
     number =
         forbidden-there bytes 0 (it .other) (it .next) (it .is-read) 1
-        (rw (it .is-read, ne-eqb (kindOf (it .other)) 1 (it .no-begin)) refl) (λ z. omega arith);
+        (rw (first-known (events bytes), it .is-read, ne-eqb (kindOf (it .other)) 1 (it .no-begin)) refl) (λ z. omega arith);
   }
 
   -- "1 IN JUDGING ONLY FOR BYTES THAT BEGIN WITH SOME OTHER RECORD", AND FOR ALL OF THESE

@@ -4,6 +4,7 @@
 use Prim.Native.Nat.{ℕ}
 use mathlib.Core.Path.{_≡_, refl}
 use mathlib.Core.List.{List, [], _∷_, map}
+use Rattle.record.specs.Versions.{laterRefusal}
 use Rattle.record.specs.Reading.{readAt, readFirst, readFramed, frame}
 use Rattle.record.specs.Parts.{start, sizeAt}
 use Rattle.record.specs.Table.{rowOf}
@@ -33,5 +34,5 @@ pub refusals-1-to-5 :
     ≡ turnedAway 2 0 ∷ turnedAway 3 1 ∷ turnedAway 4 1 ∷ turnedAway 4 1 ∷ turnedAway 2 1
     ∷ turnedAway 5 1 ∷ turnedAway 1 0 ∷ []
 unfolding readingOf stop recordAt events first firstFrom answer rules readAt readFirst readFramed frame start sizeAt
-    rowOf eventOf
+    rowOf eventOf laterRefusal
 refusals-1-to-5 = refl

@@ -11,7 +11,7 @@ use Rattle.record.specs.declared.events.Event.{Event}
 use Rattle.record.specs.Fields.{threadIn, locationIn}
 use Rattle.record.specs.Table.{rowOf}
 use Rattle.model.specs.Trace.{kind, thread, location, hasThread?, hasLocation?, Issue, Commit, Load}
-use Rattle.model.specs.Trace.{Signal, Wait, is, drained?, signal?, skipOn?, skipOff?}
+use Rattle.model.specs.Trace.{Signal, Wait, is, drained?, signal?, skipOn?, skipOff?, open?, close?}
 use Rattle.model.specs.Rules.{Accepted}
 use Rattle.model.proofs.Searching.{or-cases}
 use Rattle.model.proofs.Limits.{few-threads, few-locations, thread-below, location-below}
@@ -68,6 +68,14 @@ module _ (ev : ℕ → Event) where
   pub skip-on-has-thread : (e : ℕ) → skipOn? ev e ≡ true → hasThread? ev e ≡ true
   unfolding rowOf
   skip-on-has-thread e it = rw (eqb-true (kind ev e) 10 it) refl
+
+  pub open-has-thread : (e : ℕ) → open? ev e ≡ true → hasThread? ev e ≡ true
+  unfolding rowOf
+  open-has-thread e it = rw (eqb-true (kind ev e) 15 it) refl
+
+  pub close-has-thread : (e : ℕ) → close? ev e ≡ true → hasThread? ev e ≡ true
+  unfolding rowOf
+  close-has-thread e it = rw (eqb-true (kind ev e) 16 it) refl
 
   pub skip-off-has-thread : (e : ℕ) → skipOff? ev e ≡ true → hasThread? ev e ≡ true
   unfolding rowOf

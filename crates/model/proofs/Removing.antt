@@ -12,7 +12,7 @@ use lib.ListN.{length, List·getD-eq-default}
 use Rattle.record.specs.declared.events.Event.{Event}
 use Rattle.record.specs.declared.events.Event.the-variants.{Crash}
 use Rattle.model.specs.Trace.{traceOf, source, issue?, commit?, load?, begin?, skipOn?, skipOff?, crash?}
-use Rattle.model.specs.Trace.{signal?, wait?}
+use Rattle.model.specs.Trace.{signal?, wait?, open?, close?}
 use Rattle.model.specs.Trace as trace
 use Rattle.model.specs.Machine.{committed}
 use Rattle.model.specs.Rules.{Accepted}
@@ -116,6 +116,8 @@ module _
     issuing = role issue? (λ e. rw (there e .kind-same)) (λ n none. none .no-issue);
     skip-on = role skipOn? (λ e. rw (there e .kind-same)) (λ n none. none .no-skip-on);
     skip-off = role skipOff? (λ e. rw (there e .kind-same)) (λ n none. none .no-skip-off);
+    opening = role open? (λ e. rw (there e .kind-same)) (λ n none. none .no-open);
+    closing = role close? (λ e. rw (there e .kind-same)) (λ n none. none .no-close);
     signalling = role signal? (λ e. rw (there e .kind-same)) (λ n none. none .no-signal);
     waiting = role wait? (λ e. rw (there e .kind-same)) (λ n none. none .no-wait);
     loading = role load? (λ e. rw (there e .kind-same)) (λ n none. none .no-load);
@@ -126,6 +128,7 @@ module _
     load-location = λ e loads. there e .location-same;
     location-own = λ e loads. refl;
     source-same = λ e loads. source-there e;
+    outcome-same = λ e close. there e .outcome-same;
     wait-source = λ e waits. source-there e;
     stores-at-load = numbering .kept-number;
     commits-at-load = numbering .kept-number;
@@ -192,6 +195,7 @@ module _
 
   same-begin : SameBegin everything everything short whole
   same-begin = record {
+    version-same = rw (number-zero numbering) at (there 0 .version-same);
     thread-fits = λ t own. rw (rw (number-zero numbering) at (there 0 .threads-same));
     location-fits = λ x own. rw (rw (number-zero numbering) at (there 0 .locations-same));
   }

@@ -72,6 +72,7 @@ module _
 
   same-begin : SameBegin everything everything part whole
   same-begin = record {
+    version-same = sym (begin-there .version-same);
     thread-fits = λ t own. rw (begin-there .threads-same);
     location-fits = λ x own. rw (begin-there .locations-same);
   }

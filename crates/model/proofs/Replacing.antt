@@ -15,6 +15,7 @@ use Rattle.record.specs.declared.events.Event.the-variants.{Begin, Issue, Commi
 use Rattle.record.specs.Events.{kindOf}
 use Rattle.record.specs.Fields.{eventOf, fieldsOf}
 use Rattle.model.specs.Trace.{traceOf, kind, thread, location, source, issue?, commit?, load?, wait?, crash?}
+use Rattle.model.specs.Trace.{close?}
 use Rattle.model.specs.Rules.{Accepted}
 use Rattle.model.specs.Flushes.{moved}
 use Rattle.model.specs.Embedding.{everything, Role, Embedding, Apart, Cover}
@@ -177,10 +178,10 @@ module _
 
   -- none of the three is of another kind
   pub other-fails :
-      (passes? : ℕ → Bool) → passes? 2 ≡ false → passes? 3 ≡ false → passes? 4 ≡ false
-      → (n : ℕ) → Gap 1 k n → passes? (kind whole n) ≡ false
-  other-fails passes? issues commits loads =
-      gap-fails (λ n. passes? (kind whole n)) 1 (λ _. rw (three .loads) loads) (λ _. rw (three .stores) issues)
+      (d : ℕ) (passes? : ℕ → Bool) → passes? 2 ≡ false → passes? 3 ≡ false → passes? 4 ≡ false
+      → (n : ℕ) → Gap d k n → passes? (kind whole n) ≡ false
+  other-fails d passes? issues commits loads =
+      gap-fails (λ n. passes? (kind whole n)) d (λ _. rw (three .loads) loads) (λ _. rw (three .stores) issues)
       (λ _. rw (three .commits) commits)
 
   pub role :
@@ -207,26 +208,32 @@ module _
         role 1 (omega arith) (λ c. eqb c 2 || eqb c 12) (rw (three .stores, of-kind)) store-thread store-gap;
     skip-on =
         role 1 (omega arith) (λ c. eqb c 10) (rw (three .stores, of-kind)) store-thread
-        (other-fails (λ c. eqb c 10) refl refl refl);
+        (other-fails 1 (λ c. eqb c 10) refl refl refl);
     skip-off =
         role 1 (omega arith) (λ c. eqb c 11) (rw (three .stores, of-kind)) store-thread
-        (other-fails (λ c. eqb c 11) refl refl refl);
+        (other-fails 1 (λ c. eqb c 11) refl refl refl);
     signalling =
         role 1 (omega arith) (λ c. eqb c 13) (rw (three .stores, of-kind)) store-thread
-        (other-fails (λ c. eqb c 13) refl refl refl);
+        (other-fails 1 (λ c. eqb c 13) refl refl refl);
     waiting =
         role 1 (omega arith) (λ c. eqb c 14) (rw (three .stores, of-kind)) store-thread
-        (other-fails (λ c. eqb c 14) refl refl refl);
+        (other-fails 1 (λ c. eqb c 14) refl refl refl);
     loading =
         role 0 (omega arith) (λ c. eqb c 4 || eqb c 12) (rw (three .loads, of-kind))
         (ap (λ x. fieldsOf x .thread) (three .loads)) load-gap;
+    opening =
+        role 0 (omega arith) (λ c. eqb c 15) (rw (three .loads, of-kind))
+        (ap (λ x. fieldsOf x .thread) (three .loads)) (other-fails 0 (λ c. eqb c 15) refl refl refl);
+    closing =
+        role 0 (omega arith) (λ c. eqb c 16) (rw (three .loads, of-kind))
+        (ap (λ x. fieldsOf x .thread) (three .loads)) (other-fails 0 (λ c. eqb c 16) refl refl refl);
     committing =
         role 2 (omega arith) (λ c. eqb c 3 || eqb c 12) (rw (three .commits, of-kind))
         (ap (λ x. fieldsOf x .thread) (three .commits)) commit-gap;
     crash-same =
         at-number 1 (λ x. eqb (kindOf x) 9) (λ x. eqb (kindOf x) 9) (rw (three .stores, of-kind))
         (λ e is. rw (is .kind-same));
-    crash-stays = λ n gap. other-fails (λ c. eqb c 9) refl refl refl n (gap-is 1 k n gap);
+    crash-stays = λ n gap. other-fails 1 (λ c. eqb c 9) refl refl refl n (gap-is 1 k n gap);
     store-location = λ e store.
         at-number 1 (λ x. fieldsOf x .location) (λ x. fieldsOf x .location)
         (ap (λ x. fieldsOf x .location) (three .stores)) (λ e is. sym (is .location-same)) e;
@@ -237,6 +244,7 @@ module _
     source-same = λ e loads.
         at-number 0 (λ x. fieldsOf x .source) (λ x. asStore k (fieldsOf x .source))
         (ap (λ x. fieldsOf x .source) (three .loads)) (λ e is. is .source-moved) e;
+    outcome-same = λ e close. sym (there 0 e (λ is-k. not-close (rw is-k at close)) .outcome-same);
     wait-source = λ e waits. there 1 e (λ is-k. not-wait (rw is-k at waits)) .source-moved;
     stores-at-load = λ e. kept-number 0 1 k (omega arith) (omega arith) e (omega arith);
     commits-at-load = λ e. kept-number 0 2 k (omega arith) (omega arith) e (omega arith);
@@ -250,6 +258,9 @@ module _
 
       not-wait : wait? part k ≡ true → ⊥
       not-wait waits = omega (arith, of-kind, eqb-true (kind part k) 14 waits)
+
+      not-close : close? part k ≡ true → ⊥
+      not-close close = omega (arith, of-kind, eqb-true (kind part k) 16 close)
 
   pub apart : Apart embedding
   apart = record {

@@ -11,15 +11,15 @@ use borrow.Author.Tests.{eqb-true, eq-eqb, ltb-true, lt-ltb}
 use Rattle.record.specs.declared.events.Event.{Event}
 use Rattle.model.specs.Trace.{thread, location, source, commit?, Issue, Commit}
 use Rattle.model.specs.Trace.{stretch, commits, place}
-use Rattle.model.specs.Machine.{committed, commitOf, counted}
+use Rattle.model.specs.Machine.{committed, commitOf, countable}
 use Rattle.model.specs.Rules.{Accepted}
 use Rattle.model.specs.Choice.{Choice, In, finished, Closed, Counted, Observes, Forbids, Newer}
 use Rattle.model.specs.Choice.{ExplainsLoad, Explains}
 use Rattle.model.specs.Memory.{puts?, memory}
 use Rattle.model.proofs.Searching.{false-true, test, same?, less?, both, parts}
 use Rattle.model.proofs.Counting.{stretch-mono, earlier-stretch}
-use Rattle.model.proofs.Acceptance.{counted-source, store-not-0}
-use Rattle.model.proofs.CountedLoads.{counted-early, counted-load}
+use Rattle.model.proofs.Acceptance.{countable-source, store-not-0}
+use Rattle.model.proofs.CountedLoads.{counted-early, countable-load}
 use Rattle.model.proofs.Committed.{Committed, CommitOf, commit-of, is-commit-of}
 use Rattle.model.proofs.Effects.{effect, effect-is, effect-commit, commit-effect}
 
@@ -73,7 +73,7 @@ module _ (ev : ℕ → Event) where
 
   module _
       (N : ℕ) (accepted : Accepted ev N) (c : Choice) (fits : (j t : ℕ) → c j t ≤ finished ev N j t)
-      (l : ℕ) (inside : l < N) (counts : counted ev l ≡ true) where
+      (l : ℕ) (inside : l < N) (counts : countable ev l ≡ true) where
     j : ℕ
     j = stretch ev l
 
@@ -178,7 +178,7 @@ module _ (ev : ℕ → Event) where
     -- the observed store is put into the memory
     observed-put : (s : ℕ) → source ev l ≡ s → s ≢ 0 → ExplainsLoad ev c l → Put s
     observed-put s is-source some explains =
-        let past = rw is-source at (counted-source ev N accepted l inside counts (rw is-source some)) in
+        let past = rw is-source at (countable-source ev N accepted l inside counts (rw is-source some)) in
         →puts s (past .store) (past .to-it) (past .earlier)
         (explains .observed-in s (record { from = is-source; some-store = some }))
 
@@ -308,4 +308,4 @@ module _ (ev : ℕ → Event) where
           ((j t : ℕ) → c j t ≤ finished ev N j t) → (l : ℕ) → Counted ev N l
           → ExplainsLoad ev c l ↔ (memory ev c (stretch ev l) l (location ev l) ≡ source ev l)
       by-replay fits l counts =
-          explains-is-replay N accepted c fits l (counted-early ev N l counts) (counted-load ev N l counts)
+          explains-is-replay N accepted c fits l (counted-early ev N l counts) (countable-load ev N l counts)

@@ -4,14 +4,14 @@
 -- In order: what issues, commits, loads, signals and waits are not; the kinds that play no role; the decisions.
 use Prim.Native.Nat.{ℕ, _≤_}
 use native.Mathlib.Omega.{arith}
-use mathlib.Core.Path.{_≡_}
+use mathlib.Core.Path.{_≡_, sym, _∙_}
 use mathlib.Core.Bool.{true, false, _||_}
 use mathlib.Core.Logic.{_⊎_, inl, inr, _≢_}
 use borrow.Author.Tests.{eqb-true, ne-eqb}
 use Rattle.record.specs.declared.events.Event.{Event}
 use Rattle.model.specs.Trace.{kind, is, begin?, issue?, commit?, load?, crash?, signal?, wait?, drained?}
-use Rattle.model.specs.Trace.{skipOn?, skipOff?, Issue, Commit, Load, Signal, Wait}
-use Rattle.model.proofs.Searching.{test, or-cases, or-right}
+use Rattle.model.specs.Trace.{skipOn?, skipOff?, open?, close?, Issue, Commit, Load, Signal, Wait}
+use Rattle.model.proofs.Searching.{false-true, test, or-cases, or-right}
 
 module _ (ev : ℕ → Event) where
   -- an event of one kind is of no other
@@ -39,6 +39,21 @@ module _ (ev : ℕ → Event) where
 
   pub load-no-crash : {e : ℕ} → Load ev e → crash? ev e ≡ false
   load-no-crash {e} loads = no-third e 4 12 9 (omega arith) (omega arith) (loads .test)
+
+  -- what loads and issues is a locked operation
+  pub locked-kind : {e : ℕ} → Load ev e → Issue ev e → kind ev e ≡ 12
+  locked-kind {e} loads store = by-kind (or-cases (is ev 4 e) (is ev 12 e) (loads .test))
+    where
+      by-kind : (is ev 4 e ≡ true) ⊎ (is ev 12 e ≡ true) → kind ev e ≡ 12
+      by-kind (inl is-4) = false-true (sym (neither e 4 2 12 (omega arith) (omega arith) is-4) ∙ store .test)
+      by-kind (inr is-12) = eqb-true (kind ev e) 12 is-12
+
+  -- nor does a load open or close a region
+  pub load-no-open : {e : ℕ} → Load ev e → open? ev e ≡ false
+  load-no-open {e} loads = no-third e 4 12 15 (omega arith) (omega arith) (loads .test)
+
+  pub load-no-close : {e : ℕ} → Load ev e → close? ev e ≡ false
+  load-no-close {e} loads = no-third e 4 12 16 (omega arith) (omega arith) (loads .test)
 
   pub signal-no-crash : {e : ℕ} → Signal ev e → crash? ev e ≡ false
   signal-no-crash {e} signals = one-kind e 13 9 (omega arith) (signals .test)
@@ -74,6 +89,8 @@ module _ (ev : ℕ → Event) where
     pub no-wait : wait? ev e ≡ false
     pub no-skip-on : skipOn? ev e ≡ false
     pub no-skip-off : skipOff? ev e ≡ false
+    pub no-open : open? ev e ≡ false
+    pub no-close : close? ev e ≡ false
 
   -- so do flushes and fences, kinds 5 to 8
   pub quiet-kind : (e : ℕ) → 5 ≤ kind ev e → kind ev e ≤ 8 → Quiet e
@@ -87,6 +104,8 @@ module _ (ev : ℕ → Event) where
     no-wait = ne-eqb (kind ev e) 14 (λ is. omega arith);
     no-skip-on = ne-eqb (kind ev e) 10 (λ is. omega arith);
     no-skip-off = ne-eqb (kind ev e) 11 (λ is. omega arith);
+    no-open = ne-eqb (kind ev e) 15 (λ is. omega arith);
+    no-close = ne-eqb (kind ev e) 16 (λ is. omega arith);
   }
     where
       not-locked : is ev 12 e ≡ false

@@ -28,7 +28,8 @@ use Rattle.model.specs.Judge.{smallWork, wrongCut, ruledAnswer, readingA
 use Rattle.model.proofs.Searching.{false-true}
 use Rattle.model.proofs.Roles.{begin-no-load}
 use Rattle.model.proofs.Ordering.{at-or-before-le}
-use Rattle.model.proofs.Acceptance.{prefix, begins, counted-crosses}
+use Rattle.model.proofs.Acceptance.{prefix, begins, countable-crosses}
+use Rattle.model.proofs.CountedLoads.{counts-as-of}
 use Rattle.model.proofs.Exactness.{exact, unique, named-load-counts, named-missing, named-observed}
 use Rattle.model.proofs.Agreement.{Agree, refusal-same}
 use Rattle.model.proofs.Prefixes.{exact-same}
@@ -173,9 +174,12 @@ module _
   -- the load that a broken answer names is not the begin
   load-not-begin : load ≢ 0
   load-not-begin is-0 =
-      let loads = counted-crosses (events bytes) load (named-load-counts (events bytes) is-broken) .loads in
+      let (l, counts) = named-load-counts (events bytes) is-broken in
+      let it = counts-as-of (events bytes) load l counts in
+      let loads = countable-crosses (events bytes) l (it .is-countable) .loads in
+      let first : l ≡ 0 = omega (arith, it .not-later) in
       let begun = begins (events bytes) (apart .N) trace (omega (arith, is-broken .inside)) in
-      false-true (sym (begin-no-load (events bytes) 0 begun) ∙ rw is-0 at (loads .test))
+      false-true (sym (begin-no-load (events bytes) 0 begun) ∙ rw first at (loads .test))
 
   -- THE RECORDS BEFORE IT, TAKEN AS A TRACE, ARE ROBUST
   pub robust-before-load :

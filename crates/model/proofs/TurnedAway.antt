@@ -5,23 +5,25 @@
 use Prim.Native.Nat.{ℕ, zero, suc, _*_, _≤_, _<_}
 use native.Mathlib.Omega.{arith}
 use mathlib.Core.Path.{_≡_, refl, sym, ap, _∙_}
-use mathlib.Core.Bool.{Bool, true, false, not}
+use mathlib.Core.Bool.{Bool, true, false, _&&_, not}
 use mathlib.Core.Logic.{_⊎_, inl, inr, _≢_, _↔_}
 use mathlib.Core.List.{List}
 use lib.ListN.{length}
-use lib.Dec.{eqb}
+use lib.Dec.{eqb, ltb}
 use borrow.Author.Tests.{eqb-true, eq-eqb, ne-eqb, not-true, not-false}
 use Rattle.record.specs.declared.events.Event.{Event}
 use Rattle.record.specs.Answers.{event, refused}
 use Rattle.record.specs.Parts.{start}
 use Rattle.record.specs.Reading.{readAt}
 use Rattle.record.specs.Tests.{_gives_else_}
+use Rattle.record.specs.Versions.{newAt, laterRefusal}
 use Rattle.record.proofs.Frames.{clash, Answers, an-event, a-refusal}
 use Rattle.record.proofs.Starts.{start-inside, read-grows, read-at-answers}
 use Rattle.model.specs.Search.{some, first}
+use Rattle.model.specs.Trace.{version}
 use Rattle.model.specs.Rules.{refusal, Accepted}
-use Rattle.model.specs.Reading.{refusalIn, events, Found, noRecord, refusedBy, passing, endsAt, recordAt}
-use Rattle.model.specs.Reading.{passing?, stop, accepted, turnedAway, readingAt, readingOf}
+use Rattle.model.specs.Reading.{refusalIn, events, inTrace, Found, noRecord, refusedBy, passing, endsAt}
+use Rattle.model.specs.Reading.{recordAt, passing?, stop, accepted, turnedAway, readingAt, readingOf}
 use Rattle.model.specs.Reading.{AcceptedWith, TurnedAwayWith}
 use Rattle.model.proofs.Searching.{false-true, test, less?, →some, First, first-is}
 
@@ -62,11 +64,47 @@ module _ (bytes : List ℕ) where
     not-ended : start bytes n ≢ length bytes → endsAt bytes n ≡ false
     not-ended inside = ne-eqb (start bytes n) (length bytes) inside
 
+    -- a number by which reading refuses a record stays one, and 0 stays 0; 1 comes of 1 alone
+    in-trace-some : (k : ℕ) → k ≢ 0 → inTrace bytes n k ≢ 0
+    unfolding laterRefusal
+    in-trace-some k some none = by-tests (ltb 0 n) (eqb k 4 && newAt (version (events bytes)) bytes (start bytes n)) none
+      where
+        by-tests : (later unknown : Bool) → (later gives (unknown gives 3 else k) else k) ≡ 0 → ⊥
+        by-tests false unknown none = some none
+        by-tests true false none = some none
+        by-tests true true none = omega arith
+
+    in-trace-none : inTrace bytes n 0 ≡ 0
+    unfolding laterRefusal
+    in-trace-none = by-test (ltb 0 n)
+      where
+        by-test : (later : Bool) → _≡_ {A = ℕ} (later gives 0 else 0) 0
+        by-test true = refl
+        by-test false = refl
+
+    pub in-trace-1 : inTrace bytes n 1 ≡ 1
+    unfolding laterRefusal
+    in-trace-1 = by-test (ltb 0 n)
+      where
+        by-test : (later : Bool) → _≡_ {A = ℕ} (later gives 1 else 1) 1
+        by-test true = refl
+        by-test false = refl
+
+    pub in-trace-one : (k : ℕ) → inTrace bytes n k ≡ 1 → k ≡ 1
+    unfolding laterRefusal
+    in-trace-one k is = by-tests (ltb 0 n) (eqb k 4 && newAt (version (events bytes)) bytes (start bytes n)) is
+      where
+        by-tests : (later unknown : Bool) → (later gives (unknown gives 3 else k) else k) ≡ 1 → k ≡ 1
+        by-tests false unknown is = is
+        by-tests true false is = is
+        by-tests true true is = absurd (omega arith)
+
     pub unread-there :
         (k e : ℕ) → start bytes n ≢ length bytes → readAt bytes (start bytes n) ≡ refused k e → k ≢ 0
-        → recordAt bytes n ≡ refusedBy k
+        → recordAt bytes n ≡ refusedBy (inTrace bytes n k)
     unfolding recordAt
-    unread-there k e inside is some-number = rw (not-ended inside, is, ne-eqb k 0 some-number)
+    unread-there k e inside is some-number =
+        rw (not-ended inside, is, ne-eqb (inTrace bytes n k) 0 (in-trace-some k some-number))
 
     module _ (x : Event) (next : ℕ) (is : readAt bytes (start bytes n) ≡ event x next) where
       -- a record that is read is there
@@ -76,11 +114,11 @@ module _ (bytes : List ℕ) where
       pub forbidden-there :
           (k : ℕ) → refusal (events bytes) n ≡ k → k ≢ 0 → recordAt bytes n ≡ refusedBy k
       unfolding recordAt
-      forbidden-there k forbids some-number = rw (not-ended read-inside, is, forbids, ne-eqb k 0 some-number)
+      forbidden-there k forbids some-number = rw (not-ended read-inside, is, in-trace-none, forbids, ne-eqb k 0 some-number)
 
       pub passing-there : refusal (events bytes) n ≡ 0 → recordAt bytes n ≡ passing
       unfolding recordAt
-      passing-there passes = rw (not-ended read-inside, is, passes)
+      passing-there passes = rw (not-ended read-inside, is, in-trace-none, passes)
 
     -- ---- and back
 
@@ -95,7 +133,7 @@ module _ (bytes : List ℕ) where
     some? k = not (eqb k 0)
 
     abbrev unread : ℕ
-    unread = refusalIn (readAt bytes (start bytes n))
+    unread = inTrace bytes n (refusalIn (readAt bytes (start bytes n)))
 
     abbrev forbidden : ℕ
     forbidden = refusal (events bytes) n
@@ -111,8 +149,7 @@ module _ (bytes : List ℕ) where
         by-answer is-read passes (an-event x next is) =
             record { x = x; next = next; is-read = is; passes = passes }
         by-answer is-read passes (a-refusal k low high is) =
-            let number : unread ≡ k = rw is in
-            absurd (omega arith)
+            absurd (in-trace-some k (λ none. omega arith) (rw is at is-read))
 
     -- the bytes end right behind the first n records
     pub ended→ : recordAt bytes n ≡ noRecord → start bytes n ≡ length bytes

@@ -12,8 +12,9 @@ use lib.Dec.{eqb}
 use borrow.Author.Tests.{eqb-true, eq-eqb}
 use Rattle.record.specs.declared.events.Event.{Event}
 use Rattle.model.specs.Trace.{thread, location, source, issue?, commit?, crash?, skipOn?, skipOff?}
+use Rattle.model.specs.Trace.{open?, close?}
 use Rattle.model.specs.Trace.{Issue, Commit, Load, stretch, count}
-use Rattle.model.specs.Machine.{committed, switched, skipping}
+use Rattle.model.specs.Machine.{committed, switched, skipping, opened}
 use Rattle.model.specs.Rules.{Accepted}
 use Rattle.model.specs.Clocks.{seen, vc}
 use Rattle.model.specs.Stores.{storeAt, madeAt, newestAt, landsAt, landed}
@@ -131,6 +132,24 @@ module _ (ev : ℕ → Event) where
   pub skipping-crash : (n t : ℕ) → crash? ev n ≡ true → skipping ev (suc n) t ≡ false
   skipping-crash = switched-crash (skipOn? ev) (skipOff? ev)
 
+  -- regions under a checksum
+
+  pub opened-away :
+      (n t : ℕ) → crash? ev n ≡ false → (open? ev n ≡ true → thread ev n ≡ t → ⊥)
+      → (close? ev n ≡ true → thread ev n ≡ t → ⊥) → opened ev (suc n) t ≡ opened ev n t
+  opened-away = switched-away (open? ev) (close? ev)
+
+  pub opened-on : (n : ℕ) → open? ev n ≡ true → opened ev (suc n) (thread ev n) ≡ true
+  opened-on n on = switched-on (open? ev) (close? ev) n (one-kind ev n 15 9 (omega arith) on) on
+
+  pub opened-off : (n : ℕ) → close? ev n ≡ true → opened ev (suc n) (thread ev n) ≡ false
+  opened-off n off =
+      switched-off (open? ev) (close? ev) n (one-kind ev n 16 9 (omega arith) off)
+      (one-kind ev n 16 15 (omega arith) off) off
+
+  pub opened-crash : (n t : ℕ) → crash? ev n ≡ true → opened ev (suc n) t ≡ false
+  opened-crash = switched-crash (open? ev) (close? ev)
+
   -- ---- the newest store of a thread at a location
 
   pub newest-away :
@@ -209,6 +228,17 @@ module _ (ev : ℕ → Event) where
   Lacks p (q ∷ qs) = (q ≢ p) × Lacks p qs
 
   -- a store is committed once: what event n commits, no earlier event did
+  pub committed-apart :
+      (N m n : ℕ) → Accepted ev N → m < n → n < N → Commit ev m → Commit ev n → committed ev m ≢ committed ev n
+  committed-apart N m n accepted early inside earlier commits same =
+      let at-n = committed-store ev N n accepted inside commits in
+      let at-m = rw same at (committed-store ev N m accepted (omega arith) earlier) in
+      let one : m ≡ n =
+      place-unique ev (commit? ev) m n (earlier .test) (commits .test) (sym (at-m .in-j) ∙ at-n .in-j)
+      (sym (at-m .by-t) ∙ at-n .by-t) (sym (its-place ev at-m) ∙ its-place ev at-n)
+      in
+      omega arith
+
   pub landed-once :
       (N n : ℕ) → Accepted ev N → n < N → Commit ev n
       → (m x : ℕ) → m ≤ n → Lacks (committed ev n) (landed ev m x)
@@ -218,14 +248,7 @@ module _ (ev : ℕ → Event) where
       by-landing (test (landsAt ev x m)) (landed-once N n accepted inside commits m x (omega arith))
     where
       other : Commit ev m → committed ev m ≢ committed ev n
-      other earlier same =
-          let at-n = committed-store ev N n accepted inside commits in
-          let at-m = rw same at (committed-store ev N m accepted (omega arith) earlier) in
-          let one : m ≡ n =
-          place-unique ev (commit? ev) m n (earlier .test) (commits .test) (sym (at-m .in-j) ∙ at-n .in-j)
-          (sym (at-m .by-t) ∙ at-n .by-t) (sym (its-place ev at-m) ∙ its-place ev at-n)
-          in
-          omega arith
+      other earlier = committed-apart N m n accepted (omega arith) inside earlier commits
 
       by-landing :
           (landsAt ev x m ≡ true) ⊎ (landsAt ev x m ≡ false) → Lacks (committed ev n) (landed ev m x)

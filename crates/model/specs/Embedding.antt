@@ -11,7 +11,8 @@ use mathlib.Core.Bool.{Bool, true, false, cond}
 use mathlib.Core.Logic.{_⊎_, _≢_}
 use lib.Dec.{leb}
 use Rattle.record.specs.declared.events.Event.{Event}
-use Rattle.model.specs.Trace.{kind, thread, location, source, hasThread?, hasLocation?, threads, locations}
+use Rattle.model.specs.Trace.{kind, thread, location, source, outcome, hasThread?, hasLocation?}
+use Rattle.model.specs.Trace.{version, threads, locations, open?, close?}
 use Rattle.model.specs.Trace.{begin?, issue?, commit?, load?, crash?, skipOn?, skipOff?, signal?, wait?}
 use Rattle.model.specs.Machine.{committed}
 use Rattle.model.specs.Rules.{beginFits}
@@ -75,7 +76,7 @@ abbrev pub Near : (ℕ → Event) → ℕ → ℕ → Type 0
 Near ev m n = (m ≡ n) ⊎ ((m ≡ suc n) × (crash? ev n ≡ false))
 
 pub record Embedding (threadsBy locationsBy : Naming) (part whole : ℕ → Event) : Type 0 where
-  -- the numbers of events as stores, which serve for all roles but two; as loads; as commits
+  -- the numbers of events as stores; as loads, and as opens and closes, which hold and count loads; as commits
   pub stores : Numbering
   pub loads : Numbering
   pub commits : Numbering
@@ -85,6 +86,8 @@ pub record Embedding (threadsBy locationsBy : Naming) (part whole : ℕ → Even
   pub signalling : Role signal? stores threadsBy part whole
   pub waiting : Role wait? stores threadsBy part whole
   pub loading : Role load? loads threadsBy part whole
+  pub opening : Role open? loads threadsBy part whole
+  pub closing : Role close? loads threadsBy part whole
   pub committing : Role commit? commits threadsBy part whole
   pub crash-same : (e : ℕ) → crash? whole (stores .number e) ≡ crash? part e
   pub crash-stays : (n : ℕ) → stores .gap? n ≡ true → crash? whole n ≡ false
@@ -94,6 +97,7 @@ pub record Embedding (threadsBy locationsBy : Naming) (part whole : ℕ → Even
       (e : ℕ) → load? part e ≡ true → location whole (loads .number e) ≡ locationsBy .into (location part e)
   pub location-own : (e : ℕ) → load? part e ≡ true → locationsBy .own? (locationsBy .into (location part e)) ≡ true
   pub source-same : (e : ℕ) → load? part e ≡ true → source whole (loads .number e) ≡ stores .number (source part e)
+  pub outcome-same : (e : ℕ) → close? part e ≡ true → outcome whole (loads .number e) ≡ outcome part e
   pub wait-source : (e : ℕ) → wait? part e ≡ true → source whole (stores .number e) ≡ stores .number (source part e)
   -- before an event loads, the stores and commits of the earlier events are there, no others; when it commits, its own
   -- store is there too
@@ -139,8 +143,9 @@ module _
     pub location-own : hasLocation? part e ≡ true → locationsBy .own? (locationsBy .into (location part e)) ≡ true
     pub begin-fits : begin? part e ≡ true → beginFits whole n ≡ beginFits part e
 
--- by the begins, the same of the part's threads and locations are there
+-- by the begins, the version is the same, and the same of the part's threads and locations are there
 pub record SameBegin (threadsBy locationsBy : Naming) (part whole : ℕ → Event) : Type 0 where
+  pub version-same : version whole ≡ version part
   pub thread-fits :
       (t : ℕ) → threadsBy .own? (threadsBy .into t) ≡ true
       → leb (threads whole) (threadsBy .into t) ≡ leb (threads part) t

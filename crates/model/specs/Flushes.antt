@@ -101,6 +101,7 @@ resourced f fields =
       version = fields .version;
       threads = fields .threads;
       locations = fields .locations;
+      outcome = fields .outcome;
     }
 
 -- the event with its source renumbered by f, if its kind has one: so it is the same event of another trace

@@ -1,5 +1,5 @@
 -- What the machine has done before event n, and which sources a load and a wait may have: document 01, "Rules of the
--- machine", and document 02, job 4.
+-- machine", and document 02, jobs 4 and 7.
 -- A queue is no list here: it is first in, first out, so of a thread's stores in a stretch the first are committed, as
 -- many as it has commits there, and the others wait. "A thread's state is handed to each record and comes back
 -- changed": that state is the code's; here it is what the events before n say. A search for a store or a commit gives 0
@@ -10,8 +10,8 @@ use mathlib.Core.List.{List, [], _∷_}
 use lib.Dec.{eqb, ltb, leb}
 use Rattle.record.specs.declared.events.Event.{Event}
 use Rattle.model.specs.Search.{member, last}
-use Rattle.model.specs.Trace.{thread, location, source, issue?, commit?, load?, signal?, crash?}
-use Rattle.model.specs.Trace.{skipOn?, skipOff?, stretch, issues, commits, place}
+use Rattle.model.specs.Trace.{thread, location, source, outcome, issue?, commit?, load?, signal?, crash?}
+use Rattle.model.specs.Trace.{skipOn?, skipOff?, open?, close?, stretch, issues, commits, place}
 
 module _ (ev : ℕ → Event) where
   -- ---- queues
@@ -88,7 +88,7 @@ module _ (ev : ℕ → Event) where
   abbrev pub signalled : ℕ → Bool
   signalled n = signal? ev (source ev n) && ltb (source ev n) n && eqb (stretch ev (source ev n)) (stretch ev n)
 
-  -- ---- skips, and which loads count
+  -- ---- skips
 
   -- a switch of each thread: events of the thread that pass `on?` switch it on, those that pass `off?` off; a crash
   -- switches it off for all threads, and the trace starts with it off. It is on for thread t before event n
@@ -103,14 +103,36 @@ module _ (ev : ℕ → Event) where
   abbrev pub skipping : ℕ → ℕ → Bool
   skipping n t = switched (skipOn? ev) (skipOff? ev) n t
 
-  -- "A crossing load in a skip is checked but not counted; all other crossing loads count." No choice has a say in it:
-  -- "a load stays counted even if the choice cuts its own thread short"
-  unfoldable pub counted : ℕ → Bool
-  counted n = crossing n && not (skipping n (thread ev n))
+  -- "A crossing load in a skip is checked but not counted; all other crossing loads count", or are held. No choice has a
+  -- say in it: "a load stays counted even if the choice cuts its own thread short"
+  unfoldable pub countable : ℕ → Bool
+  countable n = crossing n && not (skipping n (thread ev n))
 
-  -- the loads that count as of event n: a counted load, as of itself
+  -- ---- checksums
+
+  -- "kind 15 (open [..]) and kind 16 (close [..])"; "a crash ends the open state": thread t is open before event n
+  abbrev pub opened : ℕ → ℕ → Bool
+  opened n t = switched (open? ev) (close? ev) n t
+
+  -- "A thread's crossing loads in between are held"; "A load in a skip is never held": the loads that thread t holds before
+  -- event n, the newest first. A thread that is not open holds none: a crash "drops them"
+  unfoldable pub held : ℕ → ℕ → List ℕ
+  held zero t = []
+  held (suc n) t =
+      cond (opened (suc n) t) (cond (countable n && eqb (thread ev n) t) (n ∷ held n t) (held n t)) []
+
+  -- ---- which loads count
+
+  -- the close "counts them all": "Outcome 1 counts them all as of the close; 0 drops them"
+  abbrev pub confirms? : ℕ → Bool
+  confirms? n = close? ev n && eqb (outcome ev n) 1
+
+  -- the loads that count as of event n: at such a close those that its thread holds; a load whose thread is not open, as
+  -- of itself. "the trace's end drops" what is still held, since no event counts it
   unfoldable pub counting : ℕ → List ℕ
-  counting n = cond (counted n) (n ∷ []) []
+  counting n =
+      cond (confirms? n) (held n (thread ev n))
+      (cond (countable n && not (opened n (thread ev n))) (n ∷ []) [])
 
   -- load l counts as of event e
   abbrev pub counts : ℕ → ℕ → Bool

@@ -6,7 +6,7 @@ use mathlib.Core.List.{List, [], _∷_, _++_}
 use mathlib.Core.Bool.{Bool, true, false, not}
 use mathlib.Core.Logic.{_≢_}
 use lib.ListN.{length}
-use lib.Dec.{eqb}
+use lib.Dec.{eqb, ltb}
 use Rattle.record.specs.declared.events.Event.{Event}
 use Rattle.record.specs.declared.events.Event.the-variants.{Crash}
 use Rattle.record.specs.Answers.{Answer, refused, event, wrote}
@@ -14,7 +14,9 @@ use Rattle.record.specs.Events.{kindOf, recordOf}
 use Rattle.record.specs.Parts.{start}
 use Rattle.record.specs.Reading.{readAt}
 use Rattle.record.specs.Tests.{_gives_else_}
+use Rattle.record.specs.Versions.{laterRefusal}
 use Rattle.model.specs.Search.{first}
+use Rattle.model.specs.Trace.{version}
 use Rattle.model.specs.Rules.{refusal}
 use Rattle.model.specs.Answers.{tabulate}
 
@@ -57,10 +59,15 @@ pub data Found : Type 0 where
 abbrev pub endsAt : List ℕ → ℕ → Bool
 endsAt bytes e = eqb (start bytes e) (length bytes)
 
+-- the number by which record e is refused, where number k refuses it read alone: of a later record that the trace's
+-- version does not know, 3 "ahead of a wrong length". A record that can be read gets that 3 by the rules
+abbrev pub inTrace : List ℕ → ℕ → ℕ → ℕ
+inTrace bytes e k = ltb 0 e gives laterRefusal (version (events bytes)) bytes (start bytes e) k else k
+
 -- what is found at number e
 unfoldable pub recordAt : List ℕ → ℕ → Found
 recordAt bytes e =
-    let unread = refusalIn (readAt bytes (start bytes e)) in
+    let unread = inTrace bytes e (refusalIn (readAt bytes (start bytes e))) in
     let forbidden = refusal (events bytes) e in
     endsAt bytes e gives noRecord else
     -- "per record length under 2, 2, 3, wrong length": "A record that can't be read ends the judging there with its
@@ -79,8 +86,8 @@ passing? passing = true
 unfoldable pub stop : List ℕ → ℕ
 stop bytes = first (suc (length bytes)) (λ e. not (passing? (recordAt bytes e)))
 
--- "A trace is accepted if no refusal over its records (1 to 13 here) applies", to which document 02, job 4, adds 18:
--- accepted, with the number of its records, 0 of no bytes; or turned away, with the refusal's number and the event
+-- "A trace is accepted if no refusal over its records (1 to 13 here) applies", to which document 02, jobs 4 and 7, add 18
+-- and 19: accepted, with the number of its records, 0 of no bytes; or turned away, with the refusal's number and the event
 -- number
 pub data Reading : Type 0 where
   accepted : ℕ → Reading

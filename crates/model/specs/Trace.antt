@@ -2,18 +2,20 @@
 -- 0 to e are the trace with e + 1 records, and nothing about an event changes with what comes later.
 -- Here: what an event says, the roles that it plays, stretches, and counting. Document 01, "The trace" and "Rules of
 -- the machine"; document 02, job 2: "Wherever issues, commits or loads are named", kind 12 "is meant too"; job 4: "Kind
--- 13 (signal [..]) and kind 14 (wait [..]) join the rules."
+-- 13 (signal [..]) and kind 14 (wait [..]) join the rules."; job 7: "Version 2 of the begin record admits kind 15 (open
+-- [..]) and kind 16 (close [..])".
 use Prim.Native.Nat.{ℕ, zero, suc, _+_, _/_}
 use mathlib.Core.Path.{_≡_}
 use mathlib.Core.Bool.{Bool, true, not, _&&_, _||_}
 use mathlib.Core.List.{List}
 use lib.ListN.{getD}
-use lib.Dec.{eqb}
+use lib.Dec.{eqb, ltb}
 use Rattle.record.specs.declared.events.Event.{Event}
 use Rattle.record.specs.declared.events.Event.the-variants.{Crash}
 use Rattle.record.specs.Events.{kindOf}
 use Rattle.record.specs.Fields.{fieldsOf, threadIn, locationIn}
 use Rattle.record.specs.Table.{rowOf}
+use Rattle.record.specs.Versions.{knownIn}
 use Rattle.model.specs.Search.{bit}
 
 -- a list of events as a trace. What it gives past the list's end is in no trace of the list's length, and no ruling
@@ -36,6 +38,10 @@ module _ (ev : ℕ → Event) where
   abbrev pub source : ℕ → ℕ
   source e = fieldsOf (ev e) .source
 
+  -- of a close
+  abbrev pub outcome : ℕ → ℕ
+  outcome e = fieldsOf (ev e) .outcome
+
   -- "location ÷ 8 without remainder is its 64-byte cache line": the line of event e's location
   abbrev pub line : ℕ → ℕ
   line e = location e / 8
@@ -47,12 +53,20 @@ module _ (ev : ℕ → Event) where
   abbrev pub hasLocation? : ℕ → Bool
   hasLocation? e = not (eqb (locationIn (rowOf (kind e))) 0)
 
-  -- "threads n, locations m" of the begin record, event 0
+  -- "version", "threads n, locations m" of the begin record, event 0
+  abbrev pub version : ℕ
+  version = fieldsOf (ev 0) .version
+
   abbrev pub threads : ℕ
   threads = fieldsOf (ev 0) .threads
 
   abbrev pub locations : ℕ
   locations = fieldsOf (ev 0) .locations
+
+  -- the trace's version does not know its kind: "Read alone, or as a trace's first record, the two kinds are known; later
+  -- in a version 1 trace they get 3"
+  abbrev pub new? : ℕ → Bool
+  new? e = not (knownIn version (kind e)) && ltb 0 e
 
   -- ---- the roles that an event plays, as tests and as facts. A locked operation, kind 12, "is a load, issue and
   -- commit with nothing between"
@@ -92,6 +106,12 @@ module _ (ev : ℕ → Event) where
 
   abbrev pub skipOff? : ℕ → Bool
   skipOff? e = is 11 e
+
+  abbrev pub open? : ℕ → Bool
+  open? e = is 15 e
+
+  abbrev pub close? : ℕ → Bool
+  close? e = is 16 e
 
   pub record Issue (e : ℕ) : Type 0 where
     pub test : issue? e ≡ true

@@ -6,6 +6,7 @@ pub mod Frames
 pub mod Shapes
 pub mod RoundTrips
 pub mod Starts
+pub mod NewKinds
 pub mod Fronts
 pub mod Scans
 pub mod Sources

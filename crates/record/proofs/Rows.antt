@@ -37,7 +37,7 @@ at-most-eight k = leb-true (lengthOf k) 8 (every-at short kinds _ refl refl k)
 
 -- the kinds that `row_of`'s match on the numbers from 6 on has an arm for, the last one first
 abbrev arms : List ℕ
-arms = 14 ∷ 13 ∷ 12 ∷ 11 ∷ 10 ∷ 9 ∷ 8 ∷ 7 ∷ 6 ∷ []
+arms = 16 ∷ 15 ∷ 14 ∷ 13 ∷ 12 ∷ 11 ∷ 10 ∷ 9 ∷ 8 ∷ 7 ∷ 6 ∷ []
 
 -- any other number from 6 on is past the table
 pub zeros-else : (k : ℕ) → 6 ≤ k → NoneOf arms k → getD kinds 0 [] ≡ rowOf k

@@ -149,7 +149,7 @@ wrong-length s at k kind n k-is kind-is n-is unfit =
 
 -- the kinds that `scan_step` has an arm for, the last one first
 abbrev arms : List ℕ
-arms = 14 ∷ 13 ∷ 12 ∷ 11 ∷ 10 ∷ 9 ∷ 8 ∷ 7 ∷ 6 ∷ 5 ∷ 4 ∷ 3 ∷ 2 ∷ 1 ∷ []
+arms = 16 ∷ 15 ∷ 14 ∷ 13 ∷ 12 ∷ 11 ∷ 10 ∷ 9 ∷ 8 ∷ 7 ∷ 6 ∷ 5 ∷ 4 ∷ 3 ∷ 2 ∷ 1 ∷ []
 
 -- any other number has no length in the table
 no-length : (k : ℕ) → NoneOf arms k → lengthOf k ≡ 0

@@ -17,7 +17,7 @@ use Rattle.record.specs.Fields.{mapFields, fieldsAt, putField, putEach, 
 use Rattle.record.specs.declared.events.Event.{Event}
 use Rattle.record.specs.declared.events.Event.the-variants.{Begin, Issue, Commit, Load, Clflush, Clwb}
 use Rattle.record.specs.declared.events.Event.the-variants.{Sfence, Mfence, Crash, SkipOn, SkipOff, Locked}
-use Rattle.record.specs.declared.events.Event.the-variants.{Signal, Wait}
+use Rattle.record.specs.declared.events.Event.the-variants.{Signal, Wait, Open, Close}
 use Rattle.record.specs.declared.events.Fields.{Fields}
 use Rattle.record.proofs.Computed.{firsts, everywhere, else-at, NoneOf, among, none-among}
 
@@ -74,7 +74,7 @@ made s k known =
 
 -- the kinds that `of_kind` has an arm for, the last one first
 abbrev arms : List ℕ
-arms = 14 ∷ 13 ∷ 12 ∷ 11 ∷ 10 ∷ 8 ∷ 7 ∷ 6 ∷ 5 ∷ 4 ∷ 3 ∷ 2 ∷ 1 ∷ []
+arms = 16 ∷ 15 ∷ 14 ∷ 13 ∷ 12 ∷ 11 ∷ 10 ∷ 8 ∷ 7 ∷ 6 ∷ 5 ∷ 4 ∷ 3 ∷ 2 ∷ 1 ∷ []
 
 -- any other number gives a crash: it is 0, the crash's own, or past the table
 pub crash-else : (k : ℕ) (f : Fields) → NoneOf arms k → Crash ≡ eventOf k f
@@ -133,6 +133,8 @@ module _ (rest out : List ℕ) where
   computed (Locked t x s) = (refl, lit≤ tt, refl, refl, refl, refl, refl)
   computed (Signal t) = (refl, lit≤ tt, refl, refl, refl, refl, refl)
   computed (Wait t s) = (refl, lit≤ tt, refl, refl, refl, refl, refl)
+  computed (Open t) = (refl, lit≤ tt, refl, refl, refl, refl, refl)
+  computed (Close t o) = (refl, lit≤ tt, refl, refl, refl, refl, refl)
 
   pub laid : (e : Event) → Laid e rest out
   laid e =

@@ -27,6 +27,7 @@ use Rattle.record.proofs.Frames.{read→}
 use Rattle.record.proofs.Shapes.{made}
 use Rattle.record.proofs.Starts.{read-at, from-event, read-past}
 use Rattle.record.proofs.Scans.{word-drop}
+use Rattle.record.proofs.NewKinds.{no-size}
 
 -- what an event says if its kind has a source, and the position past its record
 abbrev pub asSource : Event → ℕ → SourceAt
@@ -154,18 +155,12 @@ thread-too k =
 module _ (s : List ℕ) (at : ℕ) where
   -- ---- the ways of `source_at`
 
-  -- the position is past the end, where nothing has a size
-  no-size : length s < at → sizeAt s at ≡ 0
-  unfolding sizeAt frame
-  no-size past =
-      let none : length (drop at s) ≡ 0 = simp length-drop (omega arith) in
-      simp (eq-eqb _ _ none)
-
+  -- the position is past the end
   pub none-there : length s < at → noSource at ≡ sourceAt s at
   unfolding sourceAt
   none-there past =
       let other : sourcedOf 0 (word s (at + 2)) ≡ false = of-others 0 (word s (at + 2)) (omega arith) (omega arith) in
-      rw (no-size past, other, add-zero at) refl
+      rw (no-size s at past, other, add-zero at) refl
 
   module _ (n k : ℕ) (size-is : n ≡ sizeAt s at) (kind-is : k ≡ word s (at + 2)) where
     -- thread and source at two places of the record

@@ -25,7 +25,7 @@ use Rattle.record.proofs.Frames.{Answers, an-event, a-refusal, read-ans
 
 -- ---- the size at a position
 
-framed-or-none : (f : Frame) → ((n : ℕ) × (f ≡ Size n)) ⊎ (sizeOf f ≡ 0)
+pub framed-or-none : (f : Frame) → ((n : ℕ) × (f ≡ Size n)) ⊎ (sizeOf f ≡ 0)
 framed-or-none (Size n) = inl (n, refl)
 framed-or-none (Unframed k) = inr refl
 

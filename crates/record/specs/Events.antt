@@ -6,7 +6,7 @@ use Rattle.record.specs.Table.{lengthOf}
 use Rattle.record.specs.declared.events.Event.{Event}
 use Rattle.record.specs.declared.events.Event.the-variants.{Begin, Issue, Commit, Load, Clflush, Clwb}
 use Rattle.record.specs.declared.events.Event.the-variants.{Sfence, Mfence, Crash, SkipOn, SkipOff, Locked}
-use Rattle.record.specs.declared.events.Event.the-variants.{Signal, Wait}
+use Rattle.record.specs.declared.events.Event.the-variants.{Signal, Wait, Open, Close}
 
 -- the number of an event's kind
 abbrev pub kindOf : Event → ℕ
@@ -24,6 +24,8 @@ kindOf (SkipOff t) = 11
 kindOf (Locked t x s) = 12
 kindOf (Signal t) = 13
 kindOf (Wait t s) = 14
+kindOf (Open t) = 15
+kindOf (Close t o) = 16
 
 -- the values of an event's fields, in the order in which document 01's table lists them
 abbrev pub valuesOf : Event → List ℕ
@@ -41,6 +43,8 @@ valuesOf (SkipOff t) = t ∷ []
 valuesOf (Locked t x s) = t ∷ x ∷ s ∷ []
 valuesOf (Signal t) = t ∷ []
 valuesOf (Wait t s) = t ∷ s ∷ []
+valuesOf (Open t) = t ∷ []
+valuesOf (Close t o) = t ∷ o ∷ []
 
 -- "A record is a two-byte length (of all that follows it), a two-byte kind, and two-byte fields."
 unfoldable pub recordOf : Event → List ℕ

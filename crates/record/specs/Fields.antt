@@ -8,14 +8,14 @@ use Rattle.record.specs.Bytes.{word, putWord}
 use Rattle.record.specs.declared.events.Event.{Event}
 use Rattle.record.specs.declared.events.Event.the-variants.{Begin, Issue, Commit, Load, Clflush, Clwb}
 use Rattle.record.specs.declared.events.Event.the-variants.{Sfence, Mfence, Crash, SkipOn, SkipOff, Locked}
-use Rattle.record.specs.declared.events.Event.the-variants.{Signal, Wait}
+use Rattle.record.specs.declared.events.Event.the-variants.{Signal, Wait, Open, Close}
 use Rattle.record.specs.declared.events.Fields.{Fields}
 
 -- ---- the columns of the table: the fields as a list, and back
 
 -- the values of the fields, in the order of the table's columns behind kind and length
 abbrev pub columns : Fields → List ℕ
-columns f = f .thread ∷ f .location ∷ f .source ∷ f .version ∷ f .threads ∷ f .locations ∷ []
+columns f = f .thread ∷ f .location ∷ f .source ∷ f .version ∷ f .threads ∷ f .locations ∷ f .outcome ∷ []
 
 -- the fields, each with the value that is given at its place in that order
 abbrev pub fromColumns : (ℕ → ℕ) → Fields
@@ -27,6 +27,7 @@ fromColumns at =
       version = at 3;
       threads = at 4;
       locations = at 5;
+      outcome = at 6;
     }
 
 -- the fields with each value changed alike
@@ -108,6 +109,8 @@ eventsOf f =
     ∷ Locked (f .thread) (f .location) (f .source)
     ∷ Signal (f .thread)
     ∷ Wait (f .thread) (f .source)
+    ∷ Open (f .thread)
+    ∷ Close (f .thread) (f .outcome)
     ∷ []
 
 -- the event of a kind with these fields; a crash where there is no such kind
@@ -116,12 +119,13 @@ eventOf k f = getD (eventsOf f) k Crash
 
 -- the fields of a record that has a thread, a location or a source; 0 where it has none
 abbrev pub threadFields : ℕ → ℕ → ℕ → Fields
-threadFields t x s = record { thread = t; location = x; source = s; version = 0; threads = 0; locations = 0 }
+threadFields t x s =
+    record { thread = t; location = x; source = s; version = 0; threads = 0; locations = 0; outcome = 0 }
 
 -- an event's fields; 0 where its kind has no such field
 abbrev pub fieldsOf : Event → Fields
 fieldsOf (Begin v n m) =
-    record { thread = 0; location = 0; source = 0; version = v; threads = n; locations = m }
+    record { thread = 0; location = 0; source = 0; version = v; threads = n; locations = m; outcome = 0 }
 fieldsOf (Issue t x) = threadFields t x 0
 fieldsOf (Commit t) = threadFields t 0 0
 fieldsOf (Load t x s) = threadFields t x s
@@ -135,3 +139,6 @@ fieldsOf (SkipOff t) = threadFields t 0 0
 fieldsOf (Locked t x s) = threadFields t x s
 fieldsOf (Signal t) = threadFields t 0 0
 fieldsOf (Wait t s) = threadFields t 0 s
+fieldsOf (Open t) = threadFields t 0 0
+fieldsOf (Close t o) =
+    record { thread = t; location = 0; source = 0; version = 0; threads = 0; locations = 0; outcome = o }

@@ -1,5 +1,5 @@
 -- What a reader has to believe of this crate, in document 01's order: Bytes, Table, Events, Fields, Answers, Reading,
--- Writing and Parts. Of these `putWord`, `RowFits`, `putField`, `putEach` and `putFields` serve the private functions'
+-- Writing, Parts and Versions. Of these `putWord`, `RowFits`, `putField`, `putEach` and `putFields` serve the private functions'
 -- contracts only.
 pub mod Tests
 pub mod Bytes
@@ -10,3 +10,4 @@ pub mod Answers
 pub mod Reading
 pub mod Writing
 pub mod Parts
+pub mod Versions

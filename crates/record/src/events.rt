@@ -61,6 +61,14 @@ pub enum Event {
         thread: u16,
         source: u16,
     },
+    // between the two the thread's crossing loads are held: outcome 1 counts them, 0 drops them
+    Open {
+        thread: u16,
+    },
+    Close {
+        thread: u16,
+        outcome: u16,
+    },
 }
 
 // The values of an event's fields; 0 where its kind has no such field.
@@ -71,6 +79,7 @@ pub struct Fields {
     pub version: u16,
     pub threads: u16,
     pub locations: u16,
+    pub outcome: u16,
 }
 
 // What a kind's number and fields name: the event, or nothing where the table has no such kind (refusal 3).
@@ -110,6 +119,8 @@ pub fn kind_of(e: Event) -> u16
         } => 12,
         Event::Signal { thread } => 13,
         Event::Wait { thread, source } => 14,
+        Event::Open { thread } => 15,
+        Event::Close { thread, outcome } => 16,
     }
 }
 
@@ -124,6 +135,7 @@ fn thread_fields(thread: u16, location: u16, source: u16) -> Fields
         version: 0,
         threads: 0,
         locations: 0,
+        outcome: 0,
     }
 }
 
@@ -143,6 +155,7 @@ pub fn fields_of(e: Event) -> Fields
             version,
             threads,
             locations,
+            outcome: 0,
         },
         Event::Issue { thread, location } => thread_fields(thread, location, 0),
         Event::Commit { thread } => thread_fields(thread, 0, 0),
@@ -165,6 +178,16 @@ pub fn fields_of(e: Event) -> Fields
         } => thread_fields(thread, location, source),
         Event::Signal { thread } => thread_fields(thread, 0, 0),
         Event::Wait { thread, source } => thread_fields(thread, 0, source),
+        Event::Open { thread } => thread_fields(thread, 0, 0),
+        Event::Close { thread, outcome } => Fields {
+            thread,
+            location: 0,
+            source: 0,
+            version: 0,
+            threads: 0,
+            locations: 0,
+            outcome,
+        },
     }
 }
 
@@ -201,6 +224,11 @@ pub(crate) fn of_kind(kind: u16, f: Fields) -> Event
         },
         13 => Event::Signal { thread },
         14 => Event::Wait { thread, source },
+        15 => Event::Open { thread },
+        16 => Event::Close {
+            thread,
+            outcome: f.outcome,
+        },
         _ => Event::Crash,
     }
 }

@@ -11,6 +11,7 @@ mod parts;
 mod reader;
 mod reading;
 mod scanning;
+mod versions;
 mod writing;
 
 pub use events::Event;
@@ -35,5 +36,6 @@ pub use reading::read_first;
 pub use scanning::Scan;
 pub use scanning::Scanned;
 pub use scanning::refusal_of;
+pub use versions::later_refusal;
 pub use writing::Written;
 pub use writing::write;

@@ -17,7 +17,7 @@ use crate::reading::Frame;
 use crate::reading::frame_of;
 
 // The size of the record at a position, its length bytes included; 0 where it cannot be framed.
-fn size_at(trace: &[u8], at: usize) -> usize
+pub(crate) fn size_at(trace: &[u8], at: usize) -> usize
     requires { ⌜ at ≤ length (now trace) ⌝ }
     ensures { λ r. ⌜ (r ≡ sizeAt (now (trace .entry)) at) × (at + r ≤ length (now (trace .entry))) ⌝ }
 {
@@ -85,7 +85,7 @@ fn no_source(next: usize) -> SourceAt
 }
 
 // The record of that size at a position, if its kind has a source: its thread and source stand where the row says.
-fn source_if(sourced: bool, trace: &[u8], at: usize, size: usize, row: [u16; 8]) -> SourceAt
+fn source_if(sourced: bool, trace: &[u8], at: usize, size: usize, row: [u16; 10]) -> SourceAt
     requires { ⌜ (at + size ≤ length (now trace)) × RowFits row size ⌝ }
     ensures { λ r. ⌜ r ≡ sourceIf sourced (now (trace .entry)) at size row ⌝ }
 {

@@ -14,6 +14,7 @@ use crate::events::of_kind;
 use crate::kinds::LENGTH;
 use crate::kinds::LOCATION;
 use crate::kinds::LOCATIONS;
+use crate::kinds::OUTCOME;
 use crate::kinds::SOURCE;
 use crate::kinds::THREAD;
 use crate::kinds::THREADS;
@@ -41,7 +42,7 @@ fn field(s: &[u8], at: u16) -> u16
 }
 
 // The values of the fields that a row of the table places in a record.
-pub(crate) fn fields_at(s: &[u8], row: [u16; 8]) -> Fields
+pub(crate) fn fields_at(s: &[u8], row: [u16; 10]) -> Fields
     requires { ⌜ RowFits row (length (now s)) ⌝ }
     ensures { λ r. ⌜ r ≡ fieldsAt (now (s .entry)) row ⌝ }
 {
@@ -52,6 +53,7 @@ pub(crate) fn fields_at(s: &[u8], row: [u16; 8]) -> Fields
         version: field(s, row[VERSION]),
         threads: field(s, row[THREADS]),
         locations: field(s, row[LOCATIONS]),
+        outcome: field(s, row[OUTCOME]),
     }
 }
 

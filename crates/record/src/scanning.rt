@@ -118,6 +118,8 @@ pub(crate) fn scan_step(trace: &[u8], at: usize) -> Scanned
         12 => scan_kind(trace, at, 12),
         13 => scan_kind(trace, at, 13),
         14 => scan_kind(trace, at, 14),
+        15 => scan_kind(trace, at, 15),
+        16 => scan_kind(trace, at, 16),
         _ => Scanned::Refused(refusal_at(trace, at)),
     }
 }

@@ -14,6 +14,7 @@ use crate::events::kind_of;
 use crate::kinds::LENGTH;
 use crate::kinds::LOCATION;
 use crate::kinds::LOCATIONS;
+use crate::kinds::OUTCOME;
 use crate::kinds::SOURCE;
 use crate::kinds::THREAD;
 use crate::kinds::THREADS;
@@ -38,7 +39,7 @@ fn put_field(out: &mut [u8], at: u16, v: u16)
 }
 
 // Stores the fields where a row of the table places them.
-fn put_fields(out: &mut [u8], row: [u16; 8], f: Fields)
+fn put_fields(out: &mut [u8], row: [u16; 10], f: Fields)
     requires { ⌜ RowFits row (length (now out)) ⌝ }
     ensures { λ _. ⌜ now (out .exit) ≡ putFields (now (out .entry)) row f ⌝ }
 {
@@ -48,6 +49,7 @@ fn put_fields(out: &mut [u8], row: [u16; 8], f: Fields)
     put_field(out, row[VERSION], f.version);
     put_field(out, row[THREADS], f.threads);
     put_field(out, row[LOCATIONS], f.locations);
+    put_field(out, row[OUTCOME], f.outcome);
 }
 
 // Writes an event's record at the front of the output, all field values taken. Fills the record's bytes and no others,

@@ -12,7 +12,7 @@ use Rattle.record.specs.Fields.{fieldsOf, TwoByte}
 use Rattle.record.specs.declared.events.Event.{Event}
 use Rattle.record.specs.declared.events.Event.the-variants.{Begin, Issue, Commit, Load, Clflush, Clwb}
 use Rattle.record.specs.declared.events.Event.the-variants.{Sfence, Mfence, Crash, SkipOn, SkipOff, Locked}
-use Rattle.record.specs.declared.events.Event.the-variants.{Signal, Wait}
+use Rattle.record.specs.declared.events.Event.the-variants.{Signal, Wait, Open, Close}
 use Rattle.record.proofs.events.Event.{the-type}
 use Rattle.record.proofs.RoundTrips.{AllBytes}
 
@@ -31,6 +31,8 @@ two-byte-fields (SkipOff t) vs g = record { small = omega (arith, g .1 .1 .1 .1)
 two-byte-fields (Locked t x s) vs g = record { small = omega (arith, g .1 .1 .1 .1) }
 two-byte-fields (Signal t) vs g = record { small = omega (arith, g .1 .1 .1 .1) }
 two-byte-fields (Wait t s) vs g = record { small = omega (arith, g .1 .1 .1 .1) }
+two-byte-fields (Open t) vs g = record { small = omega (arith, g .1 .1 .1 .1) }
+two-byte-fields (Close t o) vs g = record { small = omega (arith, g .1 .1 .1 .1) }
 
 pub all-bytes : (s : List ℕ) → ((i : ℕ) → Fits w8 (getD s i 0)) → AllBytes s
 all-bytes s fits = record { byte = λ i. omega (arith, fits i) }

@@ -7,6 +7,7 @@ use record::Event;
 use record::Fields;
 use show::again;
 use show::back;
+use show::later;
 use show::name;
 use show::parts_of;
 use show::read;
@@ -66,6 +67,8 @@ fn kinds() {
     read(b"\x02\x00\x0d\x00");
     read(b"\x04\x00\x0e\x00\x00\x00");
     read(b"\x02\x00\x0f\x00");
+    read(b"\x04\x00\x10\x00\x00\x00");
+    read(b"\x02\x00\x11\x00");
     read(b"\x02\x00\x09\x01");
     read(b"\x04\x00\x63\x00\x00");
     read(b"\x09\x00\x01\x00\x01\x00\x01\x00\x02\x00\x00");
@@ -121,6 +124,11 @@ fn kinds_from_crash() {
     write(Event::Wait {
         thread: 6,
         source: 261,
+    });
+    write(Event::Open { thread: 7 });
+    write(Event::Close {
+        thread: 8,
+        outcome: 65534,
     });
 }
 
@@ -181,7 +189,7 @@ fn positions() {
 }
 
 // Records as plain numbers: through B, a load and a crash, then at the end and inside records; a locked operation; a
-// wait; then refusals 2, 3 and 4 with ten bytes and with fewer.
+// wait; an open and a close, with their lengths and with others; then refusals 2, 3 and 4 with ten bytes and with fewer.
 fn scans() {
     title(b"scans");
     let trace =
@@ -195,10 +203,14 @@ fn scans() {
     scan_from(trace, 22);
     scan(b"\x08\x00\x0c\x00\x03\x00\x04\x00\x04\x01");
     scan(b"\x06\x00\x0e\x00\x06\x00\x05\x01");
+    scan(b"\x04\x00\x0f\x00\x07\x00");
+    scan(b"\x06\x00\x10\x00\x08\x00\xfe\xff");
+    scan(b"\x06\x00\x0f\x00\x07\x00\x00\x00");
+    scan(b"\x04\x00\x10\x00\x08\x00\x02\x00\x09\x00");
     scan(b"");
     scan(b"\x09\x00\x01\x00\x01\x00\x01\x00\x02\x00");
     scan(b"\x08\x00\x01");
-    scan(b"\x02\x00\x0f\x00\x02\x00\x09\x00\x02\x00\x09\x00");
+    scan(b"\x02\x00\x11\x00\x02\x00\x09\x00\x02\x00\x09\x00");
     scan(b"\x02\x00\x63\x00");
     scan(b"\x04\x00\x09\x00\x00\x00\x02\x00\x09\x00");
     scan(b"\x04\x00\x09\x00\x00\x00");
@@ -214,6 +226,7 @@ fn names() {
         version: 1,
         threads: 2,
         locations: 3,
+        outcome: 7,
     };
     name(0, f);
     name(1, f);
@@ -224,6 +237,8 @@ fn names() {
     name(13, f);
     name(14, f);
     name(15, f);
+    name(16, f);
+    name(17, f);
     name(65535, f);
 }
 
@@ -239,6 +254,21 @@ fn parts() {
     parts_of(b"\x02\x00\x09\x00\x02\x00\x09");
 }
 
+// What refuses the record at a position behind the first, by the trace's version, where a number refuses it read alone: an
+// open of a wrong length behind B, a crash of one, a close whose bytes are missing, and the end.
+fn versions() {
+    title(b"versions");
+    let trace =
+        b"\x08\x00\x01\x00\x01\x00\x01\x00\x02\x00\x02\x00\x0f\x00\x03\x00\x09\x00\x00\x06\x00\x10\x00";
+    later(trace, 1, 10, 4);
+    later(trace, 2, 10, 4);
+    later(trace, 1, 10, 3);
+    later(trace, 1, 14, 4);
+    later(trace, 1, 19, 2);
+    later(trace, 1, 23, 1);
+    later(trace, 1, 18446744073709551615, 4);
+}
+
 fn main() {
     examples();
     lengths();
@@ -250,5 +280,6 @@ fn main() {
     positions();
     scans();
     names();
+    versions();
     parts();
 }

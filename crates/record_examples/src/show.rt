@@ -82,6 +82,11 @@ fn event(e: Event) {
             of_thread(b" wait", thread);
             value(source);
         }
+        Event::Open { thread } => of_thread(b" open", thread),
+        Event::Close { thread, outcome } => {
+            of_thread(b" close", thread);
+            value(outcome);
+        }
     }
 }
 
@@ -149,6 +154,7 @@ fn fields(f: Fields) {
     value(f.version);
     value(f.threads);
     value(f.locations);
+    value(f.outcome);
 }
 
 fn numbers(s: Scanned) {
@@ -177,13 +183,26 @@ pub fn scan(s: &[u8]) {
     numbers(record::scan_at(s, 0));
 }
 
-// The numbers of the record at a position: its kind, its fields (thread, location, source, version, threads and
-// locations) and the position past it.
+// The numbers of the record at a position: its kind, its fields (thread, location, source, version, threads, locations and
+// outcome) and the position past it.
 pub fn scan_from(s: &[u8], at: usize) {
     say(b"scan at");
     number(at as u64);
     say(b":");
     numbers(record::scan_at(s, at));
+}
+
+// What refuses the record at a position of a trace of that version, where number k refuses it read alone.
+pub fn later(s: &[u8], version: u16, at: usize, k: u16) {
+    say(b"in version");
+    value(version);
+    say(b" at");
+    number(at as u64);
+    say(b", alone");
+    value(k);
+    say(b":");
+    value(record::later_refusal(version, s, at, k));
+    say(b"\n");
 }
 
 // The event of a kind with these fields.

@@ -58,6 +58,14 @@ fn print_counts(counts: &Counts, made: &[u64]) {
     );
     println!("accepted, with a wait: {}, of them broken by waits alone: {}", counts.waits, counts.broken_by_waits);
     println!("broken, flush, with a window that a wait opens: {}", counts.opened_by_waits);
+    println!(
+        "accepted, with a close that counts loads: {}, of them several at once: {}",
+        counts.counting_closes, counts.several_held
+    );
+    println!(
+        "broken at a close: {}, robust by loads that are dropped: {}",
+        counts.broken_at_close, counts.robust_by_drops
+    );
     for refusal in REFUSALS {
         println!("refused {refusal}: {}", counts.refused[usize::from(refusal)]);
     }

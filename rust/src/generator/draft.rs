@@ -19,6 +19,7 @@ pub struct Draft {
     pub bytes: Vec<u8>,
     /// The number of the last event.
     pub events: u16,
+    pub version: u16,
     pub threads: u16,
     pub locations: u16,
     pub crashes: u16,
@@ -28,6 +29,10 @@ pub struct Draft {
     queues: Vec<VecDeque<(u16, u16)>>,
     /// Bit t is set while a skip of thread t is on.
     skips: u16,
+    /// Bit t is set while thread t is open.
+    open: u16,
+    /// Bit t is set if the loads that thread t holds read half-written data.
+    torn: u16,
     /// The store committed last in this stretch to each location, or 0.
     current: Vec<u16>,
     /// The commits of this stretch: store, location, thread.
@@ -50,12 +55,15 @@ impl Draft {
         Draft {
             bytes: Vec::new(),
             events: 0,
+            version: 0,
             threads: 0,
             locations: 0,
             crashes: 0,
             used: Vec::new(),
             queues: (0..9).map(|_| VecDeque::new()).collect(),
             skips: 0,
+            open: 0,
+            torn: 0,
             current: vec![0; 257],
             commits: Vec::new(),
             landed: Vec::new(),
@@ -67,10 +75,11 @@ impl Draft {
     }
 
     /// Starts a trace with a begin. Every location is used.
-    pub fn begin(&mut self, threads: u16, locations: u16) {
+    pub fn begin(&mut self, version: u16, threads: u16, locations: u16) {
         self.bytes.clear();
-        self.put(1, &[1, threads, locations]);
+        self.put(1, &[version, threads, locations]);
         self.events = 0;
+        self.version = version;
         self.threads = threads;
         self.locations = locations;
         self.crashes = 0;
@@ -78,6 +87,7 @@ impl Draft {
         self.used.extend(0..locations);
         self.queues.iter_mut().for_each(VecDeque::clear);
         self.skips = 0;
+        self.open = 0;
         self.current.fill(0);
         self.commits.clear();
         self.landed.clear();
@@ -87,23 +97,28 @@ impl Draft {
         self.waited = None;
     }
 
-    /// Starts a trace of few threads and few used locations.
+    /// Starts a trace of some version, few threads and few used locations.
     pub fn begin_some(&mut self, random: &Random) {
-        let threads = random.pick(&[1, 1, 1, 2, 2, 2, 2, 3, 3, 4, 8]);
-        self.begin_spread(threads, random.pick(&[1, 2, 3, 3, 4, 5]), random);
+        self.begin_version(random.between(1, 2), random);
     }
 
-    /// Starts a trace of several threads and several used locations.
+    /// Starts a trace of few threads and few used locations.
+    pub fn begin_version(&mut self, version: u16, random: &Random) {
+        let threads = random.pick(&[1, 1, 1, 2, 2, 2, 2, 3, 3, 4, 8]);
+        self.begin_spread(version, threads, random.pick(&[1, 2, 3, 3, 4, 5]), random);
+    }
+
+    /// Starts a trace of some version, several threads and several used locations.
     pub fn begin_several(&mut self, random: &Random) {
         let threads = random.pick(&[2, 2, 3, 3, 4, 8]);
-        self.begin_spread(threads, random.between(3, 6), random);
+        self.begin_spread(random.between(1, 2), threads, random.between(3, 6), random);
     }
 
     /// Starts a trace that uses so many locations, in some spread over the cache lines.
-    fn begin_spread(&mut self, threads: u16, count: u16, random: &Random) {
+    fn begin_spread(&mut self, version: u16, threads: u16, count: u16, random: &Random) {
         let used = Spread::draw(random).locations(count, random);
         let least = 1 + used.iter().max().expect("at least one location");
-        self.begin(threads, (least + random.pick(&[0, 0, 1, 9])).min(256));
+        self.begin(version, threads, (least + random.pick(&[0, 0, 1, 9])).min(256));
         self.used = used;
     }
 
@@ -164,14 +179,50 @@ impl Draft {
                 continue;
             }
             self.crash(settings, random);
-            for _ in 0..random.below(settings.loads_after_crash + 1).min((events - self.events).into()) {
-                let (thread, location) = (self.some_thread(random), self.some_location(random));
-                if random.below(100) < settings.locked_after_crash {
-                    self.locked(thread, location, settings, random);
-                } else {
-                    self.load(thread, location, settings, random);
-                }
+            let loads = random.below(settings.loads_after_crash + 1) as u16;
+            self.load_after_crash(loads.min(events - self.events), settings, random);
+        }
+    }
+
+    /// Appends so many events of threads that have no waiting store, most of them loads. Some are in regions.
+    fn load_after_crash(&mut self, more: u16, settings: &Settings, random: &Random) {
+        let end = self.events + more;
+        while self.events < end {
+            let thread = self.some_thread(random);
+            if self.version == 2 && random.below(100) < settings.regions_after_crash {
+                self.region(thread, end, settings, random);
+            } else {
+                self.load_or_lock(thread, settings, random);
             }
+        }
+    }
+
+    /// Opens a thread, if it is not open, and appends some loads, most of them of that thread, and most often a close.
+    /// Ends at an event number at the latest.
+    fn region(&mut self, thread: u16, end: u16, settings: &Settings, random: &Random) {
+        if !self.opened(thread) {
+            self.open_or_close(thread, settings, random);
+        }
+        let room = (end - self.events).saturating_sub(1);
+        for _ in 0..room.min(random.pick(&[0, 1, 3, 5, 8, 12])) {
+            match random.below(100) {
+                0..=14 => self.load_or_lock(self.some_thread(random), settings, random),
+                drawn if drawn < 15 + 8 * settings.skip => self.skip(thread),
+                _ => self.load_or_lock(thread, settings, random),
+            }
+        }
+        if self.events < end && !random.once_in(8) {
+            self.open_or_close(thread, settings, random);
+        }
+    }
+
+    /// Appends a load, or now and then a locked operation, of a thread that has no waiting store.
+    fn load_or_lock(&mut self, thread: u16, settings: &Settings, random: &Random) {
+        let location = self.some_location(random);
+        if random.below(100) < settings.locked_after_crash {
+            self.locked(thread, location, settings, random);
+        } else {
+            self.load(thread, location, settings, random);
         }
     }
 
@@ -193,7 +244,8 @@ impl Draft {
     /// Appends an allowed event that is no crash.
     fn step(&mut self, settings: &Settings, random: &Random) {
         let Settings { issue, commit, load, flush, fence, skip, locked, signal, wait, .. } = *settings;
-        let weights = [issue, commit, load, flush, fence, skip, locked, signal, wait];
+        let region = if self.version == 2 { settings.region } else { 0 };
+        let weights = [issue, commit, load, flush, fence, skip, locked, signal, wait, region];
         let mut drawn = random.below(weights.iter().sum());
         let mut action = 0;
         while drawn >= weights[action] {
@@ -213,6 +265,7 @@ impl Draft {
             4 if self.drained(thread) => self.put(random.between(7, 8), &[thread]),
             4 => self.sfence(thread),
             5 => self.skip(thread),
+            9 => self.open_or_close(thread, settings, random),
             8 if !self.signals.is_empty() => self.wait(thread, random.pick(&self.signals)),
             _ => match self.thread_with_queue(true, random) {
                 Some(thread) if action == 6 => self.locked(thread, location, settings, random),
@@ -346,6 +399,31 @@ impl Draft {
         self.skips ^= 1 << thread;
     }
 
+    /// Whether a thread is open.
+    pub fn opened(&self, thread: u16) -> bool {
+        self.open >> thread & 1 == 1
+    }
+
+    /// Whether a thread is in a region whose loads read half-written data.
+    fn reads_torn(&self, thread: u16) -> bool {
+        (self.open & self.torn) >> thread & 1 == 1
+    }
+
+    /// Opens a thread, or closes it if it is open. Most often, what read half-written data is dropped, and the rest
+    /// counts.
+    pub fn open_or_close(&mut self, thread: u16, settings: &Settings, random: &Random) {
+        let bit = 1 << thread;
+        if self.opened(thread) {
+            let counts =
+                if self.reads_torn(thread) { random.below(100) < settings.wrong_sum } else { !random.once_in(8) };
+            self.put(16, &[thread, counts.into()]);
+        } else {
+            self.put(15, &[thread]);
+            self.torn = if random.below(100) < settings.torn { self.torn | bit } else { self.torn & !bit };
+        }
+        self.open ^= bit;
+    }
+
     /// Loads from an allowed source.
     fn load(&mut self, thread: u16, location: u16, settings: &Settings, random: &Random) {
         self.put(4, &[thread, location, self.source(thread, location, settings, random)]);
@@ -361,6 +439,7 @@ impl Draft {
     pub fn source(&self, thread: u16, location: u16, settings: &Settings, random: &Random) -> u16 {
         match self.named_source(thread, location) {
             Some(store) => store,
+            None if self.reads_torn(thread) => self.some_source(location, random),
             None if random.below(1_000) < settings.any_source => self.some_source(location, random),
             None => self.memory[usize::from(location)],
         }
@@ -397,6 +476,7 @@ impl Draft {
         self.queues.iter_mut().for_each(VecDeque::clear);
         self.current.fill(0);
         self.skips = 0;
+        self.open = 0;
         self.ended.append(&mut self.signals);
         self.waited = None;
     }

@@ -12,6 +12,7 @@ pub fn near_miss(draft: &mut Draft, random: &Random) {
     match rule {
         1 => return no_begin(draft, random),
         6 => return bad_begin(draft, random),
+        19 => draft.begin_version(random.pick(&[1, 2, 2, 2, 2, 2]), random),
         _ => draft.begin_some(random),
     }
     let before = random.between(0, 30);
@@ -28,25 +29,25 @@ pub fn near_miss(draft: &mut Draft, random: &Random) {
 
 /// A first record that is no begin. A begin may come behind it, and records may follow.
 fn no_begin(draft: &mut Draft, random: &Random) {
-    draft.begin(1, 2);
+    draft.begin(1, 1, 2);
     draft.bytes.clear();
     any_record(draft, random);
     if random.once_in(4) {
         spoil(&mut draft.bytes, 0, random);
     }
     if random.once_in(2) {
-        draft.put(1, &[1, 1, 2]);
+        draft.put(1, &[random.between(1, 2), 1, 2]);
     }
     (0..random.below(5)).for_each(|_| any_record(draft, random));
 }
 
 /// A begin with a field out of range, followed by some records.
 fn bad_begin(draft: &mut Draft, random: &Random) {
-    draft.begin(1, 2);
+    draft.begin(1, 1, 2);
     draft.bytes.clear();
-    let mut fields = [1, random.between(1, 8), random.between(1, 256)];
+    let mut fields = [random.between(1, 2), random.between(1, 8), random.between(1, 256)];
     let place = random.below(3);
-    fields[place] = random.pick(&[0, [2, 9, 257][place], random.between(258, u16::MAX), u16::MAX]);
+    fields[place] = random.pick(&[0, [3, 9, 257][place], random.between(258, u16::MAX), u16::MAX]);
     draft.put(1, &fields);
     if random.once_in(8) {
         spoil(&mut draft.bytes, 0, random);
@@ -62,17 +63,15 @@ pub fn make_mistake(draft: &mut Draft, rule: u16, settings: &Settings, random: &
         2 => cut_short(draft, random),
         3 => unknown_kind(draft, random),
         4 => wrong_length(draft, random),
-        5 => draft.put(1, &[random.between(0, 2), random.between(0, 9), random.between(0, 300)]),
+        5 => draft.put(1, &[random.between(0, 3), random.between(0, 9), random.between(0, 300)]),
         7 => wrong_thread(draft, random),
         8 => wrong_location(draft, random),
         9 => wrong_source(draft, random),
         10 => draft.put(3, &[draft.thread_with_queue(true, random).unwrap_or(0)]),
         11 => waiting_store(draft, settings, random),
-        12 => {
-            let thread = draft.some_thread(random);
-            draft.put(if draft.skips(thread) { 10 } else { 11 }, &[thread]);
-        }
+        12 => wrong_switch(draft, random),
         18 => wrong_signal(draft, random),
+        19 => wrong_outcome(draft, random),
         _ if draft.events >= 2_048 => any_record(draft, random),
         _ => draft.put(9, &[]),
     }
@@ -90,6 +89,7 @@ fn prepare(draft: &mut Draft, rule: u16, settings: &Settings, random: &Random) {
         13 if random.once_in(200) => (draft.events..2_048).for_each(|_| draft.sfence(0)),
         13 => (draft.crashes..7).for_each(|_| draft.crash(settings, random)),
         18 => prepare_signal(draft, settings, random),
+        12 | 19 if draft.version == 2 => prepare_region(draft, settings, random),
         _ => {}
     }
 }
@@ -115,6 +115,16 @@ fn prepare_signal(draft: &mut Draft, settings: &Settings, random: &Random) {
     }
 }
 
+/// Opens or closes some thread, once or twice. A crash, which ends the open state, may come behind.
+fn prepare_region(draft: &mut Draft, settings: &Settings, random: &Random) {
+    for _ in 0..random.below(3) {
+        draft.open_or_close(draft.some_thread(random), settings, random);
+    }
+    if draft.crashes < 7 && random.once_in(4) {
+        draft.crash(settings, random);
+    }
+}
+
 /// Appends a record whose bytes end early.
 fn cut_short(draft: &mut Draft, random: &Random) {
     let start = draft.bytes.len();
@@ -123,9 +133,12 @@ fn cut_short(draft: &mut Draft, random: &Random) {
     draft.bytes.truncate(start + 1 + random.below(size - 1));
 }
 
-/// Appends a record of an unknown kind, with any length.
+/// Appends a record of an unknown kind, with any length; in version 1 often one that version 2 knows.
 fn unknown_kind(draft: &mut Draft, random: &Random) {
-    let kind = random.pick(&[0, KINDS + 1, 99, 256 + 9, u16::MAX, random.between(KINDS + 1, u16::MAX)]);
+    let mut kind = random.pick(&[0, KINDS + 1, 99, 256 + 9, u16::MAX, random.between(KINDS + 1, u16::MAX)]);
+    if draft.version == 1 && random.once_in(2) {
+        kind = random.between(15, 16);
+    }
     let length = random.pick(&[2, 4, 6, 8, random.between(2, 20)]);
     framed(draft, length, kind, random);
 }
@@ -189,6 +202,24 @@ fn wrong_signal(draft: &mut Draft, random: &Random) {
     draft.put(14, &[thread, source]);
 }
 
+/// Appends a switch of a thread that is as it says already: a skip, in version 2 also an open or a close.
+fn wrong_switch(draft: &mut Draft, random: &Random) {
+    let thread = draft.some_thread(random);
+    if draft.version == 1 || random.once_in(2) {
+        draft.put(if draft.skips(thread) { 10 } else { 11 }, &[thread]);
+    } else if draft.opened(thread) {
+        draft.put(15, &[thread]);
+    } else {
+        draft.put(16, &[thread, random.between(0, 1)]);
+    }
+}
+
+/// Appends a close with another outcome than 0 and 1, of a thread that is open or not.
+fn wrong_outcome(draft: &mut Draft, random: &Random) {
+    let outcome = random.pick(&[2, 3, 255, 256, 257, u16::MAX, random.between(2, u16::MAX)]);
+    draft.put(16, &[draft.some_thread(random), outcome]);
+}
+
 /// Appends an mfence, a signal or a locked operation of a thread that has a waiting store. The source is one that the
 /// load rule allows, or any.
 fn waiting_store(draft: &mut Draft, settings: &Settings, random: &Random) {
@@ -211,7 +242,7 @@ fn any_number(draft: &Draft, random: &Random) -> u16 {
 fn wrong_thread(draft: &mut Draft, random: &Random) {
     let thread = random.pick(&[draft.threads, draft.threads + 1, 8, 9, 256, u16::MAX]).max(draft.threads);
     let location = if random.once_in(2) { draft.locations } else { draft.some_location(random) };
-    let kind = random.pick(&[2, 3, 4, 5, 6, 7, 8, 10, 11, 12, 13, 14]);
+    let kind = random.pick(&[2, 3, 4, 5, 6, 7, 8, 10, 11, 12, 13, 14, 15, 16]);
     put_located(draft, kind, thread, location, random.between(0, draft.events + 1));
 }
 
@@ -222,10 +253,15 @@ fn wrong_location(draft: &mut Draft, random: &Random) {
     put_located(draft, random.pick(&[2, 4, 5, 6, 12]), thread, location, source);
 }
 
-/// Appends a record of any kind, with the fields that it has.
+/// Appends a record of any kind, with the fields that it has; the outcome of a close is the location's
+/// remainder by 3.
 fn put_located(draft: &mut Draft, kind: u16, thread: u16, location: u16, source: u16) {
-    let fields = if kind == 14 { [thread, source, 0] } else { [thread, location, source] };
-    let count = [0, 3, 2, 1, 3, 2, 2, 1, 1, 0, 1, 1, 3, 1, 2][usize::from(kind)];
+    let fields = match kind {
+        14 => [thread, source, 0],
+        16 => [thread, location % 3, 0],
+        _ => [thread, location, source],
+    };
+    let count = [0, 3, 2, 1, 3, 2, 2, 1, 1, 0, 1, 1, 3, 1, 2, 1, 2][usize::from(kind)];
     draft.put(kind, &fields[..count]);
 }
 
@@ -253,7 +289,7 @@ fn spoil(bytes: &mut Vec<u8>, start: usize, random: &Random) {
 /// A begin and records of any kinds with small fields.
 pub fn random_records(draft: &mut Draft, random: &Random) {
     let (threads, locations) = (random.between(1, 3), random.between(1, 3));
-    draft.begin(threads, locations);
+    draft.begin(random.between(1, 2), threads, locations);
     for _ in 0..random.below(20) {
         any_record(draft, random);
     }

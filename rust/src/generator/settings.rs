@@ -13,6 +13,8 @@ pub struct Settings {
     pub locked: usize,
     pub signal: usize,
     pub wait: usize,
+    /// Opens and closes, in traces that may have them.
+    pub region: usize,
     /// Of 100 steps, how many hand a store on by a load.
     pub hand_on: usize,
     /// Of 100 steps, how many are hand-overs by a signal.
@@ -27,10 +29,16 @@ pub struct Settings {
     pub loads_after_crash: usize,
     /// Of 100 of them, how many are locked operations.
     pub locked_after_crash: usize,
+    /// Of 100 of them that are in no region, how many have one in front, in traces that may have regions.
+    pub regions_after_crash: usize,
     /// What stays of a stretch's stores after a crash, as the loads see it.
     pub memory: Memory,
-    /// Of 1,000 crossing loads, how many read anything that the load rule allows.
+    /// Of 1,000 crossing loads, how many read anything that the load rule allows. Those in a torn region all do.
     pub any_source: usize,
+    /// Of 100 regions, how many are torn: their loads read half-written data.
+    pub torn: usize,
+    /// Of 100 closes of torn regions, how many count the loads: such a trace is often broken.
+    pub wrong_sum: usize,
 }
 
 /// What stays of a stretch's stores after a crash.
@@ -60,6 +68,7 @@ impl Settings {
             locked: random.pick(&[0, 0, 1, 4]),
             signal: random.pick(&[0, 0, 0, 1]),
             wait: random.pick(&[0, 0, 0, 1]),
+            region: random.pick(&[0, 1, 2, 4]),
             hand_on: random.pick(&[0, 0, 15, 40]),
             hand_over: random.pick(&[0, 0, 0, 20]),
             swap_chain: random.pick(&[0, 0, 20, 60]),
@@ -67,8 +76,11 @@ impl Settings {
             commits: random.pick(&[0, 2, 4, 4, 5, 5, 5, 6, 6, 6]),
             loads_after_crash: random.pick(&[8, 24, 32]),
             locked_after_crash: random.pick(&[0, 0, 10, 40]),
+            regions_after_crash: random.pick(&[0, 40, 100, 100]),
             memory: random.pick(&[Memory::InOrder, Memory::ByThread, Memory::ByLocation, Memory::ByLocation]),
             any_source: random.pick(&[0, 300, 600, 1_000]),
+            torn: random.pick(&[0, 10, 40]),
+            wrong_sum: random.pick(&[0, 60, 100]),
         }
     }
 
@@ -101,6 +113,7 @@ impl Settings {
             crash: random.pick(&[10, 30, 50]),
             memory: random.pick(&[Memory::InOrder, Memory::InOrder, Memory::ByThread]),
             any_source: random.pick(&[0, 0, 1, 10]),
+            wrong_sum: random.pick(&[0, 0, 1, 10]),
             ..Settings::draw(random)
         }
     }

@@ -2,7 +2,7 @@
 
 use super::EVENTS;
 use crate::types::Event;
-use std::collections::VecDeque;
+use std::collections::{BTreeMap, VecDeque};
 
 /// "A store is named by its issue's event number."
 pub struct Store {
@@ -28,8 +28,19 @@ pub struct Load {
     pub location: u16,
     pub source: u16,
     pub stretch: u16,
-    /// "A crossing load in a skip is checked but not counted; all other crossing loads count."
-    pub counted: bool,
+    /// "A crossing load in a skip is checked but not counted; all other crossing loads count." Document 02, job 7: one
+    /// under a checksum is held, and counts later or not at all.
+    pub heeded: bool,
+}
+
+/// What stands under a checksum, document 02, job 7: "kind 15 (open: thread, length 4) and kind 16 (close: thread,
+/// outcome, length 6)".
+struct Region {
+    thread: u16,
+    stretch: u16,
+    open: u16,
+    /// The event number of the close and its outcome; `None` if a crash or the trace's end came first.
+    close: Option<(u16, u16)>,
 }
 
 /// A signal that the machine accepted.
@@ -50,12 +61,16 @@ pub struct Wait {
 /// The state of the machine and what it has seen. Stores stand in the order of their event numbers, and so do loads,
 /// signals and waits.
 pub struct Machine {
+    pub version: u16,
     pub threads: u16,
     locations: u16,
     /// "A stretch is the part between crashes, numbered from 1"
     pub stretch: u16,
     queues: Vec<VecDeque<usize>>,
     skips: Vec<bool>,
+    /// The region in which each thread is, if it is open.
+    opened: Vec<Option<usize>>,
+    regions: Vec<Region>,
     commits: usize,
     pub stores: Vec<Store>,
     pub loads: Vec<Load>,
@@ -67,11 +82,14 @@ impl Machine {
     /// "The trace starts with empty queues, no skips and no commits."
     pub fn new() -> Self {
         Machine {
+            version: 0,
             threads: 0,
             locations: 0,
             stretch: 1,
             queues: Vec::new(),
             skips: Vec::new(),
+            opened: Vec::new(),
+            regions: Vec::new(),
             commits: 0,
             stores: Vec::new(),
             loads: Vec::new(),
@@ -94,7 +112,7 @@ impl Machine {
     pub fn step(&mut self, number: u16, event: &Event) -> Result<(), u16> {
         self.general(number, event)?;
         match *event {
-            Event::Begin { threads, locations, .. } => self.begin(threads, locations),
+            Event::Begin { version, threads, locations } => self.begin(version, threads, locations),
             Event::Issue { thread, location } => self.issue(number, thread, location),
             Event::Commit { thread } => self.commit(thread)?,
             Event::Load { thread, location, source } => self.load(number, thread, location, source)?,
@@ -106,6 +124,8 @@ impl Machine {
             Event::Locked { thread, location, source } => self.locked(number, thread, location, source)?,
             Event::Signal { thread } => self.signal(number, thread)?,
             Event::Wait { thread, source } => self.wait(number, thread, source)?,
+            Event::Open { thread } => self.open(number, thread)?,
+            Event::Close { thread, outcome } => self.close(number, thread, outcome)?,
         }
         Ok(())
     }
@@ -129,11 +149,13 @@ impl Machine {
     }
 
     /// "begin | version (1), threads n, locations m"
-    fn begin(&mut self, threads: u16, locations: u16) {
+    fn begin(&mut self, version: u16, threads: u16, locations: u16) {
+        self.version = version;
         self.threads = threads;
         self.locations = locations;
         self.queues = (0..threads).map(|_| VecDeque::new()).collect();
         self.skips = vec![false; threads.into()];
+        self.opened = vec![None; threads.into()];
     }
 
     /// "Issue: the store joins its thread's queue."
@@ -163,8 +185,8 @@ impl Machine {
         if !allowed {
             return Err(9);
         }
-        let counted = named.is_none() && !self.skips[usize::from(thread)];
-        self.loads.push(Load { event, thread, location, source, stretch: self.stretch, counted });
+        let heeded = named.is_none() && !self.skips[usize::from(thread)];
+        self.loads.push(Load { event, thread, location, source, stretch: self.stretch, heeded });
         Ok(())
     }
 
@@ -225,11 +247,13 @@ impl Machine {
         }
     }
 
-    /// "a crash finishes it, drops waiting stores, ends skips and starts counts afresh"
+    /// "a crash finishes it, drops waiting stores, ends skips and starts counts afresh". Document 02, job 7: "a crash
+    /// ends the open state."
     fn crash(&mut self) {
         self.stretch += 1;
         self.queues.iter_mut().for_each(VecDeque::clear);
         self.skips.fill(false);
+        self.opened.fill(None);
     }
 
     /// "A skip [...] is on or off per thread." Refusal 12: "skip already on, or already off".
@@ -241,13 +265,69 @@ impl Machine {
         *skip = on;
         Ok(())
     }
+
+    /// Document 02, job 7: "12 for open when open".
+    fn open(&mut self, event: u16, thread: u16) -> Result<(), u16> {
+        let opened = &mut self.opened[usize::from(thread)];
+        if opened.is_some() {
+            return Err(12);
+        }
+        *opened = Some(self.regions.len());
+        self.regions.push(Region { thread, stretch: self.stretch, open: event, close: None });
+        Ok(())
+    }
+
+    /// Document 02, job 7: "12 for [...] close when not; 19 for another outcome, before 12."
+    fn close(&mut self, event: u16, thread: u16, outcome: u16) -> Result<(), u16> {
+        if outcome != 0 && outcome != 1 {
+            return Err(19);
+        }
+        let region = self.opened[usize::from(thread)].take().ok_or(12_u16)?;
+        self.regions[region].close = Some((event, outcome));
+        Ok(())
+    }
+
+    /// The loads that count, by the event as of which they do.
+    pub fn counted(&self) -> BTreeMap<u16, Vec<&Load>> {
+        let mut counted = BTreeMap::new();
+        for load in &self.loads {
+            if let Some(event) = self.counts_as_of(load) {
+                counted.entry(event).or_insert_with(Vec::new).push(load);
+            }
+        }
+        counted
+    }
+
+    /// Document 02, job 7: "A thread's crossing loads in between are held. Outcome 1 counts them all as of the close; 0
+    /// drops them; a crash or the trace's end drops them". A load outside counts as of itself.
+    fn counts_as_of(&self, load: &Load) -> Option<u16> {
+        if !load.heeded {
+            return None;
+        }
+        match self.regions.iter().find(|region| region.holds(load)).map(|region| region.close) {
+            None => Some(load.event),
+            Some(Some((event, 1))) => Some(event),
+            Some(_) => None,
+        }
+    }
 }
 
-/// "version (1), threads n, locations m", "Threads: 1 to 8", "Locations: 1 to 256": refusal 6 otherwise.
+impl Region {
+    /// Whether a load of its thread stands "in between". A crash ends the region, so both are of one stretch.
+    fn holds(&self, load: &Load) -> bool {
+        self.thread == load.thread
+            && self.stretch == load.stretch
+            && self.open < load.event
+            && self.close.is_none_or(|(close, _)| load.event < close)
+    }
+}
+
+/// "version (1), threads n, locations m", "Threads: 1 to 8", "Locations: 1 to 256": refusal 6 otherwise. Document 02,
+/// job 7: "6 lets versions 1 and 2 pass".
 fn in_range(begin: &Event) -> bool {
     match *begin {
         Event::Begin { version, threads, locations } => {
-            version == 1 && (1..=8).contains(&threads) && (1..=256).contains(&locations)
+            (1..=2).contains(&version) && (1..=8).contains(&threads) && (1..=256).contains(&locations)
         }
         _ => false,
     }
@@ -267,7 +347,9 @@ fn places_of(event: &Event) -> (Option<u16>, Option<u16>) {
         | Event::SkipOn { thread }
         | Event::SkipOff { thread }
         | Event::Signal { thread }
-        | Event::Wait { thread, .. } => (Some(thread), None),
+        | Event::Wait { thread, .. }
+        | Event::Open { thread }
+        | Event::Close { thread, .. } => (Some(thread), None),
         Event::Begin { .. } | Event::Crash => (None, None),
     }
 }

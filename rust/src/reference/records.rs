@@ -1,9 +1,20 @@
-//! Records of a trace. "The record layer knows nothing of threads or crashes".
+//! Records of a trace. "The record layer knows nothing of threads or crashes"; of versions it knows which kinds they
+//! have.
 
 use crate::types::{Event, Refusal};
 
 /// "Kinds and their lengths are one fixed table": the length of kind k stands at k - 1.
-const LENGTHS: [u16; 14] = [8, 6, 4, 8, 6, 6, 4, 4, 2, 4, 4, 8, 4, 6];
+const LENGTHS: [u16; 16] = [8, 6, 4, 8, 6, 6, 4, 4, 2, 4, 4, 8, 4, 6, 4, 6];
+
+/// Document 02, job 7: "Version 2 of the begin record admits kind 15 [...] and kind 16". The largest kind that a record
+/// behind the first may have.
+fn last_kind(version: u16) -> u16 {
+    if version == 1 {
+        14
+    } else {
+        16
+    }
+}
 
 /// "Little-endian." The two-byte number at a position.
 fn number(bytes: &[u8], at: usize) -> u16 {
@@ -23,10 +34,10 @@ fn framed(bytes: &[u8]) -> Result<&[u8], u16> {
     bytes.get(..2 + usize::from(length)).ok_or(2)
 }
 
-/// The event of a framed record, or the refusal: "3, wrong length".
-fn decoded(record: &[u8]) -> Result<Event, u16> {
+/// The event of a framed record that may have the kinds 1 to `last`, or the refusal: "3, wrong length".
+fn decoded(record: &[u8], last: u16) -> Result<Event, u16> {
     let kind = number(record, 2);
-    if kind == 0 || usize::from(kind) > LENGTHS.len() {
+    if kind == 0 || kind > last {
         return Err(3);
     }
     if number(record, 0) != LENGTHS[usize::from(kind) - 1] {
@@ -47,26 +58,38 @@ fn decoded(record: &[u8]) -> Result<Event, u16> {
         11 => Event::SkipOff { thread: field(0) },
         12 => Event::Locked { thread: field(0), location: field(1), source: field(2) },
         13 => Event::Signal { thread: field(0) },
-        _ => Event::Wait { thread: field(0), source: field(1) },
+        14 => Event::Wait { thread: field(0), source: field(1) },
+        15 => Event::Open { thread: field(0) },
+        _ => Event::Close { thread: field(0), outcome: field(1) },
     })
 }
 
 /// "Reading one record alone, the first of the bytes given, ignores what follows it and gives its event, or 1 (no
 /// bytes), 2, 3 or 4, with event 0." The bytes given are those from a position on; also gives the position past it.
-/// Document 02, job 6, on empty bytes: "Other calls still turn it away."
+/// Document 02, job 6, on empty bytes: "Other calls still turn it away." Job 7 on kinds 15 and 16: "Read alone, or as a
+/// trace's first record, the two kinds are known".
 ///
 /// # Errors
 ///
 /// The refusal, with event 0.
 pub fn read_at(trace: &[u8], at: usize) -> Result<(Event, usize), Refusal> {
-    let refused = |number| Refusal { number, event: 0 };
+    read_kinds(trace, at, last_kind(2)).map_err(|number| Refusal { number, event: 0 })
+}
+
+/// The record at a position of a trace, behind its first one. Document 02, job 7, on kinds 15 and 16: "later in a
+/// version 1 trace they get 3, ahead of a wrong length."
+pub fn read_later(trace: &[u8], at: usize, version: u16) -> Result<(Event, usize), u16> {
+    read_kinds(trace, at, last_kind(version))
+}
+
+/// The record at a position, which may have the kinds 1 to `last`, or its refusal.
+fn read_kinds(trace: &[u8], at: usize, last: u16) -> Result<(Event, usize), u16> {
     let bytes = trace.get(at..).unwrap_or(&[]);
     if bytes.is_empty() {
-        return Err(refused(1));
+        return Err(1);
     }
-    let record = framed(bytes).map_err(refused)?;
-    let event = decoded(record).map_err(refused)?;
-    Ok((event, at + record.len()))
+    let record = framed(bytes)?;
+    Ok((decoded(record, last)?, at + record.len()))
 }
 
 /// "A call returns record number e as a part of the caller's trace, length bytes included; it returns an empty part
@@ -118,6 +141,8 @@ fn fields_of(event: &Event) -> (u16, [u16; 3]) {
         Event::Locked { thread, location, source } => (12, [thread, location, source]),
         Event::Signal { thread } => (13, [thread, 0, 0]),
         Event::Wait { thread, source } => (14, [thread, source, 0]),
+        Event::Open { thread } => (15, [thread, 0, 0]),
+        Event::Close { thread, outcome } => (16, [thread, outcome, 0]),
     }
 }
 
@@ -138,6 +163,21 @@ mod tests {
         assert_eq!(read_at(&[3, 0, 99, 0, 0], 0), refused(3));
         assert_eq!(read_at(&[3, 0, 9, 0, 0], 0), refused(4));
         assert_eq!(read_at(&[2, 0, 9, 0, 0], 0), Ok((Event::Crash, 4)));
+    }
+
+    #[test]
+    fn kinds_15_and_16_are_unknown_behind_a_begin_of_version_1() {
+        let (open, close) = ([4, 0, 15, 0, 2, 0], [6, 0, 16, 0, 3, 0, 1, 0]);
+        let events = [Event::Open { thread: 2 }, Event::Close { thread: 3, outcome: 1 }];
+        for (record, event) in [&open[..], &close].into_iter().zip(events) {
+            let read = (event, record.len());
+            assert_eq!((read_at(record, 0), read_later(record, 0, 2)), (Ok(read), Ok(read)));
+            assert_eq!(read_later(record, 0, 1), Err(3));
+            let wrong = [&[3, 0], &record[2..5]].concat();
+            assert_eq!((read_at(&wrong, 0), read_later(&wrong, 0, 2)), (refused(4), Err(4)));
+            assert_eq!(read_later(&wrong, 0, 1), Err(3));
+            assert_eq!(read_later(&record[..3], 0, 1), Err(2));
+        }
     }
 
     #[test]

@@ -3,8 +3,8 @@
 //!
 //! Words are separated by blanks: B1.2.2 begin (version, threads, locations), I0.1 issue (thread, location), C0
 //! commit, L0.1<3 load from 3, F0.1 clflush, O0.1 clflushopt or clwb, SF0 sfence, MF0 mfence, X crash, SKIP0 skip on,
-//! UNSKIP0 skip off, R0.1<3 locked operation that loads from 3, S0 signal, W1<3 wait for signal 3, x0800 bytes in
-//! hexadecimal, 8*X a word eight times.
+//! UNSKIP0 skip off, R0.1<3 locked operation that loads from 3, S0 signal, W1<3 wait for signal 3, O0 open, which has a
+//! thread alone, K0.1 close (thread, outcome), x0800 bytes in hexadecimal, 8*X a word eight times.
 
 #![allow(dead_code)]
 
@@ -104,6 +104,8 @@ fn event(word: &str) -> Event {
         ("R", &[thread, location, source]) => Event::Locked { thread, location, source },
         ("S", &[thread]) => Event::Signal { thread },
         ("W", &[thread, source]) => Event::Wait { thread, source },
+        ("O", &[thread]) => Event::Open { thread },
+        ("K", &[thread, outcome]) => Event::Close { thread, outcome },
         _ => panic!("no such word: {word}"),
     }
 }

@@ -21,6 +21,9 @@ array-read-t18 c = search needs
 array-read-t21 : tie.Need-array-read-t21
 array-read-t21 c = search needs
 
+array-read-t24 : tie.Need-array-read-t24
+array-read-t24 c = search needs
+
 array-read-event-of-2 : tie.Need-array-read-event-of-2
 array-read-event-of-2 c = search needs
 
@@ -40,6 +43,7 @@ event-named-spec =
     array-read-t15
     array-read-t18
     array-read-t21
+    array-read-t24
     array-read-event-of-2
     event-of-requires
     returns)

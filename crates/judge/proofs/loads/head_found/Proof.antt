@@ -19,10 +19,10 @@ returns c =
     let at-event = c .before in
     let at-if1 = at-event .before in
     let args = at-if1 .before .before .args in
-    λ ev stepped at-x.
+    λ ev stepped load at-x.
     c .row-get .ensures
     ∙ (ap (λ (e : ℕ). getRow (args .work .now) e 14) (at-event .event-at .ensures)
-    ∙ head-linked ev _ (args .kind) (args .x) (args .tables .now) (args .work .now) stepped at-x (at-if1 .if1 .taken))
+    ∙ head-linked ev _ (args .kind) (args .x) (args .tables .now) (args .work .now) stepped load at-x (at-if1 .if1 .taken))
 
 last-committed-requires : tie.Need-last-committed-requires
 last-committed-requires c κs = search needs
@@ -31,9 +31,9 @@ returns-2 : tie.Need-returns-2
 returns-2 c =
     let at-if1 = c .before in
     let args = at-if1 .before .before .args in
-    λ ev stepped at-x.
+    λ ev stepped load at-x.
     c .last-committed .ensures
-    ∙ head-stays ev _ (args .kind) (args .x) (args .tables .now) (args .work .now) stepped at-x (at-if1 .if1 .left)
+    ∙ head-stays ev _ (args .kind) (args .x) (args .tables .now) (args .work .now) stepped load at-x (at-if1 .if1 .left)
 
 pub head-found-spec : {M : Type 1} → statement M
 head-found-spec =

@@ -24,16 +24,22 @@ enum-told c = search needs
 refusal-of-requires : tie.Need-refusal-of-requires
 refusal-of-requires c κs = search needs
 
+later-refusal-requires : tie.Need-later-refusal-requires
+later-refusal-requires c κs = search needs
+
 returns : tie.Need-returns
 returns c =
-    let at-told = c .before in
+    let at-refusal = c .before in
+    let at-told = at-refusal .before in
     let at-scan = at-told .before .before in
     let entry = at-scan .before .before .before in
     let args = entry .args in
     let told = at-told .enum-told .given in
-    let number : c .refusal-of .result ≡ told .0 .0 = c .refusal-of .ensures ∙ ap refusalOf (told .1) in
-    rw number
-    (scanned-unread (args .trace .now) (args .threads) (args .locations) (eventAt (args .t .row)) (args .t)
+    let number : at-refusal .refusal-of .result ≡ told .0 .0 =
+    at-refusal .refusal-of .ensures ∙ ap refusalOf (told .1)
+    in
+    rw (c .later-refusal .ensures, number)
+    (scanned-unread (args .trace .now) (args .version) (args .threads) (args .locations) (eventAt (args .t .row)) (args .t)
     (args .tables .now) (marksOf (args .marks .now) (args .flags .now)) (args .work .now) (entry .pre) (told .0 .0)
     (sym (told .1) ∙ at-scan .scan-at .ensures))
 
@@ -56,7 +62,7 @@ returns-2 c =
     let entry = at-scan .before .before .before in
     let args = entry .args in
     let told = at-record .d .given in
-    scanned-forbidden (args .trace .now) (args .threads) (args .locations) (eventAt (args .t .row)) (args .t)
+    scanned-forbidden (args .trace .now) (args .version) (args .threads) (args .locations) (eventAt (args .t .row)) (args .t)
     (args .tables .now) (marksOf (args .marks .now) (args .flags .now)) (args .work .now) (entry .pre) (told .0 .0)
     (sym (told .1) ∙ at-scan .scan-at .ensures) (at-step .step .result) _ _ (at-step .step .ensures)
     (λ none. omega arith) _ _ _
@@ -70,8 +76,8 @@ judge-event-requires c κs =
       omega (arith, at-step .step .kept .1 .1 .1 .0, state .rows .room),
     )
 
-add-t26 : tie.Need-add-t26
-add-t26 c =
+add-t28 : tie.Need-add-t28
+add-t28 c =
     let at-step = c .before .before .before .before .before .before .before .before .before in
     let entry = at-step .before .before .before .before .before .before .before .before .before .before in
     let state = entry .pre .state in
@@ -89,7 +95,7 @@ returns-3 c =
     let entry = at-scan .before .before .before in
     let args = entry .args in
     let told = at-record .d .given in
-    scanned-passes (args .trace .now) (args .threads) (args .locations) (eventAt (args .t .row)) (args .t)
+    scanned-passes (args .trace .now) (args .version) (args .threads) (args .locations) (eventAt (args .t .row)) (args .t)
     (args .tables .now) (marksOf (args .marks .now) (args .flags .now)) (args .work .now) (entry .pre) (told .0 .0)
     (sym (told .1) ∙ at-scan .scan-at .ensures) (at-step .step .result) _ _ (at-step .step .ensures)
     (omega (arith, at-if1 .if1 .left)) _ (c .judge-event .ensures (events (args .trace .now)))
@@ -102,11 +108,12 @@ judge-record-spec =
     enum-known-d
     enum-told
     refusal-of-requires
+    later-refusal-requires
     returns
     step-requires
     same-length
     returns-2
     judge-event-requires
-    add-t26
+    add-t28
     same-length-2
     returns-3)

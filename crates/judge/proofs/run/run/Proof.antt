@@ -37,19 +37,19 @@ all-length l size = ap length (all-of l 32768 size) ∙ size
 
 -- what a record led to
 module _
-    (bytes : List ℕ) (threads locations n : ℕ) (r : Next) (tables : List ℕ) (m : Marks) (work : List ℕ)
-    (after : After bytes threads locations n r tables m work) where
-  went-on : (t : Cursor) → r ≡ On t → Reached bytes threads locations (suc n) t tables m work
-  went-on t is = subst (λ (x : Next). After bytes threads locations n x tables m work) is after
+    (bytes : List ℕ) (version threads locations n : ℕ) (r : Next) (tables : List ℕ) (m : Marks) (work : List ℕ)
+    (after : After bytes version threads locations n r tables m work) where
+  went-on : (t : Cursor) → r ≡ On t → Reached bytes version threads locations (suc n) t tables m work
+  went-on t is = subst (λ (x : Next). After bytes version threads locations n x tables m work) is after
 
-  ended-by : (k : ℕ) → r ≡ Ended k → Stopped bytes threads locations n k tables m work
-  ended-by k is = subst (λ (x : Next). After bytes threads locations n x tables m work) is after
+  ended-by : (k : ℕ) → r ≡ Ended k → Stopped bytes version threads locations n k tables m work
+  ended-by k is = subst (λ (x : Next). After bytes version threads locations n x tables m work) is after
 
 -- what is answered where the run is over before record n, by number k
 answered :
-    (bytes : List ℕ) (threads locations n k : ℕ) (tables : List ℕ) (m : Marks) (work part cut₀ cut cut' : List ℕ)
+    (bytes : List ℕ) (version threads locations n k : ℕ) (tables : List ℕ) (m : Marks) (work part cut₀ cut cut' : List ℕ)
     (end : End) (v : Verdict)
-    → Stopped bytes threads locations n k tables m work
+    → Stopped bytes version threads locations n k tables m work
     → length cut₀ ≡ 56
     → cut ≡ cut₀
     → part ≡ work
@@ -57,10 +57,10 @@ answered :
     → v ≡ verdictAfter bytes end tables m part
     → cut' ≡ cutFrom end (m .counts) cut
     → AnswersAsDefined bytes v work × (cut' ≡ readingCut bytes cut₀ (begunReading bytes))
-answered bytes threads locations n k tables m work part cut₀ cut cut' end v stopped size lent all end-is v-is cut-is =
+answered bytes version threads locations n k tables m work part cut₀ cut cut' end v stopped size lent all end-is v-is cut-is =
     rw (v-is, cut-is, end-is, all, lent) (
-      stopped-answers bytes threads locations n k tables m work stopped cut₀ size,
-      stopped-with-cut bytes threads locations n k tables m work stopped cut₀ size .1,
+      stopped-answers bytes version threads locations n k tables m work stopped cut₀ size,
+      stopped-with-cut bytes version threads locations n k tables m work stopped cut₀ size .1,
     )
 
 -- between two records: the cut buffer is as lent, and the run has come to the record at the cursor's position
@@ -69,7 +69,7 @@ record Going
   same-size : length work ≡ length work₀
   size : length work ≡ 32768
   as-lent : cut ≡ cut₀
-  reached : Reached bytes (b .threads) (b .locations) (eventAt (t .row)) t tables m work
+  reached : Reached bytes (b .version) (b .threads) (b .locations) (eventAt (t .row)) t tables m work
 
 abbrev Inv-loop : tie.InvT-loop
 Inv-loop trace work₀ cut₀ size b tables₀ marks₀ flags₀ t₀ work cut tables marks flags t =
@@ -137,8 +137,8 @@ slice-reshare-prefix-verdict : tie.Need-slice-reshare-prefix-verdict Inv-loop μ
 slice-reshare-prefix-verdict c =
     let at-record = c .before .before .before .before .before .before .before .before .before in
     let here = at-record .before .before .before .before .before .loop in
-    let after : List ℕ = at-record .judge-record .last .1 .1 .1 .1 .1 .1 .1 .0 in
-    let size = at-record .judge-record .kept .1 .1 .1 .1 .1 .1 .1 .0 in
+    let after : List ℕ = at-record .judge-record .last .1 .1 .1 .1 .1 .1 .1 .1 .0 in
+    let size = at-record .judge-record .kept .1 .1 .1 .1 .1 .1 .1 .1 .0 in
     rw (nothing-behind (here .work) after 32768 (here .inv .size))
     (omega (arith, size, all-length (here .work) (here .inv .size)))
 
@@ -146,8 +146,8 @@ slice-aggregate-verdict : tie.Need-slice-aggregate-verdict Inv-loop μ-loop
 slice-aggregate-verdict c =
     let at-record = c .before .before .before .before .before .before .before .before .before .before in
     let here = at-record .before .before .before .before .before .loop in
-    let after : List ℕ = at-record .judge-record .last .1 .1 .1 .1 .1 .1 .1 .0 in
-    let size = at-record .judge-record .kept .1 .1 .1 .1 .1 .1 .1 .0 in
+    let after : List ℕ = at-record .judge-record .last .1 .1 .1 .1 .1 .1 .1 .1 .0 in
+    let size = at-record .judge-record .kept .1 .1 .1 .1 .1 .1 .1 .1 .0 in
     rw (nothing-behind (here .work) after 32768 (here .inv .size))
     (sym (length-take-le 32768 after (omega (arith, size, all-length (here .work) (here .inv .size)))))
 
@@ -164,8 +164,8 @@ same-length c =
     let at-told = at-verdict .before .before .before .before .before .before .before .before in
     let at-record = at-told .before .before .before .before in
     let here = at-record .before .before .before .before .before .loop in
-    let after : List ℕ = at-record .judge-record .last .1 .1 .1 .1 .1 .1 .1 .0 in
-    let size = at-record .judge-record .kept .1 .1 .1 .1 .1 .1 .1 .0 in
+    let after : List ℕ = at-record .judge-record .last .1 .1 .1 .1 .1 .1 .1 .1 .0 in
+    let size = at-record .judge-record .kept .1 .1 .1 .1 .1 .1 .1 .1 .0 in
     ap length (nothing-behind (here .work) after 32768 (here .inv .size))
     ∙ (size ∙ (all-length (here .work) (here .inv .size) ∙ (sym (here .inv .size) ∙ here .inv .same-size)))
 
@@ -191,16 +191,16 @@ returns-2 c =
     let entry = at-begin .before .before .before .before in
     let bytes : List ℕ = entry .args .trace .now in
     let told = at-told .enum-told .given in
-    let after : List ℕ = at-record .judge-record .last .1 .1 .1 .1 .1 .1 .1 .0 in
-    let size = at-record .judge-record .kept .1 .1 .1 .1 .1 .1 .1 .0 ∙ all-length (here .work) (here .inv .size) in
+    let after : List ℕ = at-record .judge-record .last .1 .1 .1 .1 .1 .1 .1 .1 .0 in
+    let size = at-record .judge-record .kept .1 .1 .1 .1 .1 .1 .1 .1 .0 ∙ all-length (here .work) (here .inv .size) in
     let all = nothing-behind (here .work) after 32768 (here .inv .size) in
     let stopped =
-    ended-by bytes (b .threads) (b .locations) (eventAt (here .t .row)) _ _ _ _ (at-record .judge-record .ensures)
+    ended-by bytes (b .version) (b .threads) (b .locations) (eventAt (here .t .row)) _ _ _ _ (at-record .judge-record .ensures)
     (told .0 .0) (told .1)
     in
     let number = at-number .number-in .ensures ∙ ap numberIn (told .1) in
     rw all
-    (answered bytes (b .threads) (b .locations) _ _ _ _ after _ _ _ _ _ _ stopped (entry .pre .1) (here .inv .as-lent)
+    (answered bytes (b .version) (b .threads) (b .locations) _ _ _ _ after _ _ _ _ _ _ stopped (entry .pre .1) (here .inv .as-lent)
     (ap (take 32768) all ∙ all-of after 32768 size) (rw (number, at-event .event-at .ensures) refl)
     (at-verdict .verdict .ensures .0) (at-verdict .verdict .ensures .1))
 
@@ -214,9 +214,9 @@ loop-less c =
     let b = at-begin .begin .result in
     let bytes : List ℕ = at-begin .before .before .before .before .args .trace .now in
     let told = at-next .r .given in
-    less-left bytes (b .threads) (b .locations) (eventAt (here .t .row)) (here .t) (here .tables)
+    less-left bytes (b .version) (b .threads) (b .locations) (eventAt (here .t .row)) (here .t) (here .tables)
     (marksOf (here .marks) (here .flags)) (here .work) (here .inv .reached) (told .0 .0) _ _ _
-    (went-on bytes (b .threads) (b .locations) (eventAt (here .t .row)) _ _ _ _ (at-record .judge-record .ensures)
+    (went-on bytes (b .version) (b .threads) (b .locations) (eventAt (here .t .row)) _ _ _ _ (at-record .judge-record .ensures)
     (told .0 .0) (told .1))
 
 loop-again : tie.Need-loop-again Inv-loop μ-loop
@@ -229,12 +229,12 @@ loop-again c =
     let b = at-begin .begin .result in
     let bytes : List ℕ = at-begin .before .before .before .before .args .trace .now in
     let told = at-next .r .given in
-    let after : List ℕ = at-record .judge-record .last .1 .1 .1 .1 .1 .1 .1 .0 in
+    let after : List ℕ = at-record .judge-record .last .1 .1 .1 .1 .1 .1 .1 .1 .0 in
     let size : length after ≡ 32768 =
-    at-record .judge-record .kept .1 .1 .1 .1 .1 .1 .1 .0 ∙ all-length (here .work) (here .inv .size)
+    at-record .judge-record .kept .1 .1 .1 .1 .1 .1 .1 .1 .0 ∙ all-length (here .work) (here .inv .size)
     in
     let next =
-    went-on bytes (b .threads) (b .locations) (eventAt (here .t .row)) _ _ _ _ (at-record .judge-record .ensures)
+    went-on bytes (b .version) (b .threads) (b .locations) (eventAt (here .t .row)) _ _ _ _ (at-record .judge-record .ensures)
     (told .0 .0) (told .1)
     in
     rw (nothing-behind (here .work) after 32768 (here .inv .size))
@@ -242,7 +242,7 @@ loop-again c =
       same-size = size ∙ (sym (here .inv .size) ∙ here .inv .same-size);
       size = size;
       as-lent = here .inv .as-lent;
-      reached = reached-here bytes (b .threads) (b .locations) _ (told .0 .0) _ _ after next;
+      reached = reached-here bytes (b .version) (b .threads) (b .locations) _ (told .0 .0) _ _ after next;
     })
 
 pub run-spec : {M : Type 1} → statement M

@@ -8,6 +8,9 @@ use Rattle.machine.proofs.effects.finish_thread.Tie as tie
 thread-of-requires : tie.Need-thread-of-requires
 thread-of-requires c κs = search needs
 
+region-of-requires : tie.Need-region-of-requires
+region-of-requires c κs = search needs
+
 commits-requires : tie.Need-commits-requires
 commits-requires c κs = search needs
 
@@ -23,14 +26,24 @@ crash-requires c κs = search needs
 restart-requires : tie.Need-restart-requires
 restart-requires c κs = search needs
 
+crash-requires-2 : tie.Need-crash-requires-2
+crash-requires-2 c κs = search needs
+
+put-region-requires : tie.Need-put-region-requires
+put-region-requires c κs = search needs
+
 returns : tie.Need-returns
 unfolding finishedThread
 returns c =
-    let at-commits = c .before .before .before in
-    let at-thread-of = at-commits .before in
+    let at-restart = c .before .before .before in
+    let at-commits = at-restart .before .before .before in
+    let at-region-of = at-commits .before in
+    let at-thread-of = at-region-of .before .before in
     rw (
-      c .restart .ensures,
-      c .before .crash .ensures,
+      c .put-region .ensures,
+      c .before .crash2 .ensures,
+      at-restart .restart .ensures,
+      at-restart .before .crash .ensures,
       at-commits .commits .ensures .0,
       at-thread-of .thread-of .ensures,
     )
@@ -41,9 +54,12 @@ finish-thread-spec =
     tie.close
     (tie.spec
     thread-of-requires
+    region-of-requires
     commits-requires
     mul-tables
     element-write-tables
     crash-requires
     restart-requires
+    crash-requires-2
+    put-region-requires
     returns)

@@ -1,27 +1,31 @@
 -- The definition's tests, in their order.
-use borrow.Author.Tests.{eq-eqb, ne-eqb, lt-ltb, le-ltb}
+use borrow.Author.Tests.{lt-ltb, le-ltb}
 use Rattle.machine.specs.Turning.{beginRule}
 use Rattle.machine.proofs.rules.begin_rule.Statement.{statement}
 use Rattle.machine.proofs.rules.begin_rule.Tie as tie
 
 returns : tie.Need-returns
 unfolding beginRule
-returns c = simp (ne-eqb _ _ (c .if1 .taken))
+returns c = simp (lt-ltb _ _ (c .if1 .taken))
 
 returns-2 : tie.Need-returns-2
 unfolding beginRule
-returns-2 c = simp (eq-eqb _ _ (c .before .if1 .left), lt-ltb _ _ (c .if2 .taken))
+returns-2 c = simp (le-ltb _ _ (c .before .if1 .left), lt-ltb _ _ (c .if2 .taken))
 
 returns-3 : tie.Need-returns-3
 unfolding beginRule
 returns-3 c =
-    simp (eq-eqb _ _ (c .before .before .if1 .left), le-ltb _ _ (c .before .if2 .left), lt-ltb _ _ (c .if3 .taken))
+    simp (
+      le-ltb _ _ (c .before .before .if1 .left),
+      le-ltb _ _ (c .before .if2 .left),
+      lt-ltb _ _ (c .if3 .taken),
+    )
 
 returns-4 : tie.Need-returns-4
 unfolding beginRule
 returns-4 c =
     simp (
-      eq-eqb _ _ (c .before .before .before .if1 .left),
+      le-ltb _ _ (c .before .before .before .if1 .left),
       le-ltb _ _ (c .before .before .if2 .left),
       le-ltb _ _ (c .before .if3 .left),
       lt-ltb _ _ (c .if4 .taken),
@@ -30,11 +34,9 @@ returns-4 c =
 returns-5 : tie.Need-returns-5
 unfolding beginRule
 returns-5 c =
-    let at-if2 = c .before .before .before in
-    let at-if1 = at-if2 .before in
     simp (
-      eq-eqb _ _ (at-if1 .if1 .left),
-      le-ltb _ _ (at-if2 .if2 .left),
+      le-ltb _ _ (c .before .before .before .before .if1 .left),
+      le-ltb _ _ (c .before .before .before .if2 .left),
       le-ltb _ _ (c .before .before .if3 .left),
       le-ltb _ _ (c .before .if4 .left),
       lt-ltb _ _ (c .if5 .taken),
@@ -43,15 +45,26 @@ returns-5 c =
 returns-6 : tie.Need-returns-6
 unfolding beginRule
 returns-6 c =
-    let at-if2 = c .before .before .before in
-    let at-if1 = at-if2 .before in
     simp (
-      eq-eqb _ _ (at-if1 .if1 .left),
-      le-ltb _ _ (at-if2 .if2 .left),
-      le-ltb _ _ (c .before .before .if3 .left),
-      le-ltb _ _ (c .before .if4 .left),
-      le-ltb _ _ (c .if5 .left),
+      le-ltb _ _ (c .before .before .before .before .before .if1 .left),
+      le-ltb _ _ (c .before .before .before .before .if2 .left),
+      le-ltb _ _ (c .before .before .before .if3 .left),
+      le-ltb _ _ (c .before .before .if4 .left),
+      le-ltb _ _ (c .before .if5 .left),
+      lt-ltb _ _ (c .if6 .taken),
+    )
+
+returns-7 : tie.Need-returns-7
+unfolding beginRule
+returns-7 c =
+    simp (
+      le-ltb _ _ (c .before .before .before .before .before .if1 .left),
+      le-ltb _ _ (c .before .before .before .before .if2 .left),
+      le-ltb _ _ (c .before .before .before .if3 .left),
+      le-ltb _ _ (c .before .before .if4 .left),
+      le-ltb _ _ (c .before .if5 .left),
+      le-ltb _ _ (c .if6 .left),
     )
 
 pub begin-rule-spec : {M : Type 1} → statement M
-begin-rule-spec = tie.close (tie.spec returns returns-2 returns-3 returns-4 returns-5 returns-6)
+begin-rule-spec = tie.close (tie.spec returns returns-2 returns-3 returns-4 returns-5 returns-6 returns-7)

@@ -2,7 +2,6 @@
 use mathlib.Core.Path.{refl, _∙_}
 use native.Mathlib.Omega.{arith}
 use borrow.Author.Tests.{not-true, not-false}
-use Rattle.machine.specs.Effects.{crossW}
 use Rattle.machine.proofs.RuleLaws.{row-inside, stopped, passes, source-noted, source-not-noted, skip-stays}
 use borrow.Author.Needs.{needs}
 use Rattle.machine.proofs.steps.load_across.Statement.{statement}
@@ -40,7 +39,6 @@ same-length-2 : tie.Need-same-length-2
 same-length-2 c = search needs
 
 returns-2 : tie.Need-returns-2
-unfolding crossW
 returns-2 c =
     let at-thread-of = c .before .before in
     let at-work = at-thread-of .before .before .before in

@@ -31,6 +31,12 @@ signal-requires c κs = search needs
 wait-requires : tie.Need-wait-requires
 wait-requires c κs = search needs
 
+open-region-requires : tie.Need-open-region-requires
+open-region-requires c κs = search needs
+
+close-region-requires : tie.Need-close-region-requires
+close-region-requires c κs = search needs
+
 flush-requires : tie.Need-flush-requires
 flush-requires c κs = search needs
 
@@ -117,27 +123,21 @@ same-length-8 : tie.Need-same-length-8
 same-length-8 c = search needs
 
 returns-8 : tie.Need-returns-8
-unfolding stepO
+unfolding stepO byKind
 returns-8 c =
-    let at-flush = c .before .before in
-    let at-if2 = at-flush .before .before in
-    let at-if1 = at-if2 .before in
-    let at-match = at-if1 .before in
-    let others = at-match .match .rest .0 .0 .0 in
-    let low = behind-load _ (at-if1 .if1 .left) (others .0 .0 .0 .1) (others .0 .0 .1) (others .0 .1) in
-    at-flush .flush .ensures _ ∙ flush-arm _ _ _ _ _ _ _ _ _ _ _ _ low (le-of-suc-le-suc (at-if2 .if2 .taken))
+    let at-open = c .before .before in
+    let at-match = at-open .before .before .before in
+    rw (at-match .match .keys8) (at-open .open-region .ensures)
 
 same-length-9 : tie.Need-same-length-9
 same-length-9 c = search needs
 
 returns-9 : tie.Need-returns-9
-unfolding stepO
+unfolding stepO byKind
 returns-9 c =
-    let at-fence = c .before .before in
-    let at-if3 = at-fence .before .before .before in
-    let at-if2 = at-if3 .before in
-    at-fence .fence .ensures
-    ∙ fence-arm _ _ _ _ _ _ _ _ _ _ _ _ (omega (arith, at-if2 .if2 .left)) (omega (arith, at-if3 .if3 .taken))
+    let at-close = c .before .before in
+    let at-match = at-close .before .before .before in
+    rw (at-match .match .keys9) (at-close .close-region .ensures)
 
 same-length-10 : tie.Need-same-length-10
 same-length-10 c = search needs
@@ -145,22 +145,57 @@ same-length-10 c = search needs
 returns-10 : tie.Need-returns-10
 unfolding stepO
 returns-10 c =
-    let at-skip = c .before .before in
-    let at-if4 = at-skip .before .before .before in
-    let at-if3 = at-if4 .before in
-    let at-match = at-if3 .before .before .before in
-    let low = behind-crash _ (at-if3 .if3 .left) (at-match .match .rest .0 .0 .0 .1) in
-    at-skip .skip .ensures ∙ skip-arm _ _ _ _ _ _ _ _ _ _ _ _ low (le-of-suc-le-suc (at-if4 .if4 .taken))
+    let at-flush = c .before .before in
+    let at-if2 = at-flush .before .before in
+    let at-if1 = at-if2 .before in
+    let at-match = at-if1 .before in
+    let others = at-match .match .rest .0 .0 .0 .0 .0 in
+    let low = behind-load _ (at-if1 .if1 .left) (others .0 .0 .0 .1) (others .0 .0 .1) (others .0 .1) in
+    at-flush .flush .ensures _ ∙ flush-arm _ _ _ _ _ _ _ _ _ _ _ _ _ _ low (le-of-suc-le-suc (at-if2 .if2 .taken))
+
+same-length-11 : tie.Need-same-length-11
+same-length-11 c = search needs
 
 returns-11 : tie.Need-returns-11
 unfolding stepO
 returns-11 c =
+    let at-fence = c .before .before in
+    let at-if3 = at-fence .before .before .before in
+    let at-if2 = at-if3 .before in
+    at-fence .fence .ensures
+    ∙ fence-arm _ _ _ _ _ _ _ _ _ _ _ _ _ _ (omega (arith, at-if2 .if2 .left)) (omega (arith, at-if3 .if3 .taken))
+
+same-length-12 : tie.Need-same-length-12
+same-length-12 c = search needs
+
+returns-12 : tie.Need-returns-12
+unfolding stepO
+returns-12 c =
+    let at-skip = c .before .before in
+    let at-if4 = at-skip .before .before .before in
+    let at-if3 = at-if4 .before in
+    let at-match = at-if3 .before .before .before in
+    let low = behind-crash _ (at-if3 .if3 .left) (at-match .match .rest .0 .0 .0 .0 .0 .1) in
+    at-skip .skip .ensures ∙ skip-arm _ _ _ _ _ _ _ _ _ _ _ _ _ _ low (le-of-suc-le-suc (at-if4 .if4 .taken))
+
+returns-13 : tie.Need-returns-13
+unfolding stepO
+returns-13 c =
     let others = c .before .before .match .rest in
     rw (c .refuse .ensures)
-    (other-arm _ _ _ _ _ _ _ _ _ _ _ _
+    (other-arm _ _ _ _ _ _ _ _ _ _ _ _ _ _
     (λ low high.
     ⊎-elim (λ under. omega (arith, under .taken))
-    (λ over. omega (arith, over .3 .left, others .0 .0 .1, others .0 .1, others .1))
+    (λ over.
+    omega (
+      arith,
+      over .3 .left,
+      others .0 .0 .0 .0 .1,
+      others .0 .0 .0 .1,
+      others .0 .0 .1,
+      others .0 .1,
+      others .1,
+    ))
     (c .before .if1 .came)))
 
 pub step-spec : {M : Type 1} → statement M
@@ -174,6 +209,8 @@ step-spec =
     locked-requires
     signal-requires
     wait-requires
+    open-region-requires
+    close-region-requires
     flush-requires
     fence-requires
     skip-requires
@@ -198,4 +235,8 @@ step-spec =
     returns-9
     same-length-10
     returns-10
-    returns-11)
+    same-length-11
+    returns-11
+    same-length-12
+    returns-12
+    returns-13)

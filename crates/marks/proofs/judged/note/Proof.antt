@@ -1,4 +1,5 @@
--- The definition's two stores, and the third if the load breaks the trace.
+-- The definition's two stores.
+use mathlib.Core.Path.{refl}
 use Rattle.marks.specs.Judged.{noted}
 use borrow.Author.Needs.{needs}
 use Rattle.marks.proofs.judged.note.Statement.{statement}
@@ -22,24 +23,9 @@ mul-marks-2 c = search needs
 element-write-marks-2 : tie.Need-element-write-marks-2
 element-write-marks-2 c = search needs
 
-event-at-requires : tie.Need-event-at-requires
-event-at-requires c κs = search needs
-
-element-write-marks-3 : tie.Need-element-write-marks-3
-element-write-marks-3 c = search needs
-
 returns : tie.Need-returns
 unfolding noted
-returns c =
-    let at-if1 = c .before in
-    let at-source = at-if1 .before in
-    simp (c .event-at .ensures, at-if1 .if1 .taken, at-source .source .ensures .0, at-source .before .last .ensures .0)
-
-returns-2 : tie.Need-returns-2
-unfolding noted
-returns-2 c =
-    let at-source = c .before in
-    simp (c .if1 .left, at-source .source .ensures .0, at-source .before .last .ensures .0)
+returns c = rw (c .before .last .ensures .0, c .source .ensures .0) refl
 
 pub note-spec : {M : Type 1} → statement M
 note-spec =
@@ -51,7 +37,4 @@ note-spec =
     source-requires
     mul-marks-2
     element-write-marks-2
-    event-at-requires
-    element-write-marks-3
-    returns
-    returns-2)
+    returns)

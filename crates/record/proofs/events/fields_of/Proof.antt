@@ -86,6 +86,15 @@ enum-known-e-13 c = search needs
 thread-fields-requires-13 : tie.Need-thread-fields-requires-13
 thread-fields-requires-13 c κs = search needs
 
+enum-known-e-14 : tie.Need-enum-known-e-14
+enum-known-e-14 c = search needs
+
+thread-fields-requires-14 : tie.Need-thread-fields-requires-14
+thread-fields-requires-14 c κs = search needs
+
+enum-known-e-15 : tie.Need-enum-known-e-15
+enum-known-e-15 c = search needs
+
 returns : tie.Need-returns
 returns c = sym (ap fieldsOf (c .before .e .given .1))
 
@@ -128,6 +137,12 @@ returns-13 c = c .thread-fields12 .ensures ∙ sym (ap fieldsOf (c .before .befo
 returns-14 : tie.Need-returns-14
 returns-14 c = c .thread-fields13 .ensures ∙ sym (ap fieldsOf (c .before .before .e13 .given .1))
 
+returns-15 : tie.Need-returns-15
+returns-15 c = c .thread-fields14 .ensures ∙ sym (ap fieldsOf (c .before .before .e14 .given .1))
+
+returns-16 : tie.Need-returns-16
+returns-16 c = sym (ap fieldsOf (c .before .e15 .given .1))
+
 pub fields-of-spec : {M : Type 1} → statement M
 fields-of-spec =
     tie.close
@@ -159,6 +174,9 @@ fields-of-spec =
     thread-fields-requires-12
     enum-known-e-13
     thread-fields-requires-13
+    enum-known-e-14
+    thread-fields-requires-14
+    enum-known-e-15
     returns
     returns-2
     returns-3
@@ -172,4 +190,6 @@ fields-of-spec =
     returns-11
     returns-12
     returns-13
-    returns-14)
+    returns-14
+    returns-15
+    returns-16)

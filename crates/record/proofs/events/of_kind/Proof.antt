@@ -58,7 +58,15 @@ returns-13 c = rw (c .match .keys13)
 
 returns-14 : tie.Need-returns-14
 unfolding eventOf
-returns-14 c = crash-else _ _ (c .match .rest)
+returns-14 c = rw (c .match .keys14)
+
+returns-15 : tie.Need-returns-15
+unfolding eventOf
+returns-15 c = rw (c .match .keys15)
+
+returns-16 : tie.Need-returns-16
+unfolding eventOf
+returns-16 c = crash-else _ _ (c .match .rest)
 
 pub of-kind-spec : {M : Type 1} → statement M
 of-kind-spec =
@@ -77,4 +85,6 @@ of-kind-spec =
     returns-11
     returns-12
     returns-13
-    returns-14)
+    returns-14
+    returns-15
+    returns-16)

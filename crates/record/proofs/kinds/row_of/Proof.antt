@@ -81,6 +81,12 @@ array-copy-out-result-15 c = search needs
 array-copy-out-result-16 : tie.Need-array-copy-out-result-16
 array-copy-out-result-16 c = search needs
 
+array-copy-out-result-17 : tie.Need-array-copy-out-result-17
+array-copy-out-result-17 c = search needs
+
+array-copy-out-result-18 : tie.Need-array-copy-out-result-18
+array-copy-out-result-18 c = search needs
+
 returns-7 : tie.Need-returns-7
 unfolding rowOf
 returns-7 c = rw (c .before .match2 .keys1) refl
@@ -118,7 +124,15 @@ unfolding rowOf
 returns-15 c = rw (c .before .match2 .keys9) refl
 
 returns-16 : tie.Need-returns-16
-returns-16 c = zeros-else _ (c .before .before .if1 .left) (c .before .match2 .rest)
+unfolding rowOf
+returns-16 c = rw (c .before .match2 .keys10) refl
+
+returns-17 : tie.Need-returns-17
+unfolding rowOf
+returns-17 c = rw (c .before .match2 .keys11) refl
+
+returns-18 : tie.Need-returns-18
+returns-18 c = zeros-else _ (c .before .before .if1 .left) (c .before .match2 .rest)
 
 pub row-of-spec : {M : Type 1} → statement M
 row-of-spec =
@@ -146,6 +160,8 @@ row-of-spec =
     array-copy-out-result-14
     array-copy-out-result-15
     array-copy-out-result-16
+    array-copy-out-result-17
+    array-copy-out-result-18
     returns-7
     returns-8
     returns-9
@@ -155,4 +171,6 @@ row-of-spec =
     returns-13
     returns-14
     returns-15
-    returns-16)
+    returns-16
+    returns-17
+    returns-18)

@@ -39,6 +39,12 @@ array-read-field-6 c = search needs
 field-requires-6 : tie.Need-field-requires-6
 field-requires-6 c κs = search needs
 
+array-read-field-7 : tie.Need-array-read-field-7
+array-read-field-7 c = search needs
+
+field-requires-7 : tie.Need-field-requires-7
+field-requires-7 c κs = search needs
+
 returns : tie.Need-returns
 returns c = cc
 
@@ -58,4 +64,6 @@ fields-at-spec =
     field-requires-5
     array-read-field-6
     field-requires-6
+    array-read-field-7
+    field-requires-7
     returns)

@@ -134,6 +134,22 @@ scan-kind-requires-14 c κs =
     let room = at-end .end-refusal .ensures .1 (at-kind .before .if1 .left) in
     known-at (args .trace .now) (args .at) _ 14 (at-kind .word-at .ensures) (c .match .keys14) refl room
 
+scan-kind-requires-15 : tie.Need-scan-kind-requires-15
+scan-kind-requires-15 c κs =
+    let at-kind = c .before in
+    let at-end = at-kind .before .before in
+    let args = at-end .before .before .args in
+    let room = at-end .end-refusal .ensures .1 (at-kind .before .if1 .left) in
+    known-at (args .trace .now) (args .at) _ 15 (at-kind .word-at .ensures) (c .match .keys15) refl room
+
+scan-kind-requires-16 : tie.Need-scan-kind-requires-16
+scan-kind-requires-16 c κs =
+    let at-kind = c .before in
+    let at-end = at-kind .before .before in
+    let args = at-end .before .before .args in
+    let room = at-end .end-refusal .ensures .1 (at-kind .before .if1 .left) in
+    known-at (args .trace .now) (args .at) _ 16 (at-kind .word-at .ensures) (c .match .keys16) refl room
+
 refusal-at-requires : tie.Need-refusal-at-requires
 refusal-at-requires c κs = search needs
 
@@ -180,7 +196,13 @@ returns-15 : tie.Need-returns-15
 returns-15 c = search needs
 
 returns-16 : tie.Need-returns-16
-returns-16 c =
+returns-16 c = search needs
+
+returns-17 : tie.Need-returns-17
+returns-17 c = search needs
+
+returns-18 : tie.Need-returns-18
+returns-18 c =
     let at-kind = c .before .before in
     let at-end = at-kind .before .before in
     let args = at-end .before .before .args in
@@ -209,6 +231,8 @@ scan-step-spec =
     scan-kind-requires-12
     scan-kind-requires-13
     scan-kind-requires-14
+    scan-kind-requires-15
+    scan-kind-requires-16
     refusal-at-requires
     returns-2
     returns-3
@@ -224,4 +248,6 @@ scan-step-spec =
     returns-13
     returns-14
     returns-15
-    returns-16)
+    returns-16
+    returns-17
+    returns-18)

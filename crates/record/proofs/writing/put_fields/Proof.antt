@@ -42,13 +42,20 @@ array-read-put-field-6 c = search needs
 put-field-requires-6 : tie.Need-put-field-requires-6
 put-field-requires-6 c κs = search needs
 
+array-read-put-field-7 : tie.Need-array-read-put-field-7
+array-read-put-field-7 c = search needs
+
+put-field-requires-7 : tie.Need-put-field-requires-7
+put-field-requires-7 c κs = search needs
+
 same-length : tie.Need-same-length
 same-length c = search needs
 
 returns : tie.Need-returns
 unfolding putFields
 returns c =
-    let at6 = c .before .before in
+    let at7 = c .before .before in
+    let at6 = at7 .before .before .before .before in
     let at5 = at6 .before .before .before .before in
     let at4 = at5 .before .before .before .before in
     let at3 = at4 .before .before .before .before in
@@ -64,7 +71,11 @@ returns c =
         (
           _,
           at3 .put-field3 .ensures,
-          (_, at4 .put-field4 .ensures, (_, at5 .put-field5 .ensures, (_, at6 .put-field6 .ensures, refl))),
+          (
+            _,
+            at4 .put-field4 .ensures,
+            (_, at5 .put-field5 .ensures, (_, at6 .put-field6 .ensures, (_, at7 .put-field7 .ensures, refl))),
+          ),
         ),
       ),
     )
@@ -85,5 +96,7 @@ put-fields-spec =
     put-field-requires-5
     array-read-put-field-6
     put-field-requires-6
+    array-read-put-field-7
+    put-field-requires-7
     same-length
     returns)

@@ -1,0 +1,102 @@
+-- The rules, one after the other.
+use mathlib.Core.Path.{refl, sym, _∙_}
+use native.Mathlib.Omega.{arith}
+use borrow.Author.Tests.{not-false, lt-ltb, le-ltb}
+use Rattle.machine.specs.Effects.{closeW}
+use Rattle.machine.proofs.RuleLaws.{row-inside, behind, stopped, turned-away, passes}
+use borrow.Author.Needs.{needs}
+use Rattle.machine.proofs.steps.close_region.Statement.{statement}
+use Rattle.machine.proofs.steps.close_region.Tie as tie
+
+refuse-requires : tie.Need-refuse-requires
+refuse-requires c κs = search needs
+
+returns : tie.Need-returns
+returns c = stopped _ _ _ _ _ _ _ _ _ (rw (lt-ltb _ 2 (c .before .if1 .taken)) refl) (λ is. omega arith) (c .refuse .ensures)
+
+thread-fits-requires : tie.Need-thread-fits-requires
+thread-fits-requires c κs = search needs
+
+place-refusal-requires : tie.Need-place-refusal-requires
+place-refusal-requires c κs = search needs
+
+refuse-requires-2 : tie.Need-refuse-requires-2
+refuse-requires-2 c κs = search needs
+
+returns-2 : tie.Need-returns-2
+returns-2 c =
+    rw (le-ltb _ 2 (c .before .before .before .before .if1 .left))
+    (turned-away _ _ _ _ _ _ _ _ _ _ _ _ (c .before .before .before .thread-fits .ensures .0) (c .before .before .if2 .taken) (c .before .place-refusal .ensures)
+    (c .refuse2 .ensures))
+
+region-of-requires : tie.Need-region-of-requires
+region-of-requires c κs =
+    let bounds = c .before .before .thread-fits .ensures .1 (not-false _ (c .before .if2 .left)) in
+    omega arith
+
+close-rule-requires : tie.Need-close-rule-requires
+close-rule-requires c κs = search needs
+
+refuse-requires-3 : tie.Need-refuse-requires-3
+refuse-requires-3 c κs = search needs
+
+returns-3 : tie.Need-returns-3
+returns-3 c =
+    let own = rw (c .before .before .before .region-of .ensures) at (c .before .before .close-rule .ensures) in
+    rw (le-ltb _ 2 (c .before .before .before .before .before .before .before .if1 .left))
+    (stopped _ _ _ _ _ _ _ _ _ (behind _ _ _ _ (c .before .before .before .before .before .before .thread-fits .ensures .0) (c .before .before .before .before .before .if2 .left) ∙ sym own) (c .before .if3 .taken)
+    (c .refuse3 .ensures))
+
+no-store-requires : tie.Need-no-store-requires
+no-store-requires c κs =
+    row-inside _ _ _ (c .before .before .before .before .before .before .before .before .before .before .pre) (c .before .before .before .before .before .before .thread-fits .ensures .1 (not-false _ (c .before .before .before .before .before .if2 .left)) .0)
+
+end-requires : tie.Need-end-requires
+end-requires c κs = search needs
+
+put-region-requires : tie.Need-put-region-requires
+put-region-requires c κs =
+    let bounds = c .before .before .before .before .before .before .before .before .before .before .before .thread-fits .ensures .1 (not-false _ (c .before .before .before .before .before .before .before .before .before .before .if2 .left)) in
+    omega arith
+
+close-counts-requires : tie.Need-close-counts-requires
+close-counts-requires c κs = search needs
+
+pass-requires : tie.Need-pass-requires
+pass-requires c κs = search needs
+
+same-length : tie.Need-same-length
+same-length c = search needs
+
+returns-4 : tie.Need-returns-4
+unfolding closeW
+returns-4 c =
+    let region = c .before .before .before .before .before .before .before .before .before .before .before .region-of .ensures in
+    let own = rw region at (c .before .before .before .before .before .before .before .before .before .before .close-rule .ensures) in
+    rw (le-ltb _ 2 (c .before .before .before .before .before .before .before .before .before .before .before .before .before .before .before .if1 .left))
+    (passes (c .before .before .before .before .before .before .before .before .before .before .before .before .before .before .before .before .before .before .args .m) _ _ _ _ _ _ _ _
+    (behind _ _ _ _ (c .before .before .before .before .before .before .before .before .before .before .before .before .before .before .thread-fits .ensures .0) (c .before .before .before .before .before .before .before .before .before .before .before .before .before .if2 .left) ∙ sym own ∙ omega (arith, c .before .before .before .before .before .before .before .before .before .if3 .left))
+    (rw (c .before .before .put-region .ensures, c .before .before .before .end .ensures, region, c .before .before .before .before .before .before .before .no-store .ensures) refl)
+    (rw (c .pass .ensures, c .before .close-counts .ensures, region) refl))
+
+pub close-region-spec : {M : Type 1} → statement M
+close-region-spec =
+    tie.close
+    (tie.spec
+    refuse-requires
+    returns
+    thread-fits-requires
+    place-refusal-requires
+    refuse-requires-2
+    returns-2
+    region-of-requires
+    close-rule-requires
+    refuse-requires-3
+    returns-3
+    no-store-requires
+    end-requires
+    put-region-requires
+    close-counts-requires
+    pass-requires
+    same-length
+    returns-4)
