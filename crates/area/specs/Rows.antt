@@ -1,6 +1,7 @@
 -- What the rows of stores and signals hold after n events. A store's row holds, by column: 0 to 7 its vector clock; 8
 -- its thread; 9 its location; 10 its stretch (0: the event is no store); 12 the next store of its thread in the
--- stretch; 14 the store committed before it at its location. A signal's row holds in 0 to 7 its vector clock, and in 11
+-- stretch; once it is committed, 13 where the row of its commit begins and 14 the store committed before it at its
+-- location. A signal's row holds in 0 to 7 its vector clock, and in 11
 -- its stretch (0: the event is no signal). A held load's row holds in 9 its location, in 13 its source, in 14 the last
 -- store committed at its location before it, and in 15 the load that its thread held before it; a locked operation is a
 -- store too, of the same location and link. Of any other event only columns 10 and 11 are written. A row is written when
@@ -15,12 +16,17 @@ use Rattle.record.specs.declared.events.Event.{Event}
 use Rattle.model.specs.Trace.{thread, location, source, issue?, signal?, Issue, Signal, stretch}
 use Rattle.model.specs.Clocks.{vc}
 use Rattle.model.specs.Stores.{headOf, landed}
-use Rattle.area.specs.Cells.{getRow}
+use Rattle.area.specs.Cells.{getRow, committedAt}
 
 -- the links of column 14 from store h on spell the list, and 0 at its end
 abbrev pub Linked : List ℕ → ℕ → List ℕ → Type 0
 Linked l h [] = h ≡ 0
 Linked l h (p ∷ ps) = (h ≡ p) × Linked l (getRow l p 14) ps
+
+-- the stores of the list were committed one before the other, and the first of them before row b begins
+abbrev pub Falls : List ℕ → ℕ → List ℕ → Type 0
+Falls l b [] = 0 ≤ b
+Falls l b (p ∷ ps) = (committedAt l p < b) × Falls l (committedAt l p) ps
 
 module _ (ev : ℕ → Event) where
   -- the row of store p

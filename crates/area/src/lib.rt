@@ -6,8 +6,8 @@
 ghost use mathlib.Core.Path.{_≡_};
 ghost use Prim.Native.Nat.{_+_, _*_, _≤_};
 ghost use lib.ListN.{getD, set, length, replicate};
-ghost use Rattle.area.specs.Cells.{rowStart, getRow, putRow, clockCoversW, coversW, oneLineW, eventAt};
-ghost use Rattle.area.specs.Cells.{noStore, total, joined};
+ghost use Rattle.area.specs.Cells.{rowStart, getRow, putRow, clockCoversW, coversW, oneLineW};
+ghost use Rattle.area.specs.Cells.{committedAt, eventAt, noStore, total, joined};
 
 pub mod numbers;
 
@@ -100,6 +100,13 @@ pub fn one_line(work: &[u16], p: u16, q: u16) -> bool
     ensures { λ r. ⌜ r ≡ oneLineW (now (work .entry)) p q ⌝ }
 {
     row_get(work, p, 9) / 8 == row_get(work, q, 9) / 8
+}
+
+// Where the row of the event that committed store p begins.
+pub fn committed_at(work: &[u16], p: u16) -> u16
+    ensures { λ r. ⌜ r ≡ committedAt (now (work .entry)) p ⌝ }
+{
+    numbers::larger(row_get(work, p, 13), row_of(p) as u16)
 }
 
 // The number of the event whose row begins there; 2,049 behind the last row.
