@@ -156,6 +156,6 @@ module _ (ev : ℕ → Event) (n : ℕ) (w : World) (sim : Sim ev n w) (passes :
             links-keep ev n (w .work) _ (sim .limits) (no-issue ev n crash) (no-signal ev n crash) no-store
             (sim .links);
         regions = λ t few.
-            rw (region-closed tables t (it .restarts t few 13 (omega arith)) (it .restarts t few 14 (omega arith)))
+            rw (region-closed tables t (it .restarts t few 12 (omega arith)) (it .restarts t few 13 (omega arith)))
             (region-crash ev n t _ crash);
       }

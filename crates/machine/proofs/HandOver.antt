@@ -206,6 +206,6 @@ module _ (ev : ℕ → Event) (n : ℕ) (w : World) (sim : Sim ev n w) (passes :
           (sim .links);
       regions =
           regions-keep ev n tables tables (w .work) after (sim .limits) no-crash (rw kind-is refl) (rw kind-is refl)
-          (rw kind-is refl) (λ _ _ _ _ _. refl) (λ e k from-one early _ _ _. it .earlier e k from-one early)
+          (rw kind-is refl) (λ _ _. refl) (λ e k from-one early _ _ _. it .earlier e k from-one early)
           (sim .regions);
     }

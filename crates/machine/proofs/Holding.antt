@@ -25,8 +25,6 @@ use Rattle.area.specs.Rows.{HeldRow, HeldLinked}
 use Rattle.machine.specs.declared.regions.Region.{Region}
 use Rattle.machine.specs.Regions.{regionOf, closed}
 use Rattle.machine.specs.Sim.{Limits, InRegion, Regions}
-use Rattle.machine.proofs.Storing.{Same}
-use Rattle.machine.proofs.TableLaws.{region-same}
 use Rattle.machine.proofs.Keep.{Spares, spares}
 
 module _ (ev : ℕ → Event) where
@@ -111,10 +109,10 @@ module _ (ev : ℕ → Event) where
   pub regions-keep :
       (n : ℕ) (tables tables′ l l′ : List ℕ) → (limits : Limits ev n) → crash? ev n ≡ false → load? ev n ≡ false
       → open? ev n ≡ false → close? ev n ≡ false
-      → ((t : ℕ) → t < 8 → Same (16 * t + 13) (16 * t + 15) tables tables′) → RowsStay n limits l l′
+      → ((t : ℕ) → t < 8 → regionOf tables′ t ≡ regionOf tables t) → RowsStay n limits l l′
       → Regions ev n tables l → Regions ev (suc n) tables′ l′
   regions-keep n tables tables′ l l′ limits no-crash no-load no-open no-close same rows regions t few =
-      rw (region-same tables tables′ t (same t few))
+      rw (same t few)
       (region-keep n limits l l′ rows t (regionOf tables t) no-crash
       (spares ev n (open? ev) no-open t) (spares ev n (close? ev) no-close t) (no-load-other n t no-load)
       (regions t few))
@@ -130,7 +128,7 @@ module _ (ev : ℕ → Event) where
 
   pub regions-with :
       (n : ℕ) (tables tables′ l l′ : List ℕ) → (limits : Limits ev n) → crash? ev n ≡ false → load? ev n ≡ false
-      → ((t : ℕ) → t < 8 → thread ev n ≢ t → Same (16 * t + 13) (16 * t + 15) tables tables′)
+      → ((t : ℕ) → t < 8 → thread ev n ≢ t → regionOf tables′ t ≡ regionOf tables t)
       → RowsStay n limits l l′ → InRegion ev (suc n) (thread ev n) (regionOf tables′ (thread ev n)) l′
       → Regions ev n tables l → Regions ev (suc n) tables′ l′
   regions-with n tables tables′ l l′ limits no-crash no-load same rows own regions t few =
@@ -139,6 +137,6 @@ module _ (ev : ℕ → Event) where
       own-or-other : (thread ev n ≡ t) ⊎ (thread ev n ≢ t) → InRegion ev (suc n) t (regionOf tables′ t) l′
       own-or-other (inl is-own) = rw (← is-own) own
       own-or-other (inr other) =
-          rw (region-same tables tables′ t (same t few other))
+          rw (same t few other)
           (region-keep n limits l l′ rows t (regionOf tables t) no-crash (λ _. other) (λ _. other)
           (no-load-other n t no-load) (regions t few))

@@ -164,7 +164,7 @@ module _ (ev : ℕ → Event) (n : ℕ) where
         }
 
         -- an event that is nothing of these
-        queue-keep :
+        pub queue-keep :
             Spares (issue? ev) t → Spares (commit? ev) t → Spares (skipOn? ev) t → Spares (skipOff? ev) t
             → Queue ev (suc n) t s
         unfolding skippedT

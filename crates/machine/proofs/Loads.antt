@@ -36,8 +36,8 @@ use Rattle.machine.specs.Twin.{State, World, world, ticked}
 use Rattle.machine.specs.Turning.{holdsW}
 use Rattle.machine.specs.Effects.{passWith, meetW, heldTables, heldWork, crossW, loadW}
 use Rattle.machine.specs.Sim.{PastAt, Seen, Sources, InRegion, Regions, Sim}
-use Rattle.machine.proofs.Storing.{Same, Elsewhere, set-leaves}
-use Rattle.machine.proofs.TableLaws.{Reopened, reopened, region-same}
+use Rattle.machine.proofs.Storing.{Same, set-leaves}
+use Rattle.machine.proofs.TableLaws.{region-same, held-size, held-own, held-leaves}
 use Rattle.machine.proofs.RowLaws.{NoStore, no-store-is, no-store-links, HeldHere, held-here, event-is}
 use Rattle.machine.proofs.RuleLaws.{load-ticks}
 use Rattle.machine.proofs.Keep.{limits-next, in-time, few-own, small-own, spares, queues-keep, past-keep}
@@ -161,7 +161,7 @@ module _ (ev : ℕ → Event) (n : ℕ) (w : World) (sim : Sim ev n w) (passes :
   -- where the load is not held, the work area says no more than that it is no store
   plainly :
       (tables′ : List ℕ) → Brought ev n w tables′
-      → ((t : ℕ) → t < 8 → Same (16 * t + 13) (16 * t + 15) tables tables′)
+      → ((t : ℕ) → t < 8 → regionOf tables′ t ≡ regionOf tables t)
       → ((countable ev n ≡ true) → opened ev n t ≡ false) → Loaded tables′ plainWork
   plainly tables′ brought same not-held = record {
     brought = brought;
@@ -169,7 +169,7 @@ module _ (ev : ℕ → Event) (n : ℕ) (w : World) (sim : Sim ev n w) (passes :
     rows-stay = rows-stay ev n w sim passes;
     links-stay = λ q _ _. no-store-links row n (sim .numbers .row-is) n-small (w .work) q;
     regions = λ u few-u.
-        rw (region-same tables tables′ u (same u few-u)) (by-test u few-u (test (countable ev n && eqb t u)));
+        rw (same u few-u) (by-test u few-u (test (countable ev n && eqb t u)));
   }
     where
       -- if the load is to be held by an open thread, its own is not open
@@ -211,27 +211,27 @@ module _ (ev : ℕ → Event) (n : ℕ) (w : World) (sim : Sim ev n w) (passes :
   module _ (none-waits : waiting ev n ≡ 0) (none-current : current ev n ≡ 0) where
     crossed :
         (tables′ : List ℕ) → length tables′ ≡ length notedTables
-        → Elsewhere (16 * t + 13) (16 * t + 15) notedTables tables′ → Brought ev n w tables′
+        → ((i : ℕ) → 16 * t + 13 ≢ i → getD tables′ i 0 ≡ getD notedTables i 0) → Brought ev n w tables′
     crossed tables′ size leaves = record {
       size = size ∙ length-set tables _ _ ∙ sim .size;
       threads-same = λ u few-u i low high.
-          leaves i (λ from below. omega arith) ∙ noted-leaves i (λ same. omega arith);
+          leaves i (λ same. omega arith) ∙ noted-leaves i (λ same. omega arith);
       seen-are =
           seen-crossed none-waits none-current tables′
-          (λ v few-v i low high. leaves i (λ from below. omega arith) ∙ noted-leaves i (λ same. omega arith));
+          (λ v few-v i low high. leaves i (λ same. omega arith) ∙ noted-leaves i (λ same. omega arith));
       sources =
           sources-noted none-waits none-current tables′
-          (leaves (sourceCell x) (λ from below. omega (arith, few))
+          (leaves (sourceCell x) (λ same. omega (arith, few))
           ∙ getD-set-same tables (sourceCell x) s 0 (omega (arith, small, sim .size)))
-          (λ i low high other. leaves i (λ from below. omega (arith, few)) ∙ noted-leaves i other);
+          (λ i low high other. leaves i (λ same. omega (arith, few)) ∙ noted-leaves i other);
       heads-same = λ i low high.
-          leaves i (λ from below. omega (arith, few)) ∙ noted-leaves i (λ same. omega arith);
+          leaves i (λ same. omega (arith, few)) ∙ noted-leaves i (λ same. omega arith);
       rest-same = λ i low high.
-          leaves i (λ from below. omega (arith, few)) ∙ noted-leaves i (λ same. omega (arith, small));
+          leaves i (λ same. omega (arith, few)) ∙ noted-leaves i (λ same. omega (arith, small));
     }
 
-    noted-regions : (u : ℕ) → u < 8 → Same (16 * u + 13) (16 * u + 15) tables notedTables
-    noted-regions u few-u i low high = noted-leaves i (λ same. omega arith)
+    noted-regions : (u : ℕ) → u < 8 → regionOf notedTables u ≡ regionOf tables u
+    noted-regions u few-u = region-same tables notedTables u (λ i low high. noted-leaves i (λ same. omega arith))
 
     -- it is not held
     passes-by : (countable ev n ≡ true → opened ev n t ≡ false) → Loaded notedTables plainWork
@@ -244,15 +244,20 @@ module _ (ev : ℕ → Event) (n : ℕ) (w : World) (sim : Sim ev n w) (passes :
         → Loaded (heldTables notedTables row t) (heldWork notedTables plainWork row t x s)
     unfolding heldTables heldR
     held-by counts is-open = record {
-      brought = crossed (heldTables notedTables row t) (it .size) (it .leaves);
+      brought =
+          crossed (heldTables notedTables row t) (held-size notedTables t few noted-size new)
+          (held-leaves notedTables t few noted-size new);
       no-store = here .no-store;
       rows-stay = λ e k from-one early _ low _. here .earlier e k from-one early low;
       links-stay = λ q from-one early. here .earlier q 14 from-one early (omega arith);
       regions = λ u few-u. own-or-other u few-u (same? t u);
     }
       where
-        it : Reopened notedTables (heldTables notedTables row t) t (heldR (regionOf notedTables t) (eventAt row))
-        it = reopened notedTables t few (length-set tables _ _ ∙ sim .size) _
+        new : Region
+        new = heldR (regionOf notedTables t) (eventAt row)
+
+        noted-size : length notedTables ≡ 3008
+        noted-size = length-set tables _ _ ∙ sim .size
 
         here :
             HeldHere row n (sim .numbers .row-is) n-small x s (getD notedTables (lastCell x) 0)
@@ -275,7 +280,7 @@ module _ (ev : ℕ → Event) (n : ℕ) (w : World) (sim : Sim ev n w) (passes :
             ∙ is-open
 
         same-region : regionOf notedTables t ≡ regionOf tables t
-        same-region = region-same tables notedTables t (noted-regions t few)
+        same-region = noted-regions t few
 
         -- the head of its chain is the last store committed there
         head : getD notedTables (lastCell x) 0 ≡ headOf (landed ev n x)
@@ -310,11 +315,12 @@ module _ (ev : ℕ → Event) (n : ℕ) (w : World) (sim : Sim ev n w) (passes :
         own-or-other :
             (u : ℕ) → u < 8 → (t ≡ u) ⊎ (t ≢ u)
             → InRegion ev (suc n) u (regionOf (heldTables notedTables row t) u) after
-        own-or-other u few-u (inl is-own) = rw (← is-own, it .own) own
+        own-or-other u few-u (inl is-own) = rw (← is-own, held-own notedTables t few noted-size (eventAt row)) own
         own-or-other u few-u (inr other) =
             let same : regionOf (heldTables notedTables row t) u ≡ regionOf tables u =
-            region-same notedTables _ u (λ i from below. it .leaves i (λ from′ below′. other (omega arith)))
-            ∙ region-same tables notedTables u (noted-regions u few-u)
+            region-same notedTables _ u
+            (λ i from below. held-leaves notedTables t few noted-size new i (λ same. other (omega arith)))
+            ∙ noted-regions u few-u
             in
             rw same
             (region-keep ev n (sim .limits) (w .work) after stays u (regionOf tables u) no-crash (λ _. other) (λ _. other)

@@ -34,7 +34,8 @@ use Rattle.machine.specs.Twin.{World}
 use Rattle.machine.specs.Effects.{issuedTables, issuedWork, loadW, exchangedTables, exchangedWork, lockedW}
 use Rattle.machine.specs.Sim.{issued, done, Queue, Seen, Sources, Regions, Sim}
 use Rattle.machine.proofs.Storing.{Same}
-use Rattle.machine.proofs.TableLaws.{thread-same, region-same, Replaced, issued-replaced, issued-beyond, issued-newest}
+use Rattle.machine.specs.Regions.{regionOf}
+use Rattle.machine.proofs.TableLaws.{thread-same, Replaced, issued-replaced, issued-beyond, issued-newest}
 use Rattle.machine.proofs.TableLaws.{committed-replaced, committed-beyond, committed-last, committed-stretch}
 use Rattle.machine.proofs.RowLaws.{NoStore, Stored, stored-behind, link-stored, written-links}
 use Rattle.machine.proofs.RowLaws.{written-rows, written-beside, event-is}
@@ -256,9 +257,8 @@ module _ (ev : ℕ → Event) (n : ℕ) (w : World) (sim : Sim ev n w) (passes :
 
     -- ---- the regions, which are as its load left them
 
-    regions-same : (u : ℕ) → u < 8 → Same (16 * u + 13) (16 * u + 15) loadedTables tables′
-    regions-same u few-u i low high =
-        its-commit .regions-same u few-u i low high ∙ its-issue .regions-same u few-u i low high
+    regions-same : (u : ℕ) → u < 8 → regionOf tables′ u ≡ regionOf loadedTables u
+    regions-same u few-u = its-commit .regions-same u few-u ∙ its-issue .regions-same u few-u
 
     -- what the store and its link write into rows other than column 12: of the event's own, its location and the head that
     -- its load found
@@ -290,7 +290,7 @@ module _ (ev : ℕ → Event) (n : ℕ) (w : World) (sim : Sim ev n w) (passes :
     regions-next : Regions ev (suc n) tables′ l′
     regions-next u few-u =
         let region = after-load .regions u few-u in
-        rw (region-same loadedTables tables′ u (regions-same u few-u))
+        rw (regions-same u few-u)
         (record {
           opened-is = region .opened-is;
           held-are = λ is-open. held-same ev loadedWork l′ _ (held ev (suc n) u) (stays u) (region .held-are is-open);

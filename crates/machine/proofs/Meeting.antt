@@ -20,7 +20,9 @@ use Rattle.machine.specs.Tables.{threadCell}
 use Rattle.machine.specs.Threads.{ofThread}
 use Rattle.machine.specs.Twin.{World}
 use Rattle.machine.specs.Sim.{Seen, Sources, Sim}
+use Rattle.machine.specs.Regions.{regionOf}
 use Rattle.machine.proofs.Storing.{Same, Elsewhere}
+use Rattle.machine.proofs.TableLaws.{region-same}
 use Rattle.machine.proofs.Keep.{sources-keep}
 
 -- a column of a row, by its position
@@ -100,5 +102,5 @@ module _
   }
 
   -- the regions are in other columns
-  pub met-regions : (u : ℕ) → u < 8 → Same (16 * u + 13) (16 * u + 15) tables metTables
-  met-regions u few-u i from below = leaves i (λ low high. omega arith)
+  pub met-regions : (u : ℕ) → u < 8 → regionOf metTables u ≡ regionOf tables u
+  met-regions u few-u = region-same tables metTables u (λ i from below. leaves i (λ low high. omega arith))

@@ -26,11 +26,11 @@ use Rattle.machine.specs.Twin.{World, world, ticked, threadAt, regionAt}
 use Rattle.machine.specs.Effects.{passWith, passW, skipW, openW, closeW}
 use Rattle.machine.specs.Sim.{Queues, Seen, Sources, InRegion, Regions, Sim}
 use Rattle.machine.proofs.Storing.{Same}
-use Rattle.machine.proofs.TableLaws.{skip-replaced, skip-beyond, reopened}
+use Rattle.machine.proofs.TableLaws.{skip-replaced, skip-beyond, reopened, region-same}
 use Rattle.machine.proofs.RowLaws.{NoStore, no-store-is, no-store-earlier, no-store-links}
 use Rattle.machine.proofs.Keep.{limits-next, in-time, few-own, numbers-next, spares, queue-skip, queues-keep}
 use Rattle.machine.proofs.Keep.{seen-keep, newest-keep, commits-keep, sources-keep, chains-keep, rows-keep}
-use Rattle.machine.proofs.Keep.{links-keep, queues-with}
+use Rattle.machine.proofs.Keep.{links-keep, queue-keep, queues-with}
 use Rattle.machine.proofs.Holding.{RowsStay, regions-keep, regions-with}
 
 module _ (ev : ℕ → Event) (n : ℕ) where
@@ -111,7 +111,7 @@ module _ (ev : ℕ → Event) (n : ℕ) (w : World) (sim : Sim ev n w) (passes :
       (sim .seen-are))
       (sources-keep ev n tables tables (λ i _ _. refl) (sim .sources)) (λ i _ _. refl) (λ i _ _. refl)
       (regions-keep ev n tables tables (w .work) _ (sim .limits) (quiet .no-crash) (quiet .no-load) (quiet .no-open)
-      (quiet .no-close) (λ t _ i _ _. refl) rows-stay (sim .regions))
+      (quiet .no-close) (λ t _. refl) rows-stay (sim .regions))
 
   -- ---- skips
 
@@ -151,8 +151,13 @@ module _ (ev : ℕ → Event) (n : ℕ) (w : World) (sim : Sim ev n w) (passes :
       let tables = putRegion (w .tables) t r in
       let it = reopened (w .tables) t few (sim .size) r in
       still-next still tables (it .size ∙ sim .size)
-      (queues-keep ev n (w .tables) tables (still .no-crash) (still .no-issue) (still .no-commit) no-on no-off
-      (λ u _ i from below. it .leaves i (λ from′ below′. omega arith)) (sim .queues))
+      (queues-with ev n (w .tables) tables (still .no-crash)
+      (λ u _ other i from below. it .leaves i (λ from′ below′. other (omega arith)))
+      (rw (it .state-same)
+      (queue-keep ev n (still .no-crash) t (threadAt w t) (sim .queues t few)
+      (spares ev n (issue? ev) (still .no-issue) t) (spares ev n (commit? ev) (still .no-commit) t)
+      (spares ev n (skipOn? ev) no-on t) (spares ev n (skipOff? ev) no-off t)))
+      (sim .queues))
       (seen-keep ev n (w .tables) tables (still .no-crash) no-load no-wait
       (λ u _ i from below. it .leaves i (λ from′ below′. omega arith)) (sim .seen-are))
       (sources-keep ev n (w .tables) tables (λ i from _. it .leaves i (λ from′ below′. omega (arith, few)))
@@ -160,8 +165,9 @@ module _ (ev : ℕ → Event) (n : ℕ) (w : World) (sim : Sim ev n w) (passes :
       (λ i from _. it .leaves i (λ from′ below′. omega (arith, few)))
       (λ i from _. it .leaves i (λ from′ below′. omega (arith, few)))
       (regions-with ev n (w .tables) tables (w .work) _ (sim .limits) (still .no-crash) no-load
-      (λ u few-u other i from below. it .leaves i (λ from′ below′. other (omega arith))) rows-stay
-      (rw (it .own) region) (sim .regions))
+      (λ u few-u other.
+      region-same (w .tables) tables u (λ i from below. it .leaves i (λ from′ below′. other (omega arith))))
+      rows-stay (rw (it .own) region) (sim .regions))
 
   -- an open: nothing is held, whatever is in the thread's region by then
   pub open-next : kind ev n ≡ 15 → Sim ev (suc n) (openW w (thread ev n))

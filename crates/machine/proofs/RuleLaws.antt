@@ -11,22 +11,22 @@ use lib.Dec.{eqb, leb}
 use lib.ListN.{set}
 use lib.Seq.{getD-set-other}
 use Rattle.record.specs.Tests.{_gives_else_}
-use Rattle.record.proofs.Frames.{clash}
+use Rattle.model.proofs.Searching.{false-true}
 use Rattle.area.specs.Cells.{noStore, joined}
 use Rattle.machine.specs.declared.state.Machine.{Machine}
 use Rattle.machine.specs.declared.state.Step.{Step}
 use Rattle.machine.specs.Tables.{threadCell, sourceCell}
-use Rattle.machine.specs.Threads.{threadOf}
-use Rattle.machine.specs.declared.regions.Region.{Region}
-use Rattle.machine.specs.Regions.{regionOf}
+use Rattle.machine.specs.Threads.{threadOf, ofThread}
+use Rattle.machine.specs.Regions.{regionOf, plainIn}
 use Rattle.machine.specs.Twin.{State, World, stateOf, world, threadAt, ticked, admits, admitted}
 use Rattle.machine.specs.Twin.{waitingIn, waitingW, lastW, hereW, crossingW, fitsW}
 use Rattle.machine.specs.Turning.{Fits, placeFits, placeRefusal, onPlace, loadRule, lockedRule}
-use Rattle.machine.specs.Turning.{holdsW, countedW}
+use Rattle.machine.specs.Turning.{atOnceW, holdsW, countedW}
 use Rattle.machine.specs.Effects.{passWith, meetW, heldTables, heldWork, crossW, loadW, exchangedTables}
-use Rattle.machine.specs.Effects.{exchangedWork, lockedW}
+use Rattle.machine.specs.Effects.{asideTables, asideWork, exchangedWork, lockedW}
 use Rattle.machine.specs.Outcomes.{Outcome, stateAfter, outcome, turned, byRule, onlyO, plainO, acrossO}
 use Rattle.machine.specs.Outcomes.{memoryO, loadO, lockedO}
+use Rattle.machine.proofs.TableLaws.{plain-is}
 
 -- ---- the work area
 
@@ -231,12 +231,20 @@ pub region-stays :
 unfolding regionOf
 region-stays tables t x s few =
     rw (
+      getD-set-other tables (sourceCell x) (threadCell t 12) s 0 (λ same. omega arith),
       getD-set-other tables (sourceCell x) (threadCell t 13) s 0 (λ same. omega arith),
-      getD-set-other tables (sourceCell x) (threadCell t 14) s 0 (λ same. omega arith),
     )
     refl
 
--- ---- a crossing load, behind the step r that leaves aside whether its thread is open
+-- whether its thread is in no skip and not open is asked behind that
+pub plain-stays :
+    (tables : List ℕ) (t x s : ℕ) → t < 8
+    → plainIn (set tables (sourceCell x) s) t ≡ (not (threadOf tables t .skip) && not (regionOf tables t .opened))
+unfolding threadOf regionOf
+plain-stays tables t x s few =
+    rw (getD-set-other tables (sourceCell x) (threadCell t 12) s 0 (λ same. omega arith)) (plain-is (ofThread tables t 12))
+
+-- ---- a crossing load, behind the step r that does not hold it yet
 
 module _
     (m : Machine) (row : ℕ) (tables l : List ℕ) (t x s : ℕ) (few : t < 8) (r : Step) (tables₁ l₁ : List ℕ)
@@ -253,69 +261,81 @@ module _
   abbrev skips : Bool
   skips = threadOf tables t .skip
 
+  abbrev opens : Bool
+  opens = regionOf tables t .opened
+
   -- what it left, if the source may be
-  plain-tables : (b : Bool) → fits ≡ b → tables₁ ≡ (b gives noted else tables)
-  unfolding byRule
-  plain-tables true on = ap (λ (o : Outcome). o .after .tables) is ∙ rw on refl
-  plain-tables false off = ap (λ (o : Outcome). o .after .tables) is ∙ rw off refl
+  left-by :
+      (b : Bool) → fits ≡ b
+      → outcome m row r tables₁ l₁
+      ≡ byRule (b gives 0 else 9) before (atOnceW before t) (passWith before noted)
+  left-by b fits-is = is ∙ rw fits-is refl
 
-  plain-counted : (b : Bool) → fits ≡ b → r .counted ≡ (b gives not skips else false)
-  unfolding byRule
-  plain-counted true on = ap (λ (o : Outcome). o .counted) is ∙ rw on refl
-  plain-counted false off = ap (λ (o : Outcome). o .counted) is ∙ rw off refl
-
-  same-region : (b : Bool) → fits ≡ b → regionOf tables₁ t ≡ regionOf tables t
-  same-region true on = ap (λ (v : List ℕ). regionOf v t) (plain-tables true on) ∙ region-stays tables t x s few
-  same-region false off = ap (λ (v : List ℕ). regionOf v t) (plain-tables false off)
-
-  -- its thread is not open
-  pub not-open : regionOf tables₁ t .opened ≡ false → outcome m row r tables₁ l₁ ≡ acrossO before t x s
-  unfolding crossW
-  not-open shut =
-      let closed-before : regionOf tables t .opened ≡ false =
-      ap (λ (g : Region). g .opened) (sym (same-region fits refl)) ∙ shut
-      in
-      is ∙ rw closed-before (by-skip skips)
-    where
-      by-skip :
-          (skip : Bool)
-          → byRule (fits gives 0 else 9) before (not skip) (passWith before noted)
-          ≡ byRule (fits gives 0 else 9) before (not skip && true)
-          ((not skip && false) gives
-          world (ticked (stateOf m row)) (heldTables noted row t) (heldWork noted (noStore l row) row t x s) else
-          world (ticked (stateOf m row)) noted (noStore l row))
-      by-skip true = refl
-      by-skip false = refl
-
-  -- it is turned away, or in a skip
-  pub not-held : r .counted ≡ false → outcome m row r tables₁ l₁ ≡ acrossO before t x s
+  -- it counts, so its thread is in no skip and not open
+  pub at-once : r .counted ≡ true → outcome m row r tables₁ l₁ ≡ acrossO before t x s
   unfolding crossW byRule
-  not-held none = is ∙ by-test fits refl
+  at-once counts = by-test fits refl skips refl opens refl
     where
-      by-test : (b : Bool) → fits ≡ b → plainO before t x s ≡ acrossO before t x s
-      by-test false off = rw off refl
-      by-test true on =
-          let in-skip : skips ≡ true = not-false skips (sym (plain-counted true on) ∙ none) in
-          rw (on, in-skip) refl
-
-  -- it is held
-  pub now-held :
-      r .counted ≡ true → regionOf tables₁ t .opened ≡ true → (tables₂ l₂ : List ℕ) → tables₂ ≡ heldTables tables₁ row t
-      → l₂ ≡ heldWork tables₁ l₁ row t x s → (a : Step) → a ≡ passed m false
-      → outcome m row a tables₂ l₂ ≡ acrossO before t x s
-  unfolding crossW byRule
-  now-held counts opens tables₂ l₂ tables-are l-is a answer = by-test fits refl
-    where
-      by-test : (b : Bool) → fits ≡ b → outcome m row a tables₂ l₂ ≡ acrossO before t x s
-      by-test false off =
-          let none : false ≡ true = sym (plain-counted false off) ∙ counts in
-          absurd (clash cc)
-      by-test true on =
-          let no-skip : skips ≡ false = not-true skips (sym (plain-counted true on) ∙ counts) in
-          let opened-before : regionOf tables t .opened ≡ true =
-          ap (λ (g : Region). g .opened) (sym (same-region true on)) ∙ opens
+      by-test :
+          (b : Bool) → fits ≡ b → (skip : Bool) → skips ≡ skip → (open-now : Bool) → opens ≡ open-now
+          → outcome m row r tables₁ l₁ ≡ acrossO before t x s
+      by-test true on false no-skip false shut = is ∙ rw (on, no-skip, shut) refl
+      by-test false off skip skip-is open-now open-is = is ∙ rw off refl
+      by-test true on true in-skip open-now open-is = is ∙ rw (on, in-skip) refl
+      by-test true on false no-skip true is-open =
+          let counted-is : r .counted ≡ false =
+          ap (λ (o : Outcome). o .counted) (left-by true on) ∙ rw (no-skip, is-open) refl
           in
-          let tables₁-are = plain-tables true on in
-          let l₁-is : l₁ ≡ noStore l row = ap (λ (o : Outcome). o .after .work) is ∙ rw on refl in
-          rw (on, no-skip, opened-before)
-          (passes m row tables₂ l₂ a false _ 0 before refl (rw (tables-are, l-is, tables₁-are, l₁-is) refl) answer)
+          false-true (sym counted-is ∙ counts)
+
+  -- it does not: then it is turned away, in a skip, or held
+  pub aside :
+      r .counted ≡ false → (tables₂ l₂ : List ℕ) → tables₂ ≡ asideTables tables₁ row t (r .refusal)
+      → l₂ ≡ asideWork tables₁ l₁ row t x s (r .refusal) → outcome m row r tables₂ l₂ ≡ acrossO before t x s
+  unfolding crossW byRule asideTables asideWork
+  aside no-count tables₂ l₂ tables-are l-is = by-test fits refl skips refl opens refl
+    where
+      -- the step's answer with other tables and another work area
+      with-tables : List ℕ → List ℕ → Outcome → Outcome
+      with-tables v k o =
+          record { refusal = o .refusal; counted = o .counted; after = world (o .after .state) v k }
+
+      left :
+          {A : Type 0} (read : Outcome → A) (b : Bool) → fits ≡ b
+          → read (outcome m row r tables₁ l₁)
+          ≡ read (byRule (b gives 0 else 9) before (atOnceW before t) (passWith before noted))
+      left read b fits-is = ap read (left-by b fits-is)
+
+      by-test :
+          (b : Bool) → fits ≡ b → (skip : Bool) → skips ≡ skip → (open-now : Bool) → opens ≡ open-now
+          → outcome m row r tables₂ l₂ ≡ acrossO before t x s
+      by-test false off skip skip-is open-now open-is =
+          let refused = left (λ (o : Outcome). o .refusal) false off in
+          let tables₁-are = left (λ (o : Outcome). o .after .tables) false off in
+          let l₁-is = left (λ (o : Outcome). o .after .work) false off in
+          let tables₂-are : tables₂ ≡ tables = tables-are ∙ rw (refused, tables₁-are) refl in
+          let l₂-is : l₂ ≡ l = l-is ∙ rw (refused, l₁-is) refl in
+          left (with-tables tables₂ l₂) false off ∙ rw (off, tables₂-are, l₂-is) refl
+      by-test true on true in-skip open-now open-is =
+          let passed-it = left (λ (o : Outcome). o .refusal) true on in
+          let tables₁-are = left (λ (o : Outcome). o .after .tables) true on in
+          let l₁-is = left (λ (o : Outcome). o .after .work) true on in
+          let skip₁ : threadOf tables₁ t .skip ≡ true = rw tables₁-are (skip-stays tables t x s few ∙ in-skip) in
+          let tables₂-are : tables₂ ≡ noted = tables-are ∙ rw (passed-it, skip₁, tables₁-are) refl in
+          let l₂-is : l₂ ≡ noStore l row = l-is ∙ rw (passed-it, skip₁, l₁-is) refl in
+          left (with-tables tables₂ l₂) true on ∙ rw (on, in-skip, tables₂-are, l₂-is) refl
+      by-test true on false no-skip true is-open =
+          let passed-it = left (λ (o : Outcome). o .refusal) true on in
+          let tables₁-are = left (λ (o : Outcome). o .after .tables) true on in
+          let l₁-is = left (λ (o : Outcome). o .after .work) true on in
+          let skip₁ : threadOf tables₁ t .skip ≡ false = rw tables₁-are (skip-stays tables t x s few ∙ no-skip) in
+          let tables₂-are : tables₂ ≡ heldTables noted row t = tables-are ∙ rw (passed-it, skip₁, tables₁-are) refl in
+          let l₂-is : l₂ ≡ heldWork noted (noStore l row) row t x s =
+          l-is ∙ rw (passed-it, skip₁, tables₁-are, l₁-is) refl
+          in
+          left (with-tables tables₂ l₂) true on ∙ rw (on, no-skip, is-open, tables₂-are, l₂-is) refl
+      by-test true on false no-skip false shut =
+          let counted-is : r .counted ≡ true =
+          left (λ (o : Outcome). o .counted) true on ∙ rw (no-skip, shut) refl
+          in
+          false-true (sym no-count ∙ counted-is)

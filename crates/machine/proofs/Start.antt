@@ -173,7 +173,7 @@ module _ (ev : ℕ → Event) (passes : refusal ev 0 ≡ 0) where
       };
       links = λ p early store. absurd (no-store p early store);
       regions = λ t _.
-          rw (region-closed tables t (clear (16 * t + 13)) (clear (16 * t + 14)))
+          rw (region-closed tables t (clear (16 * t + 12)) (clear (16 * t + 13)))
           (record { opened-is = sym (opened-1 t); held-are = λ is-open. false-true (sym (opened-1 t) ∙ is-open) });
     }
 

@@ -1,25 +1,25 @@
 -- What is read of the machine's tables after each change of them. A thread's row, and each table, has positions of its
 -- own, so that a change leaves all the others.
 -- In order: a thread's state after a skip, an issue and a commit; a finished stretch.
-use mathlib.Core.Path.{_≡_, refl, _∙_}
-use mathlib.Core.Bool.{Bool, true, false, not}
+use mathlib.Core.Path.{_≡_, refl, sym, _∙_}
+use mathlib.Core.Bool.{Bool, true, false, _&&_, not, and-false}
 use mathlib.Core.List.{List}
 use mathlib.Core.Logic.{_⊎_, inl, inr, _≢_}
-use Prim.Native.Nat.{ℕ, zero, suc, _+_, _*_, _≤_, _<_}
+use Prim.Native.Nat.{ℕ, zero, suc, _+_, _*_, _/_, _%_, _≤_, _<_}
 use native.Mathlib.Omega.{arith}
-use borrow.Author.Tests.{ltb-true, le-leb}
+use borrow.Author.Tests.{eq-eqb, ne-eqb, ltb-true, le-leb, lt-leb, leb-true}
 use lib.Dec.{eqb, ltb, leb}
 use lib.ListN.{length, getD, set, length-set}
 use lib.Seq.{getD-set-same}
-use Rattle.model.proofs.Searching.{same?}
+use Rattle.model.proofs.Searching.{same?, same-test}
 use Rattle.area.specs.Cells.{eventAt}
 use Rattle.machine.specs.declared.threads.Thread.{Thread}
 use Rattle.machine.specs.Tables.{lastCell, commitsCell, newestCell, stretchCell}
 use Rattle.model.specs.Search.{bit}
 use Rattle.machine.specs.Threads.{fresh, issuedT, committedT, skippedT, crashedT, threadOf, ofThread}
-use Rattle.machine.specs.Threads.{putIssued, putCommitted, putSkip, unseen, restarted}
+use Rattle.machine.specs.Threads.{putIssued, putCommitted, skipSet, putSkip, unseen, restarted}
 use Rattle.machine.specs.declared.regions.Region.{Region}
-use Rattle.machine.specs.Regions.{closed, crashedR, regionOf, putRegion}
+use Rattle.machine.specs.Regions.{heldR, closed, crashedR, regionOf, openSet, putRegion, putHeld}
 use Rattle.machine.specs.Effects.{issuedTables, finishedThread, finished}
 use Rattle.machine.proofs.Storing.{Same, Elsewhere, set-leaves, column-after, run, run-size, run-leaves, run-in}
 
@@ -56,9 +56,43 @@ thread-fresh tables t none =
     )
     refl
 
-bit-back : (b : Bool) → not (eqb (bit b) 0) ≡ b
-bit-back true = refl
-bit-back false = refl
+-- ---- column 12: the skip, 1, and the open state, 2
+
+module _ (c : ℕ) where
+  -- the skip is changed, and the open state stays
+  skip-back : (b : Bool) → not (eqb (skipSet c b % 2) 0) ≡ b
+  skip-back true = rw (ne-eqb ((c / 2 * 2 + 1) % 2) 0 (λ is. omega arith)) refl
+  skip-back false = rw (eq-eqb ((c / 2 * 2) % 2) 0 (omega arith)) refl
+
+  open-stays : (b : Bool) → leb 2 (skipSet c b) ≡ leb 2 c
+  open-stays b = same-test _ _ (to-old b) (from-old b)
+    where
+      to-old : (b : Bool) → leb 2 (skipSet c b) ≡ true → leb 2 c ≡ true
+      to-old true is = le-leb 2 c (omega (arith, leb-true 2 (c / 2 * 2 + 1) is))
+      to-old false is = le-leb 2 c (omega (arith, leb-true 2 (c / 2 * 2) is))
+
+      from-old : (b : Bool) → leb 2 c ≡ true → leb 2 (skipSet c b) ≡ true
+      from-old true is = le-leb 2 (c / 2 * 2 + 1) (omega (arith, leb-true 2 c is))
+      from-old false is = le-leb 2 (c / 2 * 2) (omega (arith, leb-true 2 c is))
+
+  -- the open state is changed, and the skip stays
+  open-back : (b : Bool) → leb 2 (openSet c b) ≡ b
+  open-back true = le-leb 2 (c % 2 + 2) (omega arith)
+  open-back false = lt-leb 2 (c % 2) (omega arith)
+
+  skip-stays : (b : Bool) → openSet c b % 2 ≡ c % 2
+  skip-stays true = omega arith
+  skip-stays false = omega arith
+
+  -- neither
+  pub plain-is : eqb c 0 ≡ (not (not (eqb (c % 2) 0)) && not (leb 2 c))
+  plain-is = by-number (same? c 0) (same? c 1)
+    where
+      by-number : (c ≡ 0) ⊎ (c ≢ 0) → (c ≡ 1) ⊎ (c ≢ 1) → eqb c 0 ≡ (not (not (eqb (c % 2) 0)) && not (leb 2 c))
+      by-number (inl is-0) _ = rw is-0 refl
+      by-number (inr some) (inl is-1) = rw is-1 refl
+      by-number (inr some) (inr more) =
+          rw (ne-eqb c 0 some, le-leb 2 c (omega arith)) (sym (and-false (not (not (eqb (c % 2) 0)))))
 
 -- of the threads' rows only the state of thread t is changed, to s
 pub record Replaced (tables tables′ : List ℕ) (t : ℕ) (s : Thread) : Type 0 where
@@ -66,21 +100,21 @@ pub record Replaced (tables tables′ : List ℕ) (t : ℕ) (s : Thread) : Type 
   pub own : threadOf tables′ t ≡ s
   pub others : (u : ℕ) → u < 8 → t ≢ u → Same (16 * u + 8) (16 * u + 13) tables tables′
   pub seen-same : (u : ℕ) → u < 8 → Same (16 * u) (16 * u + 8) tables tables′
-  pub regions-same : (u : ℕ) → u < 8 → Same (16 * u + 13) (16 * u + 15) tables tables′
+  pub regions-same : (u : ℕ) → u < 8 → regionOf tables′ u ≡ regionOf tables u
 
 -- ---- a thread's region
 
--- it is in columns 13 and 14
+-- it is in columns 12 and 13
 pub region-same :
-    (tables tables′ : List ℕ) (t : ℕ) → Same (16 * t + 13) (16 * t + 15) tables tables′
+    (tables tables′ : List ℕ) (t : ℕ) → Same (16 * t + 12) (16 * t + 14) tables tables′
     → regionOf tables′ t ≡ regionOf tables t
 unfolding regionOf
 region-same tables tables′ t same =
-    rw (same (16 * t + 13) (omega arith) (omega arith), same (16 * t + 14) (omega arith) (omega arith)) refl
+    rw (same (16 * t + 12) (omega arith) (omega arith), same (16 * t + 13) (omega arith) (omega arith)) refl
 
 -- two zeros are a region that is closed
 pub region-closed :
-    (tables : List ℕ) (t : ℕ) → ofThread tables t 13 ≡ 0 → ofThread tables t 14 ≡ 0 → regionOf tables t ≡ closed
+    (tables : List ℕ) (t : ℕ) → ofThread tables t 12 ≡ 0 → ofThread tables t 13 ≡ 0 → regionOf tables t ≡ closed
 unfolding regionOf
 region-closed tables t not-open none = rw (not-open, none) refl
 
@@ -88,21 +122,28 @@ region-closed tables t not-open none = rw (not-open, none) refl
 pub record Reopened (tables tables′ : List ℕ) (t : ℕ) (r : Region) : Type 0 where
   pub size : length tables′ ≡ length tables
   pub own : regionOf tables′ t ≡ r
-  pub leaves : Elsewhere (16 * t + 13) (16 * t + 15) tables tables′
+  pub state-same : threadOf tables′ t ≡ threadOf tables t
+  pub leaves : Elsewhere (16 * t + 12) (16 * t + 14) tables tables′
 
 module _ (tables : List ℕ) (t : ℕ) (few : t < 8) (size : length tables ≡ 3008) where
   -- the other numbers of the threads' rows are as they were
   replaced-of :
       (tables′ : List ℕ) (s : Thread) → length tables′ ≡ length tables → threadOf tables′ t ≡ s
+      → regionOf tables′ t ≡ regionOf tables t
       → ((i : ℕ) → i < 128 → (16 * t + 8 ≤ i → i < 16 * t + 13 → ⊥) → getD tables′ i 0 ≡ getD tables i 0)
       → Replaced tables tables′ t s
-  replaced-of tables′ s same-size own leaves = record {
+  replaced-of tables′ s same-size own same-region leaves = record {
     size = same-size;
     own = own;
     others = λ u low differ i from below. leaves i (omega arith) (λ from′ below′. differ (omega arith));
     seen-same = λ u low i from below. leaves i (omega arith) (λ from′ below′. omega arith);
-    regions-same = λ u low i from below. leaves i (omega arith) (λ from′ below′. omega arith);
+    regions-same = λ u low. by-thread u low (same? t u);
   }
+    where
+      by-thread : (u : ℕ) → u < 8 → (t ≡ u) ⊎ (t ≢ u) → regionOf tables′ u ≡ regionOf tables u
+      by-thread u low (inl is) = rw (← is) same-region
+      by-thread u low (inr differ) =
+          region-same tables tables′ u (λ i from below. leaves i (omega arith) (λ from′ below′. differ (omega arith)))
 
   row-inside : leb (16 * t + 16) (length tables) ≡ true
   row-inside = le-leb (16 * t + 16) (length tables) (omega arith)
@@ -111,18 +152,33 @@ module _ (tables : List ℕ) (t : ℕ) (few : t < 8) (size : length tables ≡ 3
   column-apart : (i k : ℕ) → (16 * t + 8 ≤ i → i < 16 * t + 13 → ⊥) → 8 ≤ k → k < 13 → 16 * t + k ≢ i
   column-apart i k apart low high same = apart (omega arith) (omega arith)
 
-  -- ---- an open, a close or a held load
+  -- ---- an open or a close
 
   pub reopened : (r : Region) → Reopened tables (putRegion tables t r) t r
-  unfolding regionOf putRegion
+  unfolding threadOf regionOf putRegion
   reopened r = record {
     size = simp length-set;
-    own = simp (column-after, length-set, row-inside, bit-back);
+    own = simp (column-after, length-set, row-inside, open-back);
+    state-same = simp (column-after, length-set, row-inside, skip-stays);
     leaves = λ i apart.
+        let not-12 : 16 * t + 12 ≢ i = λ same. apart (omega arith) (omega arith) in
         let not-13 : 16 * t + 13 ≢ i = λ same. apart (omega arith) (omega arith) in
-        let not-14 : 16 * t + 14 ≢ i = λ same. apart (omega arith) (omega arith) in
-        simp (set-leaves, not-13, not-14);
+        simp (set-leaves, not-12, not-13);
   }
+
+  -- ---- a held load: the newest of the region
+
+  pub held-size : (r : Region) → length (putHeld tables t r) ≡ length tables
+  unfolding putHeld
+  held-size r = simp length-set
+
+  pub held-own : (e : ℕ) → regionOf (putHeld tables t (heldR (regionOf tables t) e)) t ≡ heldR (regionOf tables t) e
+  unfolding regionOf putHeld heldR
+  held-own e = simp (column-after, row-inside)
+
+  pub held-leaves : (r : Region) (i : ℕ) → 16 * t + 13 ≢ i → getD (putHeld tables t r) i 0 ≡ getD tables i 0
+  unfolding putHeld
+  held-leaves r i differ = simp set-leaves
 
   -- ---- a skip on or off
 
@@ -135,9 +191,10 @@ module _ (tables : List ℕ) (t : ℕ) (few : t < 8) (size : length tables ≡ 3
     skip-leaves i apart = simp (set-leaves, column-apart i 12 apart (omega arith) (omega arith))
 
     pub skip-replaced : Replaced tables (putSkip tables t new-skip) t new-skip
-    unfolding threadOf putSkip skippedT
+    unfolding threadOf regionOf putSkip skippedT
     skip-replaced =
-        replaced-of _ _ (simp length-set) (simp (column-after, row-inside, bit-back)) (λ i _. skip-leaves i)
+        replaced-of _ _ (simp length-set) (simp (column-after, row-inside, skip-back))
+        (simp (column-after, row-inside, open-stays)) (λ i _. skip-leaves i)
 
     pub skip-beyond : (i : ℕ) → 128 ≤ i → getD (putSkip tables t new-skip) i 0 ≡ getD tables i 0
     skip-beyond i high = skip-leaves i (λ from below. omega arith)
@@ -171,9 +228,10 @@ module _ (tables : List ℕ) (t : ℕ) (few : t < 8) (size : length tables ≡ 3
     newest-apart k low same = omega (arith, ltb-true k 16 low)
 
     pub issued-replaced : Replaced tables issued t (issuedT (threadOf tables t) (eventAt row))
-    unfolding threadOf issuedTables putIssued issuedT
+    unfolding threadOf regionOf issuedTables putIssued issuedT
     issued-replaced =
         replaced-of _ _ issued-size (simp (set-leaves, newest-apart, column-after, length-set, row-inside))
+        (simp (set-leaves, newest-apart, column-after, length-set, row-inside))
         (λ i low apart. issued-leaves i apart (λ same. omega arith))
 
     pub issued-beyond : (i : ℕ) → 128 ≤ i → newestCell x t ≢ i → getD issued i 0 ≡ getD tables i 0
@@ -220,9 +278,10 @@ module _ (tables : List ℕ) (t : ℕ) (few : t < 8) (size : length tables ≡ 3
     headed-leaves i not-last not-stretch = simp set-leaves
 
     pub committed-replaced : Replaced tables after t new-committed
-    unfolding threadOf putCommitted committedT
+    unfolding threadOf regionOf putCommitted committedT
     committed-replaced =
         replaced-of _ _ (simp length-set)
+        (simp (column-after, set-leaves, head-apart, stretch-apart, length-set, row-inside))
         (simp (column-after, set-leaves, head-apart, stretch-apart, length-set, row-inside))
         (λ i low apart. thread-leaves i apart ∙ headed-leaves i (λ same. omega arith) (λ same. omega arith))
 
@@ -253,14 +312,14 @@ zeros _ = 0
 
 restarted-is :
     (tables : List ℕ) (t : ℕ) (old : Thread) (region : Region)
-    → putRegion (restarted tables t (crashedT old)) t (crashedR region) ≡ run (16 * t) 15 zeros tables
-unfolding restarted putSkip putRegion unseen run
+    → putHeld (restarted tables t (crashedT old)) t (crashedR region) ≡ run (16 * t) 14 zeros tables
+unfolding restarted putHeld unseen run
 restarted-is tables t old region = refl
 
 -- stretch j is finished for threads 0 to k - 1
 pub record Finished (k : ℕ) (tables tables′ : List ℕ) (j : ℕ) : Type 0 where
   pub size : length tables′ ≡ length tables
-  pub restarts : (t : ℕ) → t < k → (u : ℕ) → u < 15 → ofThread tables′ t u ≡ 0
+  pub restarts : (t : ℕ) → t < k → (u : ℕ) → u < 14 → ofThread tables′ t u ≡ 0
   pub notes : (t : ℕ) → t < k → getD tables′ (commitsCell j t) 0 ≡ ofThread tables t 11
   pub later : Same (16 * k) 128 tables tables′
   pub leaves :
@@ -275,7 +334,7 @@ module _ (tables : List ℕ) (j : ℕ) (room : length tables ≡ 3008) (from-one
   finished-more k so-far few before =
       rw (restarted-is noted k (threadOf so-far k) (regionOf so-far k))
       (record {
-        size = run-size (16 * k) zeros noted 15 ∙ noted-size;
+        size = run-size (16 * k) zeros noted 14 ∙ noted-size;
         restarts = λ t below u low. last-or-earlier-row t below u low (same? t k);
         notes = λ t below. last-or-earlier-count t below (same? t k);
         later = λ i low high.
@@ -293,17 +352,17 @@ module _ (tables : List ℕ) (j : ℕ) (room : length tables ≡ 3008) (from-one
       noted-size = length-set so-far _ _ ∙ before .size
 
       after : List ℕ
-      after = run (16 * k) 15 zeros noted
+      after = run (16 * k) 14 zeros noted
 
-      beside-row : Elsewhere (16 * k) (16 * k + 15) noted after
-      beside-row = run-leaves (16 * k) zeros noted 15
+      beside-row : Elsewhere (16 * k) (16 * k + 14) noted after
+      beside-row = run-leaves (16 * k) zeros noted 14
 
       beside-count : (i : ℕ) → commitsCell j k ≢ i → getD noted i 0 ≡ getD so-far i 0
       beside-count i differ = set-leaves so-far (commitsCell j k) (ofThread so-far k 11) i differ
 
-      last-or-earlier-row : (t : ℕ) → t < suc k → (u : ℕ) → u < 15 → (t ≡ k) ⊎ (t ≢ k) → ofThread after t u ≡ 0
+      last-or-earlier-row : (t : ℕ) → t < suc k → (u : ℕ) → u < 14 → (t ≡ k) ⊎ (t ≢ k) → ofThread after t u ≡ 0
       last-or-earlier-row t below u low (inl is) =
-          rw is (run-in (16 * k) zeros noted 15 u (omega (arith, noted-size)) low)
+          rw is (run-in (16 * k) zeros noted 14 u (omega (arith, noted-size)) low)
       last-or-earlier-row t below u low (inr differs) =
           beside-row (16 * t + u) (λ from to. omega arith) ∙ beside-count (16 * t + u) (λ same. omega arith)
           ∙ before .restarts t (omega arith) u low

@@ -1,7 +1,7 @@
 -- What an event that passes does to the machine's tables and to the work area, as total functions. `row` is where the
 -- event's own row begins.
 use Prim.Native.Nat.{ℕ, zero, suc, _+_, _%_}
-use mathlib.Core.Bool.{Bool}
+use mathlib.Core.Bool.{Bool, _&&_, not}
 use mathlib.Core.List.{List}
 use lib.Dec.{eqb}
 use lib.ListN.{getD, set}
@@ -14,7 +14,7 @@ use Rattle.area.specs.Cells.{getRow, putRow, eventAt, noStore, joined, up}
 use Rattle.machine.specs.Tables.{threadCell, lastCell, sourceCell, commitsCell, newestCell, stretchCell}
 use Rattle.machine.specs.Threads.{issuedT, committedT, skippedT, crashedT, threadOf, ofThread}
 use Rattle.machine.specs.Threads.{putIssued, putCommitted, putSkip, restarted}
-use Rattle.machine.specs.Regions.{beganR, heldR, endedR, crashedR, regionOf, putRegion}
+use Rattle.machine.specs.Regions.{beganR, heldR, endedR, crashedR, regionOf, putRegion, putHeld}
 use Rattle.machine.specs.Twin.{World, world, threadAt, regionAt, ticked, crashed, crossingW}
 use Rattle.machine.specs.Arms.{byKind}
 use Rattle.machine.specs.Turning.{holdsW}
@@ -105,12 +105,21 @@ meetW w t s = passWith w (joined 8 (w .work) s (threadCell t 0) (w .tables))
 
 -- after a crossing load of thread t, which is open, at location x from s: it is held
 unfoldable pub heldTables : List ℕ → ℕ → ℕ → List ℕ
-heldTables tables row t = putRegion tables t (heldR (regionOf tables t) (eventAt row))
+heldTables tables row t = putHeld tables t (heldR (regionOf tables t) (eventAt row))
 
 unfoldable pub heldWork : List ℕ → List ℕ → ℕ → ℕ → ℕ → ℕ → List ℕ
 heldWork tables l row t x s =
     let with-source = set (set l (row + 9) x) (row + 13) s in
     set (set with-source (row + 14) (getD tables (lastCell x) 0)) (row + 15) (regionOf tables t .newest)
+
+-- a crossing load that does not count and led to that refusal: it is held if it passed and its thread is in no skip
+unfoldable pub asideTables : List ℕ → ℕ → ℕ → ℕ → List ℕ
+asideTables tables row t refusal =
+    (eqb refusal 0 && not (threadOf tables t .skip)) gives heldTables tables row t else tables
+
+unfoldable pub asideWork : List ℕ → List ℕ → ℕ → ℕ → ℕ → ℕ → ℕ → List ℕ
+asideWork tables l row t x s refusal =
+    (eqb refusal 0 && not (threadOf tables t .skip)) gives heldWork tables l row t x s else l
 
 -- a crossing load by thread t at location x from s, which is noted; it is held if the thread is open and in no skip
 unfoldable pub crossW : World → ℕ → ℕ → ℕ → World
@@ -149,7 +158,7 @@ unfoldable pub finishedThread : List ℕ → ℕ → ℕ → List ℕ
 finishedThread tables j t =
     let old = threadOf tables t in
     let restart = restarted (set tables (commitsCell j t) (old .committed)) t (crashedT old) in
-    putRegion restart t (crashedR (regionOf tables t))
+    putHeld restart t (crashedR (regionOf tables t))
 
 -- so of threads 0 to k - 1
 unfoldable pub finished : ℕ → List ℕ → ℕ → List ℕ

@@ -58,10 +58,10 @@ commitO w t = byRule (onThread (w .state) t (commitRule w t)) w false (commitW w
 abbrev pub onlyO : World → ℕ → ℕ → ℕ → Outcome
 onlyO w t s only = byRule (eqb s only gives 0 else 9) w false (meetW w t s)
 
--- a crossing load, whether its thread is open left aside
+-- a crossing load, before it is held
 abbrev pub plainO : World → ℕ → ℕ → ℕ → Outcome
 plainO w t x s =
-    byRule (admitsW w x s gives 0 else 9) w (not (threadAt w t .skip)) (passWith w (set (w .tables) (sourceCell x) s))
+    byRule (admitsW w x s gives 0 else 9) w (atOnceW w t) (passWith w (set (w .tables) (sourceCell x) s))
 
 -- a crossing load
 abbrev pub acrossO : World → ℕ → ℕ → ℕ → Outcome

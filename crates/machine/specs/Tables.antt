@@ -5,7 +5,8 @@ use lib.ListN.{getD}
 use Rattle.area.specs.Cells.{total}
 
 -- number k of thread t's row, numbers 0 to 127: 0 to 7 what the thread has seen, 8 its oldest waiting store, 9 its
--- newest store of the stretch, 10 its issues and 11 its commits there, 12 whether it is in a skip
+-- newest store of the stretch, 10 its issues and 11 its commits there, 12 whether it is in a skip, 1, and whether it is
+-- open, 2, added up, 13 the newest load that it holds
 abbrev pub threadCell : ℕ → ℕ → ℕ
 threadCell t k = 16 * t + k
 
@@ -37,7 +38,7 @@ lastIn tables x = getD tables (lastCell (x % 256)) 0
 
 -- the newest load that thread t, below 8, holds; 0 if there is none
 abbrev pub heldIn : List ℕ → ℕ → ℕ
-heldIn tables t = getD tables (threadCell (t % 8) 14) 0
+heldIn tables t = getD tables (threadCell (t % 8) 13) 0
 
 -- the stores committed in all finished stretches
 abbrev pub committedIn : List ℕ → ℕ

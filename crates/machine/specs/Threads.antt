@@ -1,5 +1,5 @@
 -- A thread's state in its row of the tables, and what the methods of it compute.
-use Prim.Native.Nat.{ℕ, zero, suc}
+use Prim.Native.Nat.{ℕ, zero, suc, _+_, _*_, _/_, _%_}
 use mathlib.Core.Bool.{Bool, false, not}
 use mathlib.Core.List.{List}
 use mathlib.Core.Path.{_≡_}
@@ -69,7 +69,7 @@ ofThread tables t k = getD tables (threadCell t k) 0
 abbrev pub putThread : List ℕ → ℕ → ℕ → ℕ → List ℕ
 putThread tables t k v = set tables (threadCell t k) v
 
--- thread t's state
+-- thread t's state; of column 12 it has the skip
 unfoldable pub threadOf : List ℕ → ℕ → Thread
 threadOf tables t =
     record {
@@ -77,7 +77,7 @@ threadOf tables t =
       newest = ofThread tables t 9;
       issued = ofThread tables t 10;
       committed = ofThread tables t 11;
-      skip = not (eqb (ofThread tables t 12) 0);
+      skip = not (eqb (ofThread tables t 12 % 2) 0);
     }
 
 -- a queue that is not empty has this oldest store
@@ -95,19 +95,23 @@ putIssued tables t s = putThread (putThread (putOldest tables t (s .oldest)) t 9
 unfoldable pub putCommitted : List ℕ → ℕ → Thread → List ℕ
 putCommitted tables t s = putThread (putThread tables t 8 (s .oldest)) t 11 (s .committed)
 
+-- column 12 with another skip
+abbrev pub skipSet : ℕ → Bool → ℕ
+skipSet c skip = skip gives c / 2 * 2 + 1 else c / 2 * 2
+
 -- with what a skip changes
 unfoldable pub putSkip : List ℕ → ℕ → Thread → List ℕ
-putSkip tables t s = putThread tables t 12 (bit (s .skip))
+putSkip tables t s = putThread tables t 12 (skipSet (ofThread tables t 12) (s .skip))
 
 -- thread t has seen nothing of threads 0 to u - 1
 unfoldable pub unseen : ℕ → List ℕ → ℕ → List ℕ
 unseen zero tables t = tables
 unseen (suc u) tables t = putThread (unseen u tables t) t u 0
 
--- thread t has seen nothing, and its state is s: what a crash changes
+-- thread t has seen nothing, its state is s, and it is not open: what a crash changes
 unfoldable pub restarted : List ℕ → ℕ → Thread → List ℕ
 restarted tables t s =
     let with-oldest = putThread (unseen 8 tables t) t 8 (s .oldest) in
     let with-newest = putThread with-oldest t 9 (s .newest) in
     let with-issued = putThread with-newest t 10 (s .issued) in
-    putSkip (putThread with-issued t 11 (s .committed)) t s
+    putThread (putThread with-issued t 11 (s .committed)) t 12 (bit (s .skip))

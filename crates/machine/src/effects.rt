@@ -105,7 +105,7 @@ pub(crate) fn hold(tables: &mut Tables, work: &mut [u16], row: usize, t: u16, x:
     work[row + 13] = s;
     work[row + 14] = tables[tables::last(x)];
     work[row + 15] = old.newest;
-    regions::put_region(tables, t, old.hold(area::event_at(row)));
+    regions::put_held(tables, t, old.hold(area::event_at(row)));
 }
 
 // Stretch j is finished: the commits of thread t go to their table, and the thread starts afresh.
@@ -117,7 +117,7 @@ fn finish_thread(tables: &mut Tables, j: u16, t: u16)
     let region = regions::region_of(tables, t);
     tables[tables::commits(j, t)] = old.committed;
     threads::restart(tables, t, old.crash());
-    regions::put_region(tables, t, region.crash());
+    regions::put_held(tables, t, region.crash());
 }
 
 // So of all threads.

@@ -1,11 +1,11 @@
-// A thread's region under a checksum: whether the thread is open, and the loads that it holds, columns 13 and 14 of its row.
+// A thread's region under a checksum: whether the thread is open, and the loads that it holds, columns 12 and 13 of its row.
 // The methods hand the new state back. The held loads are linked in the work area; here is the newest.
 ghost use mathlib.Core.Path.{_≡_};
 ghost use Prim.Native.Nat.{_<_};
-ghost use Rattle.machine.specs.Regions.{beganR, heldR, endedR, crashedR, regionOf, putRegion};
+ghost use Rattle.machine.specs.Regions.{beganR, heldR, endedR, crashedR, regionOf, plainIn};
+ghost use Rattle.machine.specs.Regions.{openSet, putRegion, putHeld};
 use crate::tables;
 use crate::tables::Tables;
-use crate::threads;
 
 pub struct Region {
     pub opened: bool,
@@ -55,17 +55,24 @@ pub(crate) fn region_of(tables: &Tables, t: u16) -> Region
     ensures { λ r. ⌜ r ≡ regionOf (now (tables .entry)) t ⌝ }
 {
     Region {
-        opened: tables[tables::thread(t, 13)] != 0,
-        newest: tables[tables::thread(t, 14)],
+        opened: 2 <= tables[tables::thread(t, 12)],
+        newest: tables[tables::thread(t, 13)],
     }
 }
 
-// Thread t is open.
-pub(crate) fn is_open(tables: &Tables, t: u16) -> bool
+// Thread t is in no skip and not open.
+pub(crate) fn is_plain(tables: &Tables, t: u16) -> bool
     requires { ⌜ t < 8 ⌝ }
-    ensures { λ r. ⌜ r ≡ regionOf (now (tables .entry)) t .opened ⌝ }
+    ensures { λ r. ⌜ r ≡ plainIn (now (tables .entry)) t ⌝ }
 {
-    tables[tables::thread(t, 13)] != 0
+    tables[tables::thread(t, 12)] == 0
+}
+
+// Column 12 with another open state.
+fn with_open(c: u16, opened: bool) -> u16
+    ensures { λ r. ⌜ r ≡ openSet c opened ⌝ }
+{
+    if opened { c % 2 + 2 } else { c % 2 }
 }
 
 // Thread t's region becomes r.
@@ -73,6 +80,15 @@ pub(crate) fn put_region(tables: &mut Tables, t: u16, r: Region)
     requires { ⌜ t < 8 ⌝ }
     ensures { λ _. ⌜ now (tables .exit) ≡ putRegion (now (tables .entry)) t r ⌝ }
 {
-    tables[tables::thread(t, 13)] = threads::bit(r.opened);
-    tables[tables::thread(t, 14)] = r.newest;
+    let i = tables::thread(t, 12);
+    tables[i] = with_open(tables[i], r.opened);
+    tables[tables::thread(t, 13)] = r.newest;
+}
+
+// What a held load changes of it; or a crash, which has ended the open state already.
+pub(crate) fn put_held(tables: &mut Tables, t: u16, r: Region)
+    requires { ⌜ t < 8 ⌝ }
+    ensures { λ _. ⌜ now (tables .exit) ≡ putHeld (now (tables .entry)) t r ⌝ }
+{
+    tables[tables::thread(t, 13)] = r.newest;
 }

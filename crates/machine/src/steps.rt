@@ -2,7 +2,6 @@
 // that fails; else the event takes effect. An event that is turned away changes nothing. `row` is where the event's row
 // begins: the caller sees to it that it is a row's begin, and that the begin's numbers are in range (`Fits`).
 ghost use mathlib.Core.Path.{_≡_};
-ghost use mathlib.Core.Bool.{true};
 ghost use mathlib.Core.List.{List};
 ghost use Prim.Native.Nat.{ℕ, _+_, _≤_, _<_};
 ghost use lib.ListN.{length};
@@ -11,7 +10,7 @@ ghost use Rattle.machine.specs.Turning.{Fits};
 ghost use Rattle.machine.specs.Outcomes.{outcome, issueO, commitO, onlyO, plainO, acrossO, memoryO, loadO};
 ghost use Rattle.machine.specs.Outcomes.{flushO, fenceO, crashO, skipO, signalO, waitO, openO};
 ghost use Rattle.machine.specs.Outcomes.{lockedO, closeO, stepO};
-ghost use Rattle.machine.specs.Regions.{regionOf};
+ghost use Rattle.machine.specs.Effects.{asideTables, asideWork};
 use crate::effects;
 use crate::regions;
 use crate::rules;
@@ -90,7 +89,7 @@ fn admit(m: Machine, row: usize, tables: &mut Tables, work: &[u16], x: u16, s: u
     true
 }
 
-// A crossing load, which brings no clock, of a thread that is not open. It counts if its thread is in no skip.
+// A crossing load, which brings no clock. It counts if its thread is in no skip and not open.
 fn load_across(
     m: Machine,
     row: usize,
@@ -108,33 +107,32 @@ fn load_across(
         return m.refuse(9);
     }
     area::no_store(work, row);
-    let own = threads::thread_of(tables, t);
-    m.pass(!own.skip)
+    m.pass(regions::is_plain(tables, t))
 }
 
-// The same of an open thread, behind the step r: a load that would count is held. This stands apart from the function
-// above, which the compiler takes into the judge's loop only if it is small.
-fn hold_open(
-    m: Machine,
-    row: usize,
+// Behind a crossing load that does not count: if it passed, and its thread is in no skip, the thread is open, and the load
+// is held. This hands nothing back, and is asked where a load does not count: so it costs other loads nothing.
+fn set_aside(
     tables: &mut Tables,
     work: &mut [u16],
+    row: usize,
     t: u16,
     x: u16,
     s: u16,
-    r: Step,
-) -> Step
+    refusal: u16,
+)
     requires { ⌜ (t < 8) × (x < 256) × (row < 32768) × (row + 16 ≤ length (now work)) ⌝ }
-    ensures { λ a. ⌜ ((tables' work' : List ℕ)
-        → outcome m row r (now (tables .entry)) (now (work .entry)) ≡ plainO (world (stateOf m row) tables' work') t x s
-        → regionOf (now (tables .entry)) t .opened ≡ true
-        → outcome m row a (now (tables .exit)) (now (work .exit)) ≡ acrossO (world (stateOf m row) tables' work') t x s) ⌝ }
+    ensures { λ _. ⌜ now (tables .exit) ≡ asideTables (now (tables .entry)) row t refusal ⌝ }
+    ensures { λ _. ⌜ now (work .exit) ≡ asideWork (now (tables .entry)) (now (work .entry)) row t x s refusal ⌝ }
 {
-    if !r.counted {
-        return r;
+    if refusal != 0 {
+        return;
+    }
+    let own = threads::thread_of(tables, t);
+    if own.skip {
+        return;
     }
     effects::hold(tables, work, row, t, x, s);
-    m.pass(false)
 }
 
 // A load where no store of its thread waits at the location. `load` makes these two cases in its own body: with two
@@ -155,10 +153,11 @@ fn load_memory(
     let committed = tables[tables::stretch(x)];
     if committed != m.stretch {
         let r = load_across(m, row, tables, work, t, x, s);
-        if !regions::is_open(tables, t) {
+        if r.counted {
             return r;
         }
-        return hold_open(m, row, tables, work, t, x, s, r);
+        set_aside(tables, work, row, t, x, s, r.refusal);
+        return r;
     }
     let q = tables[tables::last(x)];
     load_only(m, row, tables, work, t, s, q)
@@ -191,10 +190,11 @@ fn load(
         return load_only(m, row, tables, work, t, s, q);
     }
     let r = load_across(m, row, tables, work, t, x, s);
-    if !regions::is_open(tables, t) {
+    if r.counted {
         return r;
     }
-    hold_open(m, row, tables, work, t, x, s, r)
+    set_aside(tables, work, row, t, x, s, r.refusal);
+    r
 }
 
 // A locked operation: a load, then an issue and a commit. 11: its thread "has a waiting store".

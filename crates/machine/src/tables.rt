@@ -64,7 +64,7 @@ pub fn last_committed(tables: &Tables, x: u16) -> u16
 pub fn newest_held(tables: &Tables, t: u16) -> u16
     ensures { λ r. ⌜ r ≡ heldIn (now (tables .entry)) t ⌝ }
 {
-    tables[thread(t % 8, 14)]
+    tables[thread(t % 8, 13)]
 }
 
 // The stores committed in all finished stretches.

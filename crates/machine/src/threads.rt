@@ -1,10 +1,11 @@
-// A thread's state: its queue, its counts of the stretch, and whether it is in a skip, columns 8 to 12 of its row. The
+// A thread's state: its queue, its counts of the stretch, and whether it is in a skip, columns 8 to 12 of its row, the
+// last of which it shares with the open state (regions.rt), so that a load asks one number whether it counts. The
 // methods hand the thread's new state back. The queue's stores are linked in the work area; here are its ends.
 ghost use mathlib.Core.Path.{_≡_};
 ghost use Prim.Native.Nat.{_<_};
 ghost use Rattle.model.specs.Search.{bit};
 ghost use Rattle.machine.specs.Threads.{firstOf, issuedT, committedT, skippedT, crashedT, threadOf};
-ghost use Rattle.machine.specs.Threads.{KeepsOldest, putIssued, putCommitted, putSkip, putOldest};
+ghost use Rattle.machine.specs.Threads.{KeepsOldest, putIssued, putCommitted, skipSet, putSkip, putOldest};
 ghost use Rattle.machine.specs.Threads.{unseen, restarted};
 use crate::tables;
 use crate::tables::Tables;
@@ -24,7 +25,7 @@ fn first_of(a: u16, b: u16) -> u16
     if a == 0 { b } else { a }
 }
 
-pub(crate) fn bit(b: bool) -> u16
+fn bit(b: bool) -> u16
     ensures { λ r. ⌜ r ≡ bit b ⌝ }
 {
     if b { 1 } else { 0 }
@@ -81,7 +82,7 @@ pub(crate) fn thread_of(tables: &Tables, t: u16) -> Thread
         newest: tables[tables::thread(t, 9)],
         issued: tables[tables::thread(t, 10)],
         committed: tables[tables::thread(t, 11)],
-        skip: tables[tables::thread(t, 12)] != 0,
+        skip: tables[tables::thread(t, 12)] % 2 != 0,
     }
 }
 
@@ -116,12 +117,20 @@ pub(crate) fn put_committed(tables: &mut Tables, t: u16, s: Thread)
     tables[tables::thread(t, 11)] = s.committed;
 }
 
+// Column 12 with another skip.
+fn with_skip(c: u16, skip: bool) -> u16
+    ensures { λ r. ⌜ r ≡ skipSet c skip ⌝ }
+{
+    if skip { c / 2 * 2 + 1 } else { c / 2 * 2 }
+}
+
 // What a skip changes.
 pub(crate) fn put_skip(tables: &mut Tables, t: u16, s: Thread)
     requires { ⌜ t < 8 ⌝ }
     ensures { λ _. ⌜ now (tables .exit) ≡ putSkip (now (tables .entry)) t s ⌝ }
 {
-    tables[tables::thread(t, 12)] = bit(s.skip);
+    let i = tables::thread(t, 12);
+    tables[i] = with_skip(tables[i], s.skip);
 }
 
 // Thread t has seen nothing.
@@ -137,7 +146,7 @@ fn forget_seen(tables: &mut Tables, t: u16)
     }
 }
 
-// What a crash changes: thread t has seen nothing, and all of its state is s.
+// What a crash changes: thread t has seen nothing, all of its state is s, and it is not open.
 pub(crate) fn restart(tables: &mut Tables, t: u16, s: Thread)
     requires { ⌜ t < 8 ⌝ }
     ensures { λ _. ⌜ now (tables .exit) ≡ restarted (now (tables .entry)) t s ⌝ }
@@ -147,5 +156,5 @@ pub(crate) fn restart(tables: &mut Tables, t: u16, s: Thread)
     tables[tables::thread(t, 9)] = s.newest;
     tables[tables::thread(t, 10)] = s.issued;
     tables[tables::thread(t, 11)] = s.committed;
-    put_skip(tables, t, s);
+    tables[tables::thread(t, 12)] = bit(s.skip);
 }

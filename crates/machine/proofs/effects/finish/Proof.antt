@@ -31,9 +31,10 @@ loop-less c = search needs
 loop-again : tie.Need-loop-again Inv-loop μ-loop
 unfolding finished
 loop-again c =
+    let at-loop = c .before .before .before in
     record {
       below = omega arith;
-      is-so = rw (c .finish-thread .ensures, c .before .before .before .loop .inv .is-so, add-one) refl;
+      is-so = rw (c .finish-thread .ensures, at-loop .loop .inv .is-so, add-one) refl;
     }
 
 returns : tie.Need-returns Inv-loop μ-loop

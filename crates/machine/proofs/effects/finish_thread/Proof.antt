@@ -29,8 +29,8 @@ restart-requires c κs = search needs
 crash-requires-2 : tie.Need-crash-requires-2
 crash-requires-2 c κs = search needs
 
-put-region-requires : tie.Need-put-region-requires
-put-region-requires c κs = search needs
+put-held-requires : tie.Need-put-held-requires
+put-held-requires c κs = search needs
 
 returns : tie.Need-returns
 unfolding finishedThread
@@ -40,7 +40,7 @@ returns c =
     let at-region-of = at-commits .before in
     let at-thread-of = at-region-of .before .before in
     rw (
-      c .put-region .ensures,
+      c .put-held .ensures,
       c .before .crash2 .ensures,
       at-restart .restart .ensures,
       at-restart .before .crash .ensures,
@@ -61,5 +61,5 @@ finish-thread-spec =
     crash-requires
     restart-requires
     crash-requires-2
-    put-region-requires
+    put-held-requires
     returns)

@@ -61,8 +61,8 @@ event-at-requires c κs = search needs
 hold-requires : tie.Need-hold-requires
 hold-requires c κs = search needs
 
-put-region-requires : tie.Need-put-region-requires
-put-region-requires c κs = search needs
+put-held-requires : tie.Need-put-held-requires
+put-held-requires c κs = search needs
 
 same-length : tie.Need-same-length
 same-length c = search needs
@@ -74,7 +74,7 @@ returns c =
     let at-last = at-event-at .before .before .before in
     let at-region-of = at-last .before in
     rw (
-      c .put-region .ensures,
+      c .put-held .ensures,
       c .before .hold .ensures,
       at-event-at .event-at .ensures,
       at-last .last .ensures,
@@ -104,6 +104,6 @@ hold-spec =
     slice-write-work-4
     event-at-requires
     hold-requires
-    put-region-requires
+    put-held-requires
     same-length
     returns)

@@ -36,7 +36,10 @@ same-length c = search needs
 
 returns : tie.Need-returns
 unfolding signalledWork
-returns c = rw (c .before .before .write-clock .ensures, c .before .before .before .before .thread-of .ensures) refl
+returns c =
+    let at-write-clock = c .before .before in
+    let at-thread-of = at-write-clock .before .before in
+    rw (at-write-clock .write-clock .ensures, at-thread-of .thread-of .ensures) refl
 
 pub signal-spec : {M : Type 1} → statement M
 signal-spec =

@@ -25,7 +25,9 @@ element-copy-out-t13 c = search needs
 
 returns : tie.Need-returns
 unfolding regionOf
-returns c = rw (c .before .before .before .thread .ensures, c .before .thread2 .ensures) refl
+returns c =
+    let at-thread = c .before .before .before in
+    rw (at-thread .thread .ensures, c .before .thread2 .ensures) refl
 
 pub region-of-spec : {M : Type 1} → statement M
 region-of-spec =

@@ -25,8 +25,11 @@ refuse-requires-2 c κs = search needs
 
 returns-2 : tie.Need-returns-2
 returns-2 c =
-    rw (le-ltb _ 2 (c .before .before .before .before .if1 .left))
-    (turned-away _ _ _ _ _ _ _ _ _ _ _ _ (c .before .before .before .thread-fits .ensures .0) (c .before .before .if2 .taken) (c .before .place-refusal .ensures)
+    let at-if2 = c .before .before in
+    let at-thread-fits = at-if2 .before in
+    let at-if1 = at-thread-fits .before in
+    rw (le-ltb _ 2 (at-if1 .if1 .left))
+    (turned-away _ _ _ _ _ _ _ _ _ _ _ _ (at-thread-fits .thread-fits .ensures .0) (at-if2 .if2 .taken) (c .before .place-refusal .ensures)
     (c .refuse2 .ensures))
 
 region-of-requires : tie.Need-region-of-requires
@@ -42,21 +45,31 @@ refuse-requires-3 c κs = search needs
 
 returns-3 : tie.Need-returns-3
 returns-3 c =
-    let own = rw (c .before .before .before .region-of .ensures) at (c .before .before .close-rule .ensures) in
-    rw (le-ltb _ 2 (c .before .before .before .before .before .before .before .if1 .left))
-    (stopped _ _ _ _ _ _ _ _ _ (behind _ _ _ _ (c .before .before .before .before .before .before .thread-fits .ensures .0) (c .before .before .before .before .before .if2 .left) ∙ sym own) (c .before .if3 .taken)
+    let at-close-rule = c .before .before in
+    let at-region-of = at-close-rule .before in
+    let at-if2 = at-region-of .before .before in
+    let at-thread-fits = at-if2 .before in
+    let at-if1 = at-thread-fits .before in
+    let own = rw (at-region-of .region-of .ensures) at (at-close-rule .close-rule .ensures) in
+    rw (le-ltb _ 2 (at-if1 .if1 .left))
+    (stopped _ _ _ _ _ _ _ _ _ (behind _ _ _ _ (at-thread-fits .thread-fits .ensures .0) (at-if2 .if2 .left) ∙ sym own) (c .before .if3 .taken)
     (c .refuse3 .ensures))
 
 no-store-requires : tie.Need-no-store-requires
 no-store-requires c κs =
-    row-inside _ _ _ (c .before .before .before .before .before .before .before .before .before .before .pre) (c .before .before .before .before .before .before .thread-fits .ensures .1 (not-false _ (c .before .before .before .before .before .if2 .left)) .0)
+    let at-if2 = c .before .before .before .before .before in
+    let at-thread-fits = at-if2 .before in
+    let entry = at-thread-fits .before .before .before .before in
+    row-inside _ _ _ (entry .pre) (at-thread-fits .thread-fits .ensures .1 (not-false _ (at-if2 .if2 .left)) .0)
 
 end-requires : tie.Need-end-requires
 end-requires c κs = search needs
 
 put-region-requires : tie.Need-put-region-requires
 put-region-requires c κs =
-    let bounds = c .before .before .before .before .before .before .before .before .before .before .before .thread-fits .ensures .1 (not-false _ (c .before .before .before .before .before .before .before .before .before .before .if2 .left)) in
+    let at-if2 = c .before .before .before .before .before .before .before .before .before .before in
+    let at-thread-fits = at-if2 .before in
+    let bounds = at-thread-fits .thread-fits .ensures .1 (not-false _ (at-if2 .if2 .left)) in
     omega arith
 
 close-counts-requires : tie.Need-close-counts-requires
@@ -71,12 +84,22 @@ same-length c = search needs
 returns-4 : tie.Need-returns-4
 unfolding closeW
 returns-4 c =
-    let region = c .before .before .before .before .before .before .before .before .before .before .before .region-of .ensures in
-    let own = rw region at (c .before .before .before .before .before .before .before .before .before .before .close-rule .ensures) in
-    rw (le-ltb _ 2 (c .before .before .before .before .before .before .before .before .before .before .before .before .before .before .before .if1 .left))
-    (passes (c .before .before .before .before .before .before .before .before .before .before .before .before .before .before .before .before .before .before .args .m) _ _ _ _ _ _ _ _
-    (behind _ _ _ _ (c .before .before .before .before .before .before .before .before .before .before .before .before .before .before .thread-fits .ensures .0) (c .before .before .before .before .before .before .before .before .before .before .before .before .before .if2 .left) ∙ sym own ∙ omega (arith, c .before .before .before .before .before .before .before .before .before .if3 .left))
-    (rw (c .before .before .put-region .ensures, c .before .before .before .end .ensures, region, c .before .before .before .before .before .before .before .no-store .ensures) refl)
+    let at-put-region = c .before .before in
+    let at-end = at-put-region .before in
+    let at-no-store = at-end .before .before .before .before in
+    let at-if3 = at-no-store .before .before in
+    let at-close-rule = at-if3 .before in
+    let at-region-of = at-close-rule .before in
+    let at-if2 = at-region-of .before .before in
+    let at-thread-fits = at-if2 .before in
+    let at-if1 = at-thread-fits .before in
+    let entry = at-if1 .before .before .before in
+    let region = at-region-of .region-of .ensures in
+    let own = rw region at (at-close-rule .close-rule .ensures) in
+    rw (le-ltb _ 2 (at-if1 .if1 .left))
+    (passes (entry .args .m) _ _ _ _ _ _ _ _
+    (behind _ _ _ _ (at-thread-fits .thread-fits .ensures .0) (at-if2 .if2 .left) ∙ sym own ∙ omega (arith, at-if3 .if3 .left))
+    (rw (at-put-region .put-region .ensures, at-end .end .ensures, region, at-no-store .no-store .ensures) refl)
     (rw (c .pass .ensures, c .before .close-counts .ensures, region) refl))
 
 pub close-region-spec : {M : Type 1} → statement M

@@ -22,8 +22,9 @@ refuse-requires-2 c κs = search needs
 
 returns-2 : tie.Need-returns-2
 returns-2 c =
+    let at-if1 = c .before .before .before in
     stopped _ _ _ _ _ _ _ _ _
-    (rw (lt-leb _ _ (c .before .before .before .if1 .left), eq-eqb _ _ (c .before .if2 .taken)) refl)
+    (rw (lt-leb _ _ (at-if1 .if1 .left), eq-eqb _ _ (c .before .if2 .taken)) refl)
     (λ is. omega arith)
     (c .refuse2 .ensures)
 

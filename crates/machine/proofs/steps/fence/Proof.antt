@@ -19,8 +19,10 @@ refuse-requires c κs = search needs
 
 returns : tie.Need-returns
 returns c =
+    let at-if1 = c .before .before in
+    let at-thread-fits = at-if1 .before in
     turned-away _ _ _ _ _ _ _ _ _ _ _ _
-    (c .before .before .before .thread-fits .ensures .0) (c .before .before .if1 .taken)
+    (at-thread-fits .thread-fits .ensures .0) (at-if1 .if1 .taken)
     (c .before .place-refusal .ensures) (c .refuse .ensures)
 
 thread-of-requires : tie.Need-thread-of-requires

@@ -19,8 +19,10 @@ refuse-requires c κs = search needs
 
 returns : tie.Need-returns
 returns c =
+    let at-if1 = c .before .before in
+    let at-place-fits = at-if1 .before in
     turned-away _ _ _ _ _ _ _ _ _ _ _ _
-    (c .before .before .before .place-fits .ensures .0) (c .before .before .if1 .taken)
+    (at-place-fits .place-fits .ensures .0) (at-if1 .if1 .taken)
     (c .before .place-refusal .ensures) (c .refuse .ensures)
 
 issue-requires : tie.Need-issue-requires

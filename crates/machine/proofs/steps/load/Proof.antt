@@ -2,7 +2,7 @@
 use mathlib.Core.Path.{sym, _∙_}
 use native.Mathlib.Omega.{arith}
 use borrow.Author.Tests.{not-false, eq-eqb, ne-eqb, not-true}
-use Rattle.machine.proofs.RuleLaws.{row-inside, not-open, turned-away, load-waits, load-here, load-crosses}
+use Rattle.machine.proofs.RuleLaws.{row-inside, at-once, aside, turned-away, load-waits, load-here, load-crosses}
 use borrow.Author.Needs.{needs}
 use Rattle.machine.proofs.steps.load.Statement.{statement}
 use Rattle.machine.proofs.steps.load.Tie as tie
@@ -18,8 +18,10 @@ refuse-requires c κs = search needs
 
 returns : tie.Need-returns
 returns c =
+    let at-if1 = c .before .before in
+    let at-place-fits = at-if1 .before in
     turned-away _ _ _ _ _ _ _ _ _ _ _ _
-    (c .before .before .before .place-fits .ensures .0) (c .before .before .if1 .taken)
+    (at-place-fits .place-fits .ensures .0) (at-if1 .if1 .taken)
     (c .before .place-refusal .ensures) (c .refuse .ensures)
 
 waiting-requires : tie.Need-waiting-requires
@@ -72,7 +74,8 @@ mul-q c = search needs
 
 element-copy-out-q : tie.Need-element-copy-out-q
 element-copy-out-q c =
-    let at-stretch = c .before .before .before .before in
+    let at-before = c .before .before .before in
+    let at-stretch = at-before .before in
     let at-waiting = at-stretch .before .before in
     let at-if1 = at-waiting .before .before in
     let at-place-fits = at-if1 .before in
@@ -118,38 +121,54 @@ load-across-requires c κs =
     let bounds = at-place-fits .place-fits .ensures .1 (not-false _ (at-if1 .if1 .left)) in
     (entry .pre, bounds .0, omega arith, omega arith)
 
-is-open-requires : tie.Need-is-open-requires
-is-open-requires c κs =
-    let bounds = c .before .before .before .before .before .before .before .before .before .before .before .before .before .before .place-fits .ensures .1 (not-false _ (c .before .before .before .before .before .before .before .before .before .before .before .before .before .if1 .left)) in
-    omega arith
-
 same-length-3 : tie.Need-same-length-3
 same-length-3 c = search needs
 
 returns-4 : tie.Need-returns-4
 returns-4 c =
-    let bounds = c .before .before .before .before .before .before .before .before .before .before .before .before .before .before .before .before .place-fits .ensures .1 (not-false _ (c .before .before .before .before .before .before .before .before .before .before .before .before .before .before .before .if1 .left)) in
-    let not-here = rw (c .before .before .before .before .before .before .before .before .before .before .before .stretch .ensures) at (ne-eqb _ _ (c .before .before .before .before .before .before .before .before .if3 .left)) in
-    not-open _ _ _ _ _ _ _ (omega arith) _ _ _ (c .before .before .before .before .before .load-across .ensures)
-    (sym (c .before .is-open .ensures) ∙ not-true _ (c .if4 .taken))
-    ∙ load-crosses _ _ _ _ _ (c .before .before .before .before .before .before .before .before .before .before .before .before .before .before .before .before .place-fits .ensures .0) (c .before .before .before .before .before .before .before .before .before .before .before .before .before .before .before .if1 .left) _ (c .before .before .before .before .before .before .before .before .before .before .before .before .before .waiting .ensures)
-    (omega (arith, c .before .before .before .before .before .before .before .before .before .before .before .before .if2 .left)) not-here
+    let at-load-across = c .before .before .before in
+    let at-if3 = at-load-across .before .before .before in
+    let at-stretch = at-if3 .before .before .before in
+    let at-if2 = at-stretch .before in
+    let at-waiting = at-if2 .before in
+    let at-if1 = at-waiting .before .before in
+    let at-place-fits = at-if1 .before in
+    let bounds = at-place-fits .place-fits .ensures .1 (not-false _ (at-if1 .if1 .left)) in
+    let not-here = rw (at-stretch .stretch .ensures) at (ne-eqb _ _ (at-if3 .if3 .left)) in
+    at-once _ _ _ _ _ _ _ (omega arith) _ _ _ (at-load-across .load-across .ensures) (c .if4 .taken)
+    ∙ load-crosses _ _ _ _ _ (at-place-fits .place-fits .ensures .0) (at-if1 .if1 .left) _ (at-waiting .waiting .ensures)
+    (omega (arith, at-if2 .if2 .left)) not-here
 
-hold-open-requires : tie.Need-hold-open-requires
-hold-open-requires c κs =
-    let bounds = c .before .before .before .before .before .before .before .before .before .before .before .before .before .before .before .before .before .before .place-fits .ensures .1 (not-false _ (c .before .before .before .before .before .before .before .before .before .before .before .before .before .before .before .before .before .if1 .left)) in
-    let size = c .before .before .before .before .before .before .before .load-across .kept .1 .1 .1 .0 in
-    (omega arith, omega arith, bounds .0, rw size (row-inside _ _ _ (c .before .before .before .before .before .before .before .before .before .before .before .before .before .before .before .before .before .before .before .before .pre) (bounds .0)))
+set-aside-requires : tie.Need-set-aside-requires
+set-aside-requires c κs =
+    let at-load-across = c .before .before .before .before .before in
+    let at-if1 = at-load-across .before .before .before .before .before .before .before .before .before .before in
+    let at-place-fits = at-if1 .before in
+    let entry = at-place-fits .before .before in
+    let bounds = at-place-fits .place-fits .ensures .1 (not-false _ (at-if1 .if1 .left)) in
+    let size = at-load-across .load-across .kept .1 .1 .1 .0 in
+    (omega arith, omega arith, bounds .0, rw size (row-inside _ _ _ (entry .pre) (bounds .0)))
 
 same-length-4 : tie.Need-same-length-4
 same-length-4 c = search needs
 
 returns-5 : tie.Need-returns-5
 returns-5 c =
-    let not-here = rw (c .before .before .before .before .before .before .before .before .before .before .before .before .before .before .before .before .stretch .ensures) at (ne-eqb _ _ (c .before .before .before .before .before .before .before .before .before .before .before .before .before .if3 .left)) in
-    c .before .before .hold-open .ensures _ _ (c .before .before .before .before .before .before .before .before .before .before .load-across .ensures) (sym (c .before .before .before .before .before .before .is-open .ensures) ∙ not-false _ (c .before .before .before .before .before .if4 .left))
-    ∙ load-crosses _ _ _ _ _ (c .before .before .before .before .before .before .before .before .before .before .before .before .before .before .before .before .before .before .before .before .before .place-fits .ensures .0) (c .before .before .before .before .before .before .before .before .before .before .before .before .before .before .before .before .before .before .before .before .if1 .left) _ (c .before .before .before .before .before .before .before .before .before .before .before .before .before .before .before .before .before .before .waiting .ensures)
-    (omega (arith, c .before .before .before .before .before .before .before .before .before .before .before .before .before .before .before .before .before .if2 .left)) not-here
+    let at-set-aside = c .before .before in
+    let at-if4 = at-set-aside .before .before .before in
+    let at-load-across = at-if4 .before .before .before in
+    let at-if3 = at-load-across .before .before .before in
+    let at-stretch = at-if3 .before .before .before in
+    let at-if2 = at-stretch .before in
+    let at-waiting = at-if2 .before in
+    let at-if1 = at-waiting .before .before in
+    let at-place-fits = at-if1 .before in
+    let bounds = at-place-fits .place-fits .ensures .1 (not-false _ (at-if1 .if1 .left)) in
+    let not-here = rw (at-stretch .stretch .ensures) at (ne-eqb _ _ (at-if3 .if3 .left)) in
+    aside _ _ _ _ _ _ _ (omega arith) _ _ _ (at-load-across .load-across .ensures) (at-if4 .if4 .left) _ _
+    (at-set-aside .set-aside .ensures .0) (at-set-aside .set-aside .ensures .1)
+    ∙ load-crosses _ _ _ _ _ (at-place-fits .place-fits .ensures .0) (at-if1 .if1 .left) _ (at-waiting .waiting .ensures)
+    (omega (arith, at-if2 .if2 .left)) not-here
 
 pub load-spec : {M : Type 1} → statement M
 load-spec =
@@ -173,9 +192,8 @@ load-spec =
     same-length-2
     returns-3
     load-across-requires
-    is-open-requires
     same-length-3
     returns-4
-    hold-open-requires
+    set-aside-requires
     same-length-4
     returns-5)

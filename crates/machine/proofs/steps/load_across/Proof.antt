@@ -1,8 +1,8 @@
 -- The rule; behind it the source is noted, and brings no clock.
-use mathlib.Core.Path.{refl, _∙_}
+use mathlib.Core.Path.{refl, sym, _∙_}
 use native.Mathlib.Omega.{arith}
 use borrow.Author.Tests.{not-true, not-false}
-use Rattle.machine.proofs.RuleLaws.{row-inside, stopped, passes, source-noted, source-not-noted, skip-stays}
+use Rattle.machine.proofs.RuleLaws.{row-inside, stopped, passes, source-noted, source-not-noted, plain-stays}
 use borrow.Author.Needs.{needs}
 use Rattle.machine.proofs.steps.load_across.Statement.{statement}
 use Rattle.machine.proofs.steps.load_across.Tie as tie
@@ -18,19 +18,17 @@ same-length c = search needs
 
 returns : tie.Need-returns
 returns c =
-    let called = c .before .before .admit in
-    let off = rw (called .ensures .0) at (not-true (called .result) (c .before .if1 .taken)) in
-    rw (called .ensures .1 ∙ source-not-noted _ _ _ _ _ _ off)
+    let off = rw (c .before .before .admit .ensures .0) at (not-true (c .before .before .admit .result) (c .before .if1 .taken)) in
+    rw (c .before .before .admit .ensures .1 ∙ source-not-noted _ _ _ _ _ _ off)
     (stopped _ _ _ _ _ _ _ _ _ (rw off refl) (λ is. omega arith) (c .refuse .ensures))
 
 no-store-requires : tie.Need-no-store-requires
 no-store-requires c κs =
-    let at-admit-arg2 = c .before .before .before in
-    let entry = at-admit-arg2 .before .before .before in
+    let entry = c .before .before .before .before .before .before in
     row-inside _ _ _ (entry .pre .0) (entry .pre .1)
 
-thread-of-requires : tie.Need-thread-of-requires
-thread-of-requires c κs = search needs
+is-plain-requires : tie.Need-is-plain-requires
+is-plain-requires c κs = search needs
 
 pass-requires : tie.Need-pass-requires
 pass-requires c κs = search needs
@@ -40,19 +38,16 @@ same-length-2 c = search needs
 
 returns-2 : tie.Need-returns-2
 returns-2 c =
-    let at-thread-of = c .before .before in
-    let at-work = at-thread-of .before .before .before in
-    let at-no-store = at-work .before in
+    let at-no-store = c .before .before .before .before .before in
     let at-if1 = at-no-store .before .before in
     let at-admit = at-if1 .before in
-    let at-slice-known = at-admit .before .before .before in
-    let entry = at-slice-known .before in
+    let entry = at-admit .before .before .before .before in
     let on = rw (at-admit .admit .ensures .0) at (not-false (at-admit .admit .result) (at-if1 .if1 .left)) in
     let noted = at-admit .admit .ensures .1 ∙ source-noted _ _ _ _ _ _ on in
     let args = entry .args in
-    let same-skip = skip-stays (args .tables .now) (args .t) (args .x) (args .s) (entry .pre .2) in
+    let plain = plain-stays (args .tables .now) (args .t) (args .x) (args .s) (entry .pre .2) in
     passes (args .m) _ _ _ _ _ _ _ _ (rw on refl) (rw (noted, at-no-store .no-store .ensures) refl)
-    (rw (c .pass .ensures, at-thread-of .thread-of .ensures, noted, same-skip) refl)
+    (rw (c .pass .ensures, c .before .is-plain .ensures, noted, plain) refl)
 
 pub load-across-spec : {M : Type 1} → statement M
 load-across-spec =
@@ -63,7 +58,7 @@ load-across-spec =
     same-length
     returns
     no-store-requires
-    thread-of-requires
+    is-plain-requires
     pass-requires
     same-length-2
     returns-2)

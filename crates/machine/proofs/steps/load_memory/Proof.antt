@@ -2,7 +2,7 @@
 use mathlib.Core.Path.{sym, _∙_}
 use borrow.Author.Tests.{eq-eqb, ne-eqb, not-true, not-false}
 use Rattle.machine.specs.Twin.{stateOf, world}
-use Rattle.machine.proofs.RuleLaws.{row-inside, memory-here, memory-crosses, not-open}
+use Rattle.machine.proofs.RuleLaws.{row-inside, memory-here, memory-crosses, at-once, aside}
 use borrow.Author.Needs.{needs}
 use Rattle.machine.proofs.steps.load_memory.Statement.{statement}
 use Rattle.machine.proofs.steps.load_memory.Tie as tie
@@ -19,34 +19,45 @@ element-copy-out-committed c = search needs
 load-across-requires : tie.Need-load-across-requires
 load-across-requires c κs = search needs
 
-is-open-requires : tie.Need-is-open-requires
-is-open-requires c κs = search needs
-
 same-length : tie.Need-same-length
 same-length c = search needs
 
 returns : tie.Need-returns
 returns c =
-    let args = c .before .before .before .before .before .before .before .before .before .before .before .before .before .args in
+    let at-load-across = c .before .before .before in
+    let at-if1 = at-load-across .before .before .before in
+    let at-stretch = at-if1 .before .before .before in
+    let entry = at-stretch .before .before in
+    let args = entry .args in
     let w = world (stateOf (args .m) (args .row)) (args .tables .now) (args .work .now) in
-    let not-here = rw (c .before .before .before .before .before .before .before .before .before .before .before .stretch .ensures) at (ne-eqb _ _ (c .before .before .before .before .before .before .before .before .if1 .taken)) in
-    not-open _ _ _ _ _ _ _ (c .before .before .before .before .before .before .before .before .before .before .before .before .before .pre .2) _ _ _ (c .before .before .before .before .before .load-across .ensures) (sym (c .before .is-open .ensures) ∙ not-true _ (c .if2 .taken))
+    let not-here = rw (at-stretch .stretch .ensures) at (ne-eqb _ _ (at-if1 .if1 .taken)) in
+    at-once _ _ _ _ _ _ _ (entry .pre .2) _ _ _ (at-load-across .load-across .ensures) (c .if2 .taken)
     ∙ memory-crosses w (args .t) (args .x) (args .s) not-here
 
-hold-open-requires : tie.Need-hold-open-requires
-hold-open-requires c κs =
-    let size = c .before .before .before .before .before .before .before .load-across .kept .1 .1 .1 .0 in
-    (c .before .before .before .before .before .before .before .before .before .before .before .before .before .before .before .pre .2, c .before .before .before .before .before .before .before .before .before .before .before .before .before .before .before .pre .3, c .before .before .before .before .before .before .before .before .before .before .before .before .before .before .before .pre .1, rw size (row-inside _ _ _ (c .before .before .before .before .before .before .before .before .before .before .before .before .before .before .before .pre .0) (c .before .before .before .before .before .before .before .before .before .before .before .before .before .before .before .pre .1)))
+set-aside-requires : tie.Need-set-aside-requires
+set-aside-requires c κs =
+    let at-load-across = c .before .before .before .before .before in
+    let entry = at-load-across .before .before .before .before .before .before .before .before in
+    let size = at-load-across .load-across .kept .1 .1 .1 .0 in
+    let pre = entry .pre in
+    (pre .2, pre .3, pre .1, rw size (row-inside _ _ _ (pre .0) (pre .1)))
 
 same-length-2 : tie.Need-same-length-2
 same-length-2 c = search needs
 
 returns-2 : tie.Need-returns-2
 returns-2 c =
-    let args = c .before .before .before .before .before .before .before .before .before .before .before .before .before .before .before .before .before .before .args in
+    let at-set-aside = c .before .before in
+    let at-if2 = at-set-aside .before .before .before in
+    let at-load-across = at-if2 .before .before .before in
+    let at-if1 = at-load-across .before .before .before in
+    let at-stretch = at-if1 .before .before .before in
+    let entry = at-stretch .before .before in
+    let args = entry .args in
     let w = world (stateOf (args .m) (args .row)) (args .tables .now) (args .work .now) in
-    let not-here = rw (c .before .before .before .before .before .before .before .before .before .before .before .before .before .before .before .before .stretch .ensures) at (ne-eqb _ _ (c .before .before .before .before .before .before .before .before .before .before .before .before .before .if1 .taken)) in
-    c .before .before .hold-open .ensures _ _ (c .before .before .before .before .before .before .before .before .before .before .load-across .ensures) (sym (c .before .before .before .before .before .before .is-open .ensures) ∙ not-false _ (c .before .before .before .before .before .if2 .left))
+    let not-here = rw (at-stretch .stretch .ensures) at (ne-eqb _ _ (at-if1 .if1 .taken)) in
+    aside _ _ _ _ _ _ _ (entry .pre .2) _ _ _ (at-load-across .load-across .ensures) (at-if2 .if2 .left) _ _
+    (at-set-aside .set-aside .ensures .0) (at-set-aside .set-aside .ensures .1)
     ∙ memory-crosses w (args .t) (args .x) (args .s) not-here
 
 last-requires : tie.Need-last-requires
@@ -66,10 +77,15 @@ same-length-3 c = search needs
 
 returns-3 : tie.Need-returns-3
 returns-3 c =
-    let args = c .before .before .before .before .before .before .before .before .before .before .before .before .args in
+    let at-load-only = c .before .before in
+    let at-last = at-load-only .before .before .before .before in
+    let at-if1 = at-last .before in
+    let at-stretch = at-if1 .before .before .before in
+    let entry = at-stretch .before .before in
+    let args = entry .args in
     let w = world (stateOf (args .m) (args .row)) (args .tables .now) (args .work .now) in
-    let here = rw (c .before .before .before .before .before .before .before .before .before .before .stretch .ensures) at (eq-eqb _ _ (c .before .before .before .before .before .before .before .if1 .left)) in
-    (rw (c .before .before .before .before .before .before .last .ensures) at (c .before .before .load-only .ensures)) ∙ memory-here w (args .t) (args .x) (args .s) here
+    let here = rw (at-stretch .stretch .ensures) at (eq-eqb _ _ (at-if1 .if1 .left)) in
+    (rw (at-last .last .ensures) at (at-load-only .load-only .ensures)) ∙ memory-here w (args .t) (args .x) (args .s) here
 
 pub load-memory-spec : {M : Type 1} → statement M
 load-memory-spec =
@@ -79,10 +95,9 @@ load-memory-spec =
     mul-committed
     element-copy-out-committed
     load-across-requires
-    is-open-requires
     same-length
     returns
-    hold-open-requires
+    set-aside-requires
     same-length-2
     returns-2
     last-requires

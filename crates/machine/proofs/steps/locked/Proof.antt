@@ -18,8 +18,10 @@ refuse-requires c κs = search needs
 
 returns : tie.Need-returns
 returns c =
+    let at-if1 = c .before .before in
+    let at-place-fits = at-if1 .before in
     turned-away _ _ _ _ _ _ _ _ _ _ _ _
-    (c .before .before .before .place-fits .ensures .0) (c .before .before .if1 .taken)
+    (at-place-fits .place-fits .ensures .0) (at-if1 .if1 .taken)
     (c .before .place-refusal .ensures) (c .refuse .ensures)
 
 thread-of-requires : tie.Need-thread-of-requires
@@ -42,7 +44,8 @@ returns-2 c =
 
 load-memory-requires : tie.Need-load-memory-requires
 load-memory-requires c κs =
-    let at-if1 = c .before .before .before .before .before .before in
+    let at-before = c .before .before .before .before .before in
+    let at-if1 = at-before .before in
     let at-place-fits = at-if1 .before in
     let entry = at-place-fits .before .before in
     let bounds = at-place-fits .place-fits .ensures .1 (not-false _ (at-if1 .if1 .left)) in
@@ -53,7 +56,8 @@ same-length c = search needs
 
 returns-3 : tie.Need-returns-3
 returns-3 c =
-    let at-load = c .before .before .before .before in
+    let at-before = c .before .before .before in
+    let at-load = at-before .before in
     let at-if2 = at-load .before .before .before in
     let at-thread-of = at-if2 .before .before in
     let at-if1 = at-thread-of .before .before in
@@ -63,7 +67,8 @@ returns-3 c =
 
 exchange-requires : tie.Need-exchange-requires
 exchange-requires c κs =
-    let at-load = c .before .before .before .before .before .before in
+    let at-before = c .before .before .before .before .before in
+    let at-load = at-before .before in
     let at-if1 = at-load .before .before .before .before .before .before .before in
     let at-place-fits = at-if1 .before in
     let entry = at-place-fits .before .before in

@@ -25,8 +25,11 @@ refuse-requires-2 c κs = search needs
 
 returns-2 : tie.Need-returns-2
 returns-2 c =
-    rw (le-ltb _ 2 (c .before .before .before .before .if1 .left))
-    (turned-away _ _ _ _ _ _ _ _ _ _ _ _ (c .before .before .before .thread-fits .ensures .0) (c .before .before .if2 .taken) (c .before .place-refusal .ensures)
+    let at-if2 = c .before .before in
+    let at-thread-fits = at-if2 .before in
+    let at-if1 = at-thread-fits .before in
+    rw (le-ltb _ 2 (at-if1 .if1 .left))
+    (turned-away _ _ _ _ _ _ _ _ _ _ _ _ (at-thread-fits .thread-fits .ensures .0) (at-if2 .if2 .taken) (c .before .place-refusal .ensures)
     (c .refuse2 .ensures))
 
 region-of-requires : tie.Need-region-of-requires
@@ -39,21 +42,30 @@ refuse-requires-3 c κs = search needs
 
 returns-3 : tie.Need-returns-3
 returns-3 c =
-    rw (le-ltb _ 2 (c .before .before .before .before .before .before .if1 .left))
+    let at-region-of = c .before .before in
+    let at-if2 = at-region-of .before .before in
+    let at-thread-fits = at-if2 .before in
+    let at-if1 = at-thread-fits .before in
+    rw (le-ltb _ 2 (at-if1 .if1 .left))
     (stopped _ _ _ _ _ _ _ _ _
-    (behind _ _ _ _ (c .before .before .before .before .before .thread-fits .ensures .0) (c .before .before .before .before .if2 .left) ∙ rw (← c .before .before .region-of .ensures, c .before .if3 .taken) refl)
+    (behind _ _ _ _ (at-thread-fits .thread-fits .ensures .0) (at-if2 .if2 .left) ∙ rw (← at-region-of .region-of .ensures, c .before .if3 .taken) refl)
     (λ is. omega arith) (c .refuse3 .ensures))
 
 no-store-requires : tie.Need-no-store-requires
 no-store-requires c κs =
-    row-inside _ _ _ (c .before .before .before .before .before .before .before .before .before .pre) (c .before .before .before .before .before .thread-fits .ensures .1 (not-false _ (c .before .before .before .before .if2 .left)) .0)
+    let at-if2 = c .before .before .before .before in
+    let at-thread-fits = at-if2 .before in
+    let entry = at-thread-fits .before .before .before .before in
+    row-inside _ _ _ (entry .pre) (at-thread-fits .thread-fits .ensures .1 (not-false _ (at-if2 .if2 .left)) .0)
 
 begin-requires : tie.Need-begin-requires
 begin-requires c κs = search needs
 
 put-region-requires : tie.Need-put-region-requires
 put-region-requires c κs =
-    let bounds = c .before .before .before .before .before .before .before .before .before .before .thread-fits .ensures .1 (not-false _ (c .before .before .before .before .before .before .before .before .before .if2 .left)) in
+    let at-if2 = c .before .before .before .before .before .before .before .before .before in
+    let at-thread-fits = at-if2 .before in
+    let bounds = at-thread-fits .thread-fits .ensures .1 (not-false _ (at-if2 .if2 .left)) in
     omega arith
 
 pass-requires : tie.Need-pass-requires
@@ -65,11 +77,18 @@ same-length c = search needs
 returns-4 : tie.Need-returns-4
 unfolding openW
 returns-4 c =
-    let region = c .before .before .before .before .before .before .before .before .before .region-of .ensures in
-    rw (le-ltb _ 2 (c .before .before .before .before .before .before .before .before .before .before .before .before .before .if1 .left))
+    let at-begin = c .before .before in
+    let at-no-store = at-begin .before .before .before .before in
+    let at-if3 = at-no-store .before .before in
+    let at-region-of = at-if3 .before in
+    let at-if2 = at-region-of .before .before in
+    let at-thread-fits = at-if2 .before in
+    let at-if1 = at-thread-fits .before in
+    let region = at-region-of .region-of .ensures in
+    rw (le-ltb _ 2 (at-if1 .if1 .left))
     (passes _ _ _ _ _ _ _ _ _
-    (behind _ _ _ _ (c .before .before .before .before .before .before .before .before .before .before .before .before .thread-fits .ensures .0) (c .before .before .before .before .before .before .before .before .before .before .before .if2 .left) ∙ rw (← region, c .before .before .before .before .before .before .before .before .if3 .left) refl)
-    (rw (c .before .put-region .ensures, c .before .before .begin .ensures, region, c .before .before .before .before .before .before .no-store .ensures) refl) (c .pass .ensures))
+    (behind _ _ _ _ (at-thread-fits .thread-fits .ensures .0) (at-if2 .if2 .left) ∙ rw (← region, at-if3 .if3 .left) refl)
+    (rw (c .before .put-region .ensures, at-begin .begin .ensures, region, at-no-store .no-store .ensures) refl) (c .pass .ensures))
 
 pub open-region-spec : {M : Type 1} → statement M
 open-region-spec =

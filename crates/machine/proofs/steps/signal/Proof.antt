@@ -19,8 +19,10 @@ refuse-requires c κs = search needs
 
 returns : tie.Need-returns
 returns c =
+    let at-if1 = c .before .before in
+    let at-thread-fits = at-if1 .before in
     turned-away _ _ _ _ _ _ _ _ _ _ _ _
-    (c .before .before .before .thread-fits .ensures .0) (c .before .before .if1 .taken)
+    (at-thread-fits .thread-fits .ensures .0) (at-if1 .if1 .taken)
     (c .before .place-refusal .ensures) (c .refuse .ensures)
 
 thread-of-requires : tie.Need-thread-of-requires
@@ -43,7 +45,8 @@ returns-2 c =
 
 signal-requires : tie.Need-signal-requires
 signal-requires c κs =
-    let at-if1 = c .before .before .before .before in
+    let at-before = c .before .before .before in
+    let at-if1 = at-before .before in
     let at-thread-fits = at-if1 .before in
     let entry = at-thread-fits .before .before in
     let bounds = at-thread-fits .thread-fits .ensures .1 (not-false _ (at-if1 .if1 .left)) in

@@ -16,8 +16,10 @@ element-copy-out-if1 c = search needs
 
 returns : tie.Need-returns
 returns c =
-    let at-read = c .before .before .thread in
-    let keeps = c .before .before .before .pre .1 (λ none. c .if1 .taken (rw (at-read .ensures) none)) in
+    let at-thread = c .before .before in
+    let entry = at-thread .before in
+    let at-read = at-thread .thread in
+    let keeps = entry .pre .1 (λ none. c .if1 .taken (rw (at-read .ensures) none)) in
     rw keeps (sym (set-getD _ _ _))
 
 thread-requires-2 : tie.Need-thread-requires-2

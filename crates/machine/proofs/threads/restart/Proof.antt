@@ -44,24 +44,36 @@ mul-tables-4 c = search needs
 element-write-tables-4 : tie.Need-element-write-tables-4
 element-write-tables-4 c = search needs
 
-put-skip-requires : tie.Need-put-skip-requires
-put-skip-requires c κs = search needs
+bit-requires : tie.Need-bit-requires
+bit-requires c κs = search needs
+
+thread-requires-5 : tie.Need-thread-requires-5
+thread-requires-5 c κs = search needs
+
+mul-tables-5 : tie.Need-mul-tables-5
+mul-tables-5 c = search needs
+
+element-write-tables-5 : tie.Need-element-write-tables-5
+element-write-tables-5 c = search needs
 
 returns : tie.Need-returns
 unfolding restarted
 returns c =
-    let at-thread3 = c .before .before .before in
+    let at-thread4 = c .before .before in
+    let at-thread3 = at-thread4 .before in
     let at-thread2 = at-thread3 .before in
     let at-thread = at-thread2 .before in
     let at-forget-seen = at-thread .before in
     rw (
-      c .put-skip .ensures,
-      c .before .before .thread4 .ensures,
+      c .thread5 .ensures,
+      c .before .bit .ensures,
+      at-thread4 .thread4 .ensures,
       at-thread3 .thread3 .ensures,
       at-thread2 .thread2 .ensures,
       at-thread .thread .ensures,
       at-forget-seen .forget-seen .ensures,
-    ) refl
+    )
+    refl
 
 pub restart-spec : {M : Type 1} → statement M
 restart-spec =
@@ -80,5 +92,8 @@ restart-spec =
     thread-requires-4
     mul-tables-4
     element-write-tables-4
-    put-skip-requires
+    bit-requires
+    thread-requires-5
+    mul-tables-5
+    element-write-tables-5
     returns)

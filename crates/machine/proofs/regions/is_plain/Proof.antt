@@ -1,9 +1,8 @@
--- The one column.
+-- The one number.
 use mathlib.Core.Path.{refl}
-use Rattle.machine.specs.Regions.{regionOf}
 use borrow.Author.Needs.{needs}
-use Rattle.machine.proofs.regions.is_open.Statement.{statement}
-use Rattle.machine.proofs.regions.is_open.Tie as tie
+use Rattle.machine.proofs.regions.is_plain.Statement.{statement}
+use Rattle.machine.proofs.regions.is_plain.Tie as tie
 
 thread-requires : tie.Need-thread-requires
 thread-requires c κs = search needs
@@ -15,8 +14,7 @@ element-copy-out-result : tie.Need-element-copy-out-result
 element-copy-out-result c = search needs
 
 returns : tie.Need-returns
-unfolding regionOf
 returns c = rw (c .before .thread .ensures) refl
 
-pub is-open-spec : {M : Type 1} → statement M
-is-open-spec = tie.close (tie.spec thread-requires mul-result element-copy-out-result returns)
+pub is-plain-spec : {M : Type 1} → statement M
+is-plain-spec = tie.close (tie.spec thread-requires mul-result element-copy-out-result returns)
