@@ -7,10 +7,10 @@ use mathlib.Core.Path.{_≡_, refl, sym, _∙_}
 use mathlib.Core.Bool.{true, false}
 use mathlib.Core.List.{List, [], _∷_}
 use mathlib.Core.Logic.{_⊎_, inl, inr, _≢_}
-use Prim.Native.Nat.{ℕ, suc, _≤_, _<_}
+use Prim.Native.Nat.{ℕ, suc, _+_, _-_, _*_, _≤_, _<_}
 use native.Mathlib.Omega.{arith}
 use borrow.Author.Tests.{ne-eqb}
-use lib.ListN.{getD}
+use lib.ListN.{length, getD}
 use Rattle.record.specs.declared.events.Event.{Event}
 use Rattle.model.specs.Trace.{kind, thread, location, issue?, commit?, load?, crash?, skipOn?, skipOff?, Commit, Load}
 use Rattle.model.specs.Trace.{stretch, place}
@@ -25,9 +25,10 @@ use Rattle.model.proofs.Ranges.{issue-has-location, commit-has-thread, location
 use Rattle.model.proofs.StorePlaces.{Store, its-place, committed-at, committed-store, committed-itself}
 use Rattle.model.proofs.StorePlaces.{committed-earlier}
 use Rattle.model.proofs.Unchanged.{live-here, store-at-away, landed-away, landed-here, landed-once, committed-apart, Lacks}
-use Rattle.area.specs.Cells.{getRow, noStore}
-use Rattle.area.specs.Rows.{Linked}
-use Rattle.area.proofs.ReadBack.{rows-apart, put-same, put-row}
+use Rattle.area.specs.Cells.{rowStart, getRow, putRow, committedAt, noStore}
+use Rattle.area.specs.Rows.{Linked, Falls}
+use Rattle.area.proofs.Chains.{Kept, linked-kept, falls-kept, falls-less}
+use Rattle.area.proofs.ReadBack.{start-is, length-put, rows-apart, put-same, put-column, put-row}
 use Rattle.machine.specs.declared.threads.Thread.{Thread}
 use Rattle.machine.specs.Tables.{lastCell, stretchCell}
 use Rattle.machine.specs.Threads.{committedT, threadOf}
@@ -37,7 +38,7 @@ use Rattle.machine.specs.Sim.{done, Queue, Chain, Chains, Sim}
 use Rattle.machine.proofs.Storing.{Same}
 use Rattle.machine.proofs.TableLaws.{committed-replaced, committed-beyond, committed-last}
 use Rattle.machine.proofs.TableLaws.{committed-stretch}
-use Rattle.machine.proofs.RowLaws.{no-store-is, no-store-earlier, no-store-links, link-no-store}
+use Rattle.machine.proofs.RowLaws.{no-store-is, no-store-earlier, no-store-behind, link-no-store}
 use Rattle.machine.proofs.Keep.{Early, landed-early, limits-next, in-time, few-own, numbers-next, spares, counted-up}
 use Rattle.machine.proofs.Keep.{place-stays, issued-stays, newest-stays, skip-stays, queues-with, seen-keep}
 use Rattle.machine.proofs.Keep.{newest-keep, commits-keep, sources-keep, rows-keep, links-keep}
@@ -45,26 +46,32 @@ use Rattle.machine.proofs.Holding.{regions-keep}
 
 -- ---- chains
 
--- the links spell the same list where they are as they were but for a store that is not in it
-linked-but :
-    (ev : ℕ → Event) (n p : ℕ) (l l′ : List ℕ)
-    → ((q : ℕ) → 1 ≤ q → q < n → q ≢ p → getRow l′ q 14 ≡ getRow l q 14)
-    → (h : ℕ) (ps : List ℕ) → Early n ps → Lacks ev p ps → Linked l h ps → Linked l′ h ps
-linked-but ev n p l l′ same h [] early lacks linked = linked
-linked-but ev n p l l′ same h (q ∷ qs) early lacks linked = (
-  linked .0,
-  rw (same q (early .0 .0) (early .0 .1) (lacks .0))
-      (linked-but ev n p l l′ same (getRow l q 14) qs (early .1) (lacks .1) (linked .1)),
-)
+-- earlier rows but that of store p hold what they held behind column 12
+abbrev pub OthersStay : ℕ → ℕ → List ℕ → List ℕ → Type 0
+OthersStay n p l l′ = (q k : ℕ) → 1 ≤ q → q < n → q ≢ p → 13 ≤ k → k < 16 → getRow l′ q k ≡ getRow l q k
+
+-- so does a list of stores that lacks p
+others-kept :
+    (ev : ℕ → Event) (n p : ℕ) (l l′ : List ℕ) → OthersStay n p l l′ → (ps : List ℕ) → Early n ps → Lacks ev p ps
+    → Kept l l′ ps
+others-kept ev n p l l′ same [] early lacks = tt
+others-kept ev n p l l′ same (q ∷ qs) early lacks =
+    let column : (k : ℕ) → 13 ≤ k → k < 16 → getRow l′ q k ≡ getRow l q k =
+    λ k. same q k (early .0 .0) (early .0 .1) (lacks .0)
+    in (
+      (column 13 (omega arith) (omega arith), column 14 (omega arith) (omega arith)),
+      others-kept ev n p l l′ same qs (early .1) (lacks .1),
+    )
 
 -- store p heads the chain of location x, by a commit in stretch j, and the chains are else as they were before event n
 pub record Headed (n p x j : ℕ) (tables tables′ l l′ : List ℕ) : Type 0 where
   pub head-is : getD tables′ (lastCell x) 0 ≡ p
   pub stretch-is : getD tables′ (stretchCell x) 0 ≡ j
   pub link-is : getRow l′ p 14 ≡ getD tables (lastCell x) 0
+  pub commit-is : committedAt l′ p ≡ 16 * (n - 1)
   pub other-heads : (y : ℕ) → y < 256 → x ≢ y → getD tables′ (lastCell y) 0 ≡ getD tables (lastCell y) 0
   pub other-stretches : (y : ℕ) → y < 256 → x ≢ y → getD tables′ (stretchCell y) 0 ≡ getD tables (stretchCell y) 0
-  pub other-links : (q : ℕ) → 1 ≤ q → q < n → q ≢ p → getRow l′ q 14 ≡ getRow l q 14
+  pub other-rows : OthersStay n p l l′
 
 module _ (ev : ℕ → Event) (n : ℕ) (w : World) (sim : Sim ev n w) (passes : refusal ev n ≡ 0)
     (is-commit : Commit ev n) where
@@ -107,23 +114,35 @@ module _ (ev : ℕ → Event) (n : ℕ) (w : World) (sim : Sim ev n w) (passes :
   pub chains-next : (tables′ l′ : List ℕ) → Headed n taken x j tables tables′ l l′ → Chains ev (suc n) tables′ l′
   chains-next tables′ l′ it y small = own-or-other (same? x y)
     where
-      -- the store is in no chain so far, so that its new link is in none of them
-      stays : (z : ℕ) → z < 256 → Linked l′ (getD tables (lastCell z) 0) (landed ev n z)
-      stays z few-z =
-          linked-but ev n taken l l′ (it .other-links) (getD tables (lastCell z) 0) (landed ev n z)
+      -- the store is in no chain so far, so that what its row gets is in none of them
+      kept : (z : ℕ) → Kept l l′ (landed ev n z)
+      kept z =
+          others-kept ev n taken l l′ (it .other-rows) (landed ev n z)
           (landed-early ev n (sim .limits .accepted) n z (omega arith))
-          (landed-once ev (suc n) n accepted (omega arith) is-commit n z (omega arith)) (sim .chains z few-z .links)
+          (landed-once ev (suc n) n accepted (omega arith) is-commit n z (omega arith))
+
+      stays : (z : ℕ) → z < 256 → Linked l′ (getD tables (lastCell z) 0) (landed ev n z)
+      stays z few-z = linked-kept l l′ _ (landed ev n z) (kept z) (sim .chains z few-z .links)
+
+      fall : (z : ℕ) → z < 256 → Falls l′ (16 * (n - 1)) (landed ev n z)
+      fall z few-z = falls-kept l l′ _ (landed ev n z) (kept z) (sim .chains z few-z .falls)
 
       own-or-other : (x ≡ y) ⊎ (x ≢ y) → Chain ev (suc n) y tables′ l′
       own-or-other (inl own) =
           let some = store-not-0 ev (suc n) accepted (omega arith) (taken-store .store) in
           record {
             links = rw (← own, landed-here ev n is-commit, it .head-is) (refl, rw (it .link-is) (stays x x-small));
+            falls =
+                rw (← own, landed-here ev n is-commit, it .commit-is)
+                (omega (arith, sim .limits .begun), fall x x-small);
             stretch-is =
                 rw (← own, it .head-is, it .stretch-is, ne-eqb taken 0 some) (sym (taken-store .in-j));
           }
       own-or-other (inr other) = record {
         links = rw (landed-away ev n y (λ _ same. other same), it .other-heads y small other) (stays y small);
+        falls =
+            rw (landed-away ev n y (λ _ same. other same))
+            (falls-less l′ _ _ (landed ev n y) (omega arith) (fall y small));
         stretch-is =
             rw (it .other-heads y small other, it .other-stretches y small other) (sim .chains y small .stretch-is);
       }
@@ -219,18 +238,35 @@ module _ (ev : ℕ → Event) (n : ℕ) (w : World) (sim : Sim ev n w) (passes :
           head-is = committed-last tables t few (sim .size) p y _ _ (omega arith);
           stretch-is = committed-stretch tables t few (sim .size) p y _ _ (omega arith);
           link-is =
-              put-same (noStore l row) p 14 link
-              (rw (no-store-is row n (sim .numbers .row-is) n-small l (sim .rows .room) .size) (sim .rows .room));
+              put-column linked p 13 row p 14 (omega arith) (omega arith) (λ same. omega arith)
+              ∙ put-same (noStore l row) p 14 link room;
+          commit-is =
+              rw (put-same linked p 13 row (rw (length-put (noStore l row) p 14 link) room))
+              (omega (arith, its-start, sim .numbers .row-is, oldest-is, taken-early));
           other-heads = λ z few-z other.
               beyond (lastCell z) (omega arith) (λ same. other (omega arith)) (λ same. omega arith);
           other-stretches = λ z few-z other.
               beyond (stretchCell z) (omega arith) (λ same. omega arith) (λ same. other (omega arith));
-          other-links = λ q from-one early other.
-              put-row (noStore l row) p 14 link q 14 (omega arith) (omega arith)
-              (rows-apart p q (omega (arith, oldest-is, taken-early, n-small)) from-one
-              (omega (arith, n-small)) (λ same. other (sym same)))
-              ∙ no-store-links row n (sim .numbers .row-is) n-small l q;
+          other-rows = λ q k from-one early other from below.
+              let apart =
+              rows-apart p q (omega (arith, oldest-is, taken-early, n-small)) from-one
+              (omega (arith, n-small)) (λ same. other (sym same))
+              in
+              put-row linked p 13 row q k (omega arith) below apart
+              ∙ put-row (noStore l row) p 14 link q k (omega arith) below apart
+              ∙ no-store-behind row n (sim .numbers .row-is) n-small l q k from below;
         })
+      where
+        linked : List ℕ
+        linked = putRow (noStore l row) (old .oldest) 14 (getD tables (lastCell (oldestPlace tables l t)) 0)
+
+        room : 32768 ≤ length (noStore l row)
+        room = rw (no-store-is row n (sim .numbers .row-is) n-small l (sim .rows .room) .size) (sim .rows .room)
+
+        its-start : rowStart (old .oldest) + 16 ≡ 16 * old .oldest
+        its-start =
+            let some = store-not-0 ev (suc n) accepted (omega arith) (taken-store .store) in
+            start-is (old .oldest) (omega (arith, oldest-is)) (omega (arith, oldest-is, taken-early, n-small))
 
     -- a held load is not the store that takes effect: a locked operation commits its own when it comes
     not-held : (e : ℕ) → e < n → Load ev e → e ≢ taken
@@ -246,9 +282,12 @@ module _ (ev : ℕ → Event) (n : ℕ) (w : World) (sim : Sim ev n w) (passes :
     held-stays : (e k : ℕ) → 1 ≤ e → e < n → Load ev e → k < 16 → getRow l′ e k ≡ getRow l e k
     unfolding committedWork
     held-stays e k from-one early loads low =
-        put-row (noStore l row) (old .oldest) 14 _ e k (omega arith) low
-        (rows-apart (old .oldest) e (omega (arith, oldest-is, taken-early, n-small)) from-one (omega (arith, n-small))
-        (λ same. not-held e early loads (sym same ∙ oldest-is)))
+        let apart =
+        rows-apart (old .oldest) e (omega (arith, oldest-is, taken-early, n-small)) from-one (omega (arith, n-small))
+        (λ same. not-held e early loads (sym same ∙ oldest-is))
+        in
+        put-row _ (old .oldest) 13 row e k (omega arith) low apart
+        ∙ put-row (noStore l row) (old .oldest) 14 _ e k (omega arith) low apart
         ∙ no-store-earlier row n (sim .numbers .row-is) n-small l e k from-one early low
 
     pub commit-next : Sim ev (suc n) (commitW w t)
@@ -260,8 +299,9 @@ module _ (ev : ℕ → Event) (n : ℕ) (w : World) (sim : Sim ev n w) (passes :
         (getRow l (old .oldest) 12) (omega arith)
         in
         let no-store =
-        link-no-store n (old .oldest) (getD tables (lastCell (oldestPlace tables l t)) 0) l (noStore l row)
-        (no-store-is row n (sim .numbers .row-is) n-small l (sim .rows .room))
+        link-no-store n (old .oldest) 13 row l _ (omega arith) (omega arith)
+        (link-no-store n (old .oldest) 14 (getD tables (lastCell (oldestPlace tables l t)) 0) l (noStore l row)
+        (omega arith) (omega arith) (no-store-is row n (sim .numbers .row-is) n-small l (sim .rows .room)))
         in
         let between : Same 384 2752 tables tables′ =
         λ i low high. beyond i (omega arith) (λ same. omega arith) (λ same. omega arith)

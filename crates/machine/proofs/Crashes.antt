@@ -25,7 +25,7 @@ use Rattle.machine.specs.Twin.{State, World, crashed}
 use Rattle.machine.specs.Effects.{finished, crashW}
 use Rattle.machine.specs.Sim.{issued, done, Numbers, Limits, Queue, Queues, Seen, Commits, Sim}
 use Rattle.machine.proofs.TableLaws.{Finished, finished-is, thread-fresh, region-closed}
-use Rattle.machine.proofs.RowLaws.{no-store-is, no-store-links}
+use Rattle.machine.proofs.RowLaws.{no-store-is, no-store-behind}
 use Rattle.machine.proofs.Keep.{limits-next, in-time, newest-keep, sources-keep, chains-keep, rows-keep}
 use Rattle.machine.proofs.Keep.{links-keep}
 use Rattle.machine.proofs.Holding.{region-crash}
@@ -146,7 +146,7 @@ module _ (ev : ℕ → Event) (n : ℕ) (w : World) (sim : Sim ev n w) (passes :
             (λ i low high. beyond i (omega arith) (λ from below. omega arith)) (sim .sources);
         chains =
             chains-keep ev n (w .tables) tables (w .work) _ (sim .limits) (no-commit ev n crash)
-            (λ q _ _. no-store-links (w .state .row) n (sim .numbers .row-is) small (w .work) q)
+            (λ q k _ _. no-store-behind (w .state .row) n (sim .numbers .row-is) small (w .work) q k)
             (λ i low high. beyond i low (λ from below. omega arith))
             (λ i low high. beyond i (omega arith) (λ from below. omega arith)) (sim .chains);
         rows =

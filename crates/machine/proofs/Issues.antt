@@ -39,7 +39,7 @@ use Rattle.machine.specs.Twin.{World}
 use Rattle.machine.specs.Effects.{issuedTables, issuedWork, issueW}
 use Rattle.machine.specs.Sim.{issued, done, Queue, Links, Newest, Sim}
 use Rattle.machine.proofs.TableLaws.{issued-replaced, issued-beyond, issued-newest}
-use Rattle.machine.proofs.RowLaws.{Stored, stored-is, written-links, written-rows, event-is}
+use Rattle.machine.proofs.RowLaws.{Stored, stored-is, written-beside, written-rows, event-is}
 use Rattle.machine.proofs.Keep.{limits-next, in-time, few-own, small-own, numbers-next, spares, counted-up}
 use Rattle.machine.proofs.Keep.{committed-stays, skip-stays, queues-with, seen-keep, commits-keep, sources-keep}
 use Rattle.machine.proofs.Keep.{chains-keep, rows-with}
@@ -324,7 +324,7 @@ module _ (ev : ℕ → Event) (n : ℕ) (w : World) (sim : Sim ev n w) (passes :
               (sim .sources);
           chains =
               chains-keep ev n tables tables′ l _ (sim .limits) no-commit
-              (λ q _ _. written-links row n begins n-small tables t _ few x _ _ l q)
+              (λ q k _ _. written-beside row n begins n-small tables t _ few x _ _ l q k)
               (λ i low high. beyond i low (λ same. omega arith))
               (λ i low high. beyond i (omega arith) (λ same. omega (arith, few, small))) (sim .chains);
           rows = rows-next (λ u. ofThread tables t u) (λ u. seen-next t u few) _ (stored tables l refl refl);

@@ -27,7 +27,8 @@ use Rattle.model.proofs.Unchanged.{count-away, live, live-away, live-here, stor
 use Rattle.model.proofs.ClockSteps.{meets-none}
 use Rattle.model.proofs.Unchanged.{seen-away, landed-away}
 use Rattle.area.specs.Cells.{getRow, up}
-use Rattle.area.specs.Rows.{Linked, StoreRow, SignalRow, Rows}
+use Rattle.area.specs.Rows.{StoreRow, SignalRow, Rows}
+use Rattle.area.proofs.Chains.{Kept, linked-kept, falls-kept, falls-less}
 use Rattle.area.proofs.ReadBack.{up-is}
 use Rattle.machine.specs.declared.threads.Thread.{Thread}
 use Rattle.machine.specs.Tables.{lastCell, sourceCell, commitsCell, newestCell, stretchCell}
@@ -60,15 +61,19 @@ landed-early ev n accepted (suc m) x within =
         let some : committed ev m ≢ 0 = store-not-0 ev n accepted (omega arith) (it .store) in
         rw lands ((omega arith, omega (arith, it .early)), earlier)
 
--- the links spell the same list where those of earlier events are as they were
-linked-same :
-    (n : ℕ) (l l′ : List ℕ) → ((q : ℕ) → 1 ≤ q → q < n → getRow l′ q 14 ≡ getRow l q 14)
-    → (h : ℕ) (ps : List ℕ) → Early n ps → Linked l h ps → Linked l′ h ps
-linked-same n l l′ same h [] early linked = linked
-linked-same n l l′ same h (p ∷ ps) early linked = (
-  linked .0,
-  rw (same p (early .0 .0) (early .0 .1)) (linked-same n l l′ same (getRow l p 14) ps (early .1) (linked .1)),
-)
+-- earlier rows hold what they held behind column 12
+abbrev pub BehindStays : ℕ → List ℕ → List ℕ → Type 0
+BehindStays n l l′ = (q k : ℕ) → 1 ≤ q → q < n → 13 ≤ k → k < 16 → getRow l′ q k ≡ getRow l q k
+
+early-kept : (n : ℕ) (l l′ : List ℕ) → BehindStays n l l′ → (ps : List ℕ) → Early n ps → Kept l l′ ps
+early-kept n l l′ same [] early = tt
+early-kept n l l′ same (p ∷ ps) early =
+    let column : (k : ℕ) → 13 ≤ k → k < 16 → getRow l′ p k ≡ getRow l p k =
+    λ k. same p k (early .0 .0) (early .0 .1)
+    in (
+      (column 13 (omega arith) (omega arith), column 14 (omega arith) (omega arith)),
+      early-kept n l l′ same ps (early .1),
+    )
 
 module _ (ev : ℕ → Event) (n : ℕ) where
   -- ---- limits and numbers
@@ -243,16 +248,19 @@ module _ (ev : ℕ → Event) (n : ℕ) where
     -- an event that is no commit
     pub chains-keep :
         (l l′ : List ℕ) → Limits ev n → commit? ev n ≡ false
-        → ((q : ℕ) → 1 ≤ q → q < n → getRow l′ q 14 ≡ getRow l q 14)
-        → Same 128 384 tables tables′ → Same 2752 3008 tables tables′ → Chains ev n tables l
+        → BehindStays n l l′ → Same 128 384 tables tables′ → Same 2752 3008 tables tables′ → Chains ev n tables l
         → Chains ev (suc n) tables′ l′
-    chains-keep l l′ limits no-commit links heads stretches chains x few =
+    chains-keep l l′ limits no-commit behind heads stretches chains x few =
         let head = heads (lastCell x) (omega arith) (omega arith) in
+        let same-list = landed-away ev n x (λ commits _. false-true (sym no-commit ∙ commits .test)) in
+        let kept =
+        early-kept n l l′ behind (landed ev n x) (landed-early ev n (limits .accepted) n x (omega arith))
+        in
         record {
-          links =
-              rw (landed-away ev n x (λ commits _. false-true (sym no-commit ∙ commits .test)), head)
-              (linked-same n l l′ links (getD tables (lastCell x) 0) (landed ev n x)
-              (landed-early ev n (limits .accepted) n x (omega arith)) (chains x few .links));
+          links = rw (same-list, head) (linked-kept l l′ _ (landed ev n x) kept (chains x few .links));
+          falls =
+              rw same-list
+              (falls-less l′ _ _ (landed ev n x) (omega arith) (falls-kept l l′ _ (landed ev n x) kept (chains x few .falls)));
           stretch-is =
               rw (head, stretches (stretchCell x) (omega arith) (omega arith)) (chains x few .stretch-is);
         }

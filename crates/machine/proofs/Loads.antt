@@ -38,9 +38,10 @@ use Rattle.machine.specs.Effects.{passWith, meetW, heldTables, heldWork,
 use Rattle.machine.specs.Sim.{PastAt, Seen, Sources, InRegion, Regions, Sim}
 use Rattle.machine.proofs.Storing.{Same, set-leaves}
 use Rattle.machine.proofs.TableLaws.{region-same, held-size, held-own, held-leaves}
-use Rattle.machine.proofs.RowLaws.{NoStore, no-store-is, no-store-links, HeldHere, held-here, event-is}
+use Rattle.machine.proofs.RowLaws.{NoStore, no-store-is, no-store-behind, HeldHere, held-here, event-is}
 use Rattle.machine.proofs.RuleLaws.{load-ticks}
-use Rattle.machine.proofs.Keep.{limits-next, in-time, few-own, small-own, spares, queues-keep, past-keep}
+use Rattle.machine.proofs.Keep.{BehindStays, limits-next, in-time, few-own, small-own, spares, queues-keep}
+use Rattle.machine.proofs.Keep.{past-keep}
 use Rattle.machine.proofs.Holding.{RowsStay, held-there, region-keep}
 use Rattle.machine.proofs.Quiet.{Still, still-with, rows-stay}
 use Rattle.machine.proofs.Meeting.{Brought, met, met-regions}
@@ -155,7 +156,7 @@ module _ (ev : ℕ → Event) (n : ℕ) (w : World) (sim : Sim ev n w) (passes :
     pub brought : Brought ev n w tables′
     pub no-store : NoStore n (w .work) l′
     pub rows-stay : RowsStay ev n (sim .limits) (w .work) l′
-    pub links-stay : (q : ℕ) → 1 ≤ q → q < n → getRow l′ q 14 ≡ getRow (w .work) q 14
+    pub behind-stays : BehindStays n (w .work) l′
     pub regions : Regions ev (suc n) tables′ l′
 
   -- where the load is not held, the work area says no more than that it is no store
@@ -167,7 +168,7 @@ module _ (ev : ℕ → Event) (n : ℕ) (w : World) (sim : Sim ev n w) (passes :
     brought = brought;
     no-store = no-store-is row n (sim .numbers .row-is) n-small (w .work) (sim .rows .room);
     rows-stay = rows-stay ev n w sim passes;
-    links-stay = λ q _ _. no-store-links row n (sim .numbers .row-is) n-small (w .work) q;
+    behind-stays = λ q k _ _. no-store-behind row n (sim .numbers .row-is) n-small (w .work) q k;
     regions = λ u few-u.
         rw (same u few-u) (by-test u few-u (test (countable ev n && eqb t u)));
   }
@@ -249,7 +250,7 @@ module _ (ev : ℕ → Event) (n : ℕ) (w : World) (sim : Sim ev n w) (passes :
           (held-leaves notedTables t few noted-size new);
       no-store = here .no-store;
       rows-stay = λ e k from-one early _ low _. here .earlier e k from-one early low;
-      links-stay = λ q from-one early. here .earlier q 14 from-one early (omega arith);
+      behind-stays = λ q k from-one early _. here .earlier q k from-one early;
       regions = λ u few-u. own-or-other u few-u (same? t u);
     }
       where
@@ -382,7 +383,7 @@ module _ (ev : ℕ → Event) (n : ℕ) (w : World) (sim : Sim ev n w) (passes :
       (still-with ev n w sim passes still _ _ (it .size)
       (queues-keep ev n tables _ no-crash (still .no-issue) (still .no-commit) (rw kind-is refl) (rw kind-is refl)
       (it .threads-same) (sim .queues))
-      (it .seen-are) (it .sources) (it .heads-same) (it .rest-same) (loaded .no-store) (loaded .links-stay)
+      (it .seen-are) (it .sources) (it .heads-same) (it .rest-same) (loaded .no-store) (loaded .behind-stays)
       (loaded .regions))
     where
       still : Still ev n

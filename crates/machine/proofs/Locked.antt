@@ -10,7 +10,7 @@ use mathlib.Core.Logic.{_⊎_, inl, inr, _≢_}
 use Prim.Native.Nat.{ℕ, suc, _+_, _*_, _≤_, _<_}
 use native.Mathlib.Omega.{arith}
 use borrow.Author.Tests.{eqb-true, not-false}
-use lib.ListN.{length, getD}
+use lib.ListN.{length, getD, set, length-set}
 use Rattle.record.specs.declared.events.Event.{Event}
 use Rattle.model.specs.Trace.{kind, thread, location, source, issue?, commit?, crash?, skipOn?, skipOff?}
 use Rattle.model.specs.Trace.{Issue, Commit, Load, stretch}
@@ -20,12 +20,12 @@ use Rattle.model.specs.Rules.{refusal, Accepted}
 use Rattle.model.specs.Stores.{landed}
 use Rattle.model.proofs.Searching.{same?}
 use Rattle.model.proofs.Roles.{issue-no-crash}
-use Rattle.model.proofs.Acceptance.{drained-empty}
+use Rattle.model.proofs.Acceptance.{drained-empty, source-early}
 use Rattle.model.proofs.Ranges.{issue-has-thread, issue-has-location}
 use Rattle.model.proofs.StorePlaces.{committed-itself, store-at-none}
 use Rattle.model.proofs.Unchanged.{live-here}
 use Rattle.area.specs.Cells.{getRow, eventAt}
-use Rattle.area.proofs.ReadBack.{set-here, set-column, set-elsewhere}
+use Rattle.area.proofs.ReadBack.{start-is, set-here, set-column, set-elsewhere}
 use Rattle.area.proofs.Chains.{linked-head}
 use Rattle.machine.specs.declared.threads.Thread.{Thread}
 use Rattle.machine.specs.Tables.{lastCell, sourceCell, newestCell, stretchCell}
@@ -37,7 +37,7 @@ use Rattle.machine.proofs.Storing.{Same}
 use Rattle.machine.specs.Regions.{regionOf}
 use Rattle.machine.proofs.TableLaws.{thread-same, Replaced, issued-replaced, issued-beyond, issued-newest}
 use Rattle.machine.proofs.TableLaws.{committed-replaced, committed-beyond, committed-last, committed-stretch}
-use Rattle.machine.proofs.RowLaws.{NoStore, Stored, stored-behind, link-stored, written-links}
+use Rattle.machine.proofs.RowLaws.{NoStore, Stored, stored-behind, link-stored}
 use Rattle.machine.proofs.RowLaws.{written-rows, written-beside, event-is}
 use Rattle.machine.proofs.Keep.{limits-next, in-time, few-own, small-own, numbers-next, spares, counted-up}
 use Rattle.machine.proofs.Keep.{skip-stays, queues-with, commits-keep}
@@ -203,7 +203,7 @@ module _ (ev : ℕ → Event) (n : ℕ) (w : World) (sim : Sim ev n w) (passes :
     -- ---- the row: what the issue writes, behind what the load wrote
 
     abbrev l′ : List ℕ
-    l′ = exchangedWork loadedTables loadedWork row t x (w .state .stretch)
+    l′ = exchangedWork loadedTables loadedWork row t x (source ev n) (w .state .stretch)
 
     no-store : NoStore n l loadedWork
     no-store = after-load .no-store
@@ -215,6 +215,10 @@ module _ (ev : ℕ → Event) (n : ℕ) (w : World) (sim : Sim ev n w) (passes :
     abbrev written : List ℕ
     written = issuedWork loadedTables loadedWork row t x (w .state .stretch)
 
+    -- and with its source
+    abbrev sourced : List ℕ
+    sourced = set written (row + 13) (source ev n)
+
     written-is :
         Stored n (newest ev n w sim passes store) t (suc (issued ev n t)) x j seen-by loadedWork written
     written-is = stored ev n w sim passes store loadedTables loadedWork same-thread (no-store .size)
@@ -222,12 +226,32 @@ module _ (ev : ℕ → Event) (n : ℕ) (w : World) (sim : Sim ev n w) (passes :
     its-row : Stored n (newest ev n w sim passes store) t (suc (issued ev n t)) x j seen-by l l′
     unfolding exchangedWork
     its-row =
-        link-stored row n begins n-small _ l written (stored-behind l loadedWork written no-store written-is)
+        link-stored row n begins n-small 14 _ l sourced (omega arith) (omega arith)
+        (link-stored row n begins n-small 13 (source ev n) l written (omega arith) (omega arith)
+        (stored-behind l loadedWork written no-store written-is))
 
     -- ---- the chain: the store heads that of its location
 
     written-room : 32768 ≤ length written
     written-room = rw (written-is .size, no-store .size) (sim .rows .room)
+
+    sourced-room : 32768 ≤ length sourced
+    sourced-room = rw (length-set written (row + 13) (source ev n)) written-room
+
+    source-is : getRow l′ n 13 ≡ source ev n
+    unfolding exchangedWork
+    source-is =
+        set-column sourced row n begins n-small 14 _ n 13 (omega arith) (omega arith) (λ same. omega arith)
+        ∙ set-here written row n begins n-small 13 (source ev n) written-room (omega arith)
+
+    -- its source and its link are in its own row
+    own-set : (p k : ℕ) → 1 ≤ p → p < n → k < 16 → getRow l′ p k ≡ getRow written p k
+    unfolding exchangedWork
+    own-set p k from-one early low =
+        set-elsewhere sourced row n begins n-small 14 (getD withStore (lastCell x) 0) p k (omega arith) low from-one
+        (omega arith) (λ same. omega arith)
+        ∙ set-elsewhere written row n begins n-small 13 (source ev n) p k (omega arith) low from-one
+        (omega arith) (λ same. omega arith)
 
     headed : Headed n n x j tables tables′ l l′
     unfolding exchangedTables exchangedWork issuedWork
@@ -237,10 +261,18 @@ module _ (ev : ℕ → Event) (n : ℕ) (w : World) (sim : Sim ev n w) (passes :
           committed-stretch withStore t few store-size (eventAt row) x (w .state .stretch) 0 small
           ∙ sim .numbers .stretch-is;
       link-is =
-          set-here written row n begins n-small 14 (getD withStore (lastCell x) 0) written-room (omega arith)
+          set-here sourced row n begins n-small 14 (getD withStore (lastCell x) 0) sourced-room (omega arith)
           ∙ (issued-beyond loadedTables t few (its-load .size) row x small (lastCell x) (omega arith)
           (λ same. omega (arith, small))
           ∙ its-load .heads-same (lastCell x) (omega arith) (omega (arith, small)));
+      commit-is =
+          rw source-is
+          (omega (
+            arith,
+            source-early ev (suc n) accepted n (omega arith) loads,
+            start-is n (omega (arith, sim .limits .begun)) n-small,
+            sim .limits .begun,
+          ));
       other-heads = λ y few-y other.
           beyond (lastCell y) (omega arith) (λ same. omega arith) (λ same. other (omega arith)) (λ same. omega arith)
           ∙ its-load .heads-same (lastCell y) (omega arith) (omega arith);
@@ -248,11 +280,10 @@ module _ (ev : ℕ → Event) (n : ℕ) (w : World) (sim : Sim ev n w) (passes :
           beyond (stretchCell y) (omega arith) (λ same. omega (arith, small, few)) (λ same. omega (arith, small))
           (λ same. other (omega arith))
           ∙ its-load .rest-same (stretchCell y) (omega arith) (omega arith);
-      other-links = λ q from-one early other.
-          set-elsewhere written row n begins n-small 14 (getD withStore (lastCell x) 0) q 14 (omega arith) (omega arith)
-          from-one (omega arith) (λ same. omega arith)
-          ∙ (written-links row n begins n-small loadedTables t _ few x _ _ loadedWork q
-          ∙ after-load .links-stay q from-one early);
+      other-rows = λ q k from-one early other from below.
+          own-set q k from-one early below
+          ∙ (written-beside row n begins n-small loadedTables t _ few x _ _ loadedWork q k from below
+          ∙ after-load .behind-stays q k from-one early from below);
     }
 
     -- ---- the regions, which are as its load left them
@@ -265,26 +296,26 @@ module _ (ev : ℕ → Event) (n : ℕ) (w : World) (sim : Sim ev n w) (passes :
     row-stays : (p k : ℕ) → 1 ≤ p → p < n → k < 16 → k ≢ 12 → getRow l′ p k ≡ getRow loadedWork p k
     unfolding exchangedWork issuedWork
     row-stays p k from-one early low other =
-        set-elsewhere written row n begins n-small 14 (getD withStore (lastCell x) 0) p k (omega arith) low from-one
-        (omega arith) (λ same. omega arith)
+        own-set p k from-one early low
         ∙ written-rows row n begins n-small loadedTables t _ few x _ _ loadedWork p k from-one early low other
 
-    own-column : (k : ℕ) → 13 ≤ k → k < 16 → k ≢ 14 → getRow l′ n k ≡ getRow loadedWork n k
+    held-before : getRow l′ n 15 ≡ getRow loadedWork n 15
     unfolding exchangedWork issuedWork
-    own-column k from below other =
-        set-column written row n begins n-small 14 (getD withStore (lastCell x) 0) n k (omega arith) below
-        (λ same. other (sym same))
-        ∙ written-beside row n begins n-small loadedTables t _ few x _ _ loadedWork n k from below
+    held-before =
+        set-column sourced row n begins n-small 14 (getD withStore (lastCell x) 0) n 15 (omega arith) (omega arith)
+        (λ same. omega arith)
+        ∙ set-column written row n begins n-small 13 (source ev n) n 15 (omega arith) (omega arith) (λ same. omega arith)
+        ∙ written-beside row n begins n-small loadedTables t _ few x _ _ loadedWork n 15 (omega arith) (omega arith)
 
     own-stays : StillHeld ev loadedWork l′ n
     own-stays = (
       λ row. record {
         some-load = row .some-load;
         location-is = its-row .location-is;
-        source-is = own-column 13 (omega arith) (omega arith) (λ same. omega arith) ∙ row .source-is;
+        source-is = source-is;
         head-is = headed .link-is ∙ linked-head l _ (landed ev n x) (sim .chains x small .links);
       },
-      own-column 15 (omega arith) (omega arith) (λ same. omega arith),
+      held-before,
     )
 
     regions-next : Regions ev (suc n) tables′ l′

@@ -27,10 +27,10 @@ use Rattle.machine.specs.Effects.{passWith, passW, skipW, openW, closeW}
 use Rattle.machine.specs.Sim.{Queues, Seen, Sources, InRegion, Regions, Sim}
 use Rattle.machine.proofs.Storing.{Same}
 use Rattle.machine.proofs.TableLaws.{skip-replaced, skip-beyond, reopened, region-same}
-use Rattle.machine.proofs.RowLaws.{NoStore, no-store-is, no-store-earlier, no-store-links}
+use Rattle.machine.proofs.RowLaws.{NoStore, no-store-is, no-store-earlier, no-store-behind}
 use Rattle.machine.proofs.Keep.{limits-next, in-time, few-own, numbers-next, spares, queue-skip, queues-keep}
 use Rattle.machine.proofs.Keep.{seen-keep, newest-keep, commits-keep, sources-keep, chains-keep, rows-keep}
-use Rattle.machine.proofs.Keep.{links-keep, queue-keep, queues-with}
+use Rattle.machine.proofs.Keep.{BehindStays, links-keep, queue-keep, queues-with}
 use Rattle.machine.proofs.Holding.{RowsStay, regions-keep, regions-with}
 
 module _ (ev : ℕ → Event) (n : ℕ) where
@@ -47,9 +47,9 @@ module _ (ev : ℕ → Event) (n : ℕ) (w : World) (sim : Sim ev n w) (passes :
   pub still-with :
       Still ev n → (tables l′ : List ℕ) → length tables ≡ 3008 → Queues ev (suc n) tables → Seen ev (suc n) tables
       → Sources ev (suc n) tables → Same 128 384 (w .tables) tables → Same 640 3008 (w .tables) tables
-      → NoStore n (w .work) l′ → ((q : ℕ) → 1 ≤ q → q < n → getRow l′ q 14 ≡ getRow (w .work) q 14)
+      → NoStore n (w .work) l′ → BehindStays n (w .work) l′
       → Regions ev (suc n) tables l′ → Sim ev (suc n) (world (ticked (w .state)) tables l′)
-  still-with still tables l′ size queues seen-are sources last-same rest-same no-store links regions = record {
+  still-with still tables l′ size queues seen-are sources last-same rest-same no-store behind regions = record {
     numbers = numbers-next ev n (w .state) (sim .numbers) (still .no-crash);
     limits = limits-next ev n (sim .limits) passes;
     size = size;
@@ -63,7 +63,7 @@ module _ (ev : ℕ → Event) (n : ℕ) (w : World) (sim : Sim ev n w) (passes :
         (λ i low high. rest-same i low (omega arith)) (sim .commits-are);
     sources = sources;
     chains =
-        chains-keep ev n (w .tables) tables (w .work) l′ (sim .limits) (still .no-commit) links last-same
+        chains-keep ev n (w .tables) tables (w .work) l′ (sim .limits) (still .no-commit) behind last-same
         (λ i low high. rest-same i (omega arith) high) (sim .chains);
     rows =
         rows-keep ev n (w .work) l′ (sim .limits) (still .no-issue) (still .no-signal) no-store (sim .rows);
@@ -83,7 +83,7 @@ module _ (ev : ℕ → Event) (n : ℕ) (w : World) (sim : Sim ev n w) (passes :
   still-next still tables size queues seen-are sources last-same rest-same =
       still-with still tables _ size queues seen-are sources last-same rest-same
       (no-store-is (w .state .row) n (sim .numbers .row-is) small (w .work) (sim .rows .room))
-      (λ q _ _. no-store-links (w .state .row) n (sim .numbers .row-is) small (w .work) q)
+      (λ q k _ _. no-store-behind (w .state .row) n (sim .numbers .row-is) small (w .work) q k)
 
   -- so the rows of held loads stay
   pub rows-stay : RowsStay ev n (sim .limits) (w .work) (noStore (w .work) (w .state .row))

@@ -28,13 +28,14 @@ pub record NoStore (n : ℕ) (l l′ : List ℕ) : Type 0 where
   pub earlier : (p k : ℕ) → 1 ≤ p → p < n → k < 13 → getRow l′ p k ≡ getRow l p k
 
 -- a store into a chain's link adds nothing to that
-pub link-no-store : (n p v : ℕ) (l l′ : List ℕ) → NoStore n l l′ → NoStore n l (putRow l′ p 14 v)
-link-no-store n p v l l′ it = record {
-  size = length-put l′ p 14 v ∙ it .size;
-  none = put-column l′ p 14 v n 10 (omega arith) (omega arith) (λ same. omega arith) ∙ it .none;
-  no-signal = put-column l′ p 14 v n 11 (omega arith) (omega arith) (λ same. omega arith) ∙ it .no-signal;
+pub link-no-store :
+    (n p c v : ℕ) (l l′ : List ℕ) → 13 ≤ c → c < 16 → NoStore n l l′ → NoStore n l (putRow l′ p c v)
+link-no-store n p c v l l′ from below it = record {
+  size = length-put l′ p c v ∙ it .size;
+  none = put-column l′ p c v n 10 below (omega arith) (λ same. omega arith) ∙ it .none;
+  no-signal = put-column l′ p c v n 11 below (omega arith) (λ same. omega arith) ∙ it .no-signal;
   earlier = λ q k from-one early low.
-      put-column l′ p 14 v q k (omega arith) (omega arith) (λ same. omega arith) ∙ it .earlier q k from-one early low;
+      put-column l′ p c v q k below (omega arith) (λ same. omega arith) ∙ it .earlier q k from-one early low;
 }
 
 -- event n is a store: c is the count of its thread t, x its location, j its stretch. It is linked from store g, if
@@ -58,7 +59,6 @@ pub record Signalled (n t c j : ℕ) (seen-by : ℕ → ℕ) (l l′ : List ℕ)
   pub no-store : getRow l′ n 10 ≡ 0
   pub stretch-is : getRow l′ n 11 ≡ j
   pub earlier : (p k : ℕ) → 1 ≤ p → p < n → getRow l′ p k ≡ getRow l p k
-  pub links-stay : (p : ℕ) → getRow l′ p 14 ≡ getRow l p 14
 
 -- it is, also seen from where it was no store yet
 pub stored-behind :
@@ -82,10 +82,10 @@ stored-behind l l₁ l′ none it = record {
 module _ (row n : ℕ) (begins : row + 16 ≡ 16 * n) (to-last : n ≤ 2048) where
   -- a link in its own row adds nothing to that
   pub link-stored :
-      {g t c x j : ℕ} {seen-by : ℕ → ℕ} (v : ℕ) (l l′ : List ℕ) → Stored n g t c x j seen-by l l′
-      → Stored n g t c x j seen-by l (set l′ (row + 14) v)
-  link-stored v l l′ it = record {
-    size = length-set l′ (row + 14) v ∙ it .size;
+      {g t c x j : ℕ} {seen-by : ℕ → ℕ} (b v : ℕ) (l l′ : List ℕ) → 13 ≤ b → b < 16 → Stored n g t c x j seen-by l l′
+      → Stored n g t c x j seen-by l (set l′ (row + b) v)
+  link-stored b v l l′ from below it = record {
+    size = length-set l′ (row + b) v ∙ it .size;
     clock-is = λ u low. column n u (omega arith) ∙ it .clock-is u low;
     thread-is = column n 8 (omega arith) ∙ it .thread-is;
     location-is = column n 9 (omega arith) ∙ it .location-is;
@@ -97,8 +97,8 @@ module _ (row n : ℕ) (begins : row + 16 ≡ 16 * n) (to-last : n ≤ 2048) whe
     earlier = λ p k from-one early low. column p k (omega arith) ∙ it .earlier p k from-one early low;
   }
     where
-      column : (p k : ℕ) → k < 14 → getRow (set l′ (row + 14) v) p k ≡ getRow l′ p k
-      column p k low = set-column l′ row n begins to-last 14 v p k (omega arith) (omega arith) (λ same. omega arith)
+      column : (p k : ℕ) → k < 13 → getRow (set l′ (row + b) v) p k ≡ getRow l′ p k
+      column p k low = set-column l′ row n begins to-last b v p k below (omega arith) (λ same. omega arith)
 
   -- ---- an event that is no store
 
@@ -131,10 +131,10 @@ module _ (row n : ℕ) (begins : row + 16 ≡ 16 * n) (to-last : n ≤ 2048) whe
       ∙ set-elsewhere l row n begins to-last 10 0 p k (omega arith) low from-one (omega arith) (λ same. omega arith)
 
   -- the links of chains are in another column
-  pub no-store-links : (l : List ℕ) (p : ℕ) → getRow (noStore l row) p 14 ≡ getRow l p 14
-  no-store-links l p =
-      set-column (set l (row + 10) 0) row n begins to-last 11 0 p 14 (omega arith) (omega arith) (λ same. omega arith)
-      ∙ set-column l row n begins to-last 10 0 p 14 (omega arith) (omega arith) (λ same. omega arith)
+  pub no-store-behind : (l : List ℕ) (p k : ℕ) → 13 ≤ k → k < 16 → getRow (noStore l row) p k ≡ getRow l p k
+  no-store-behind l p k from below =
+      set-column (set l (row + 10) 0) row n begins to-last 11 0 p k (omega arith) below (λ same. omega arith)
+      ∙ set-column l row n begins to-last 10 0 p k (omega arith) below (λ same. omega arith)
 
   -- ---- a load that is held
 
@@ -303,10 +303,6 @@ module _ (row n : ℕ) (begins : row + 16 ≡ 16 * n) (to-last : n ≤ 2048) whe
       signalled-earlier p k from-one early =
           signalled-leaves (rowStart p + k % 16) (λ low high. omega (arith, start-is p from-one (omega arith)))
 
-      signalled-links : (p : ℕ) → getRow signalled p 14 ≡ getRow l p 14
-      unfolding getRow rowStart
-      signalled-links p = signalled-leaves (rowStart p + 14) (λ from below. omega arith)
-
       pub signalled-is : 32768 ≤ length l → Signalled n t c j seen-by l signalled
       signalled-is room = record {
         size = simp (length-set, clock-size l);
@@ -323,7 +319,6 @@ module _ (row n : ℕ) (begins : row + 16 ≡ 16 * n) (to-last : n ≤ 2048) whe
         no-store = at-row signalled 10 (omega arith) ∙ simp (column-after, length-set, clock-room l room);
         stretch-is = at-row signalled 11 (omega arith) ∙ simp (column-after, length-set, clock-room l room);
         earlier = signalled-earlier;
-        links-stay = signalled-links;
       }
 
     -- ---- a store's row
@@ -355,13 +350,6 @@ module _ (row n : ℕ) (begins : row + 16 ≡ 16 * n) (to-last : n ≤ 2048) whe
       unfolding getRow
       written-earlier p k from-one early =
           written-leaves (rowStart p + k % 16) (λ low high. omega (arith, start-is p from-one (omega arith)))
-
-      -- nor the links of chains
-      pub written-links : (p : ℕ) → getRow after p 14 ≡ getRow l p 14
-      unfolding getRow rowStart
-      written-links p =
-          written-leaves (rowStart p + 14) (λ from below. omega arith)
-          ∙ put-column l g 12 (eventAt row) p 14 (omega arith) (omega arith) (λ same. omega arith)
 
       -- nor what stands behind column 12
       pub written-beside : (p k : ℕ) → 13 ≤ k → k < 16 → getRow after p k ≡ getRow l p k

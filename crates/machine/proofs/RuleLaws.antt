@@ -190,7 +190,7 @@ pub locked-passes :
     → (r : Step) (tables₁ l₁ : List ℕ)
     → outcome m row r tables₁ l₁ ≡ memoryO (world (stateOf m row) tables l) t x s → r .refusal ≡ 0
     → (tables₂ l₂ : List ℕ) → tables₂ ≡ exchangedTables tables₁ row t x (m .stretch)
-    → l₂ ≡ exchangedWork tables₁ l₁ row t x (m .stretch)
+    → l₂ ≡ exchangedWork tables₁ l₁ row t x s (m .stretch)
     → outcome m row r tables₂ l₂ ≡ lockedO (world (stateOf m row) tables l) t x s
 unfolding byRule lockedW ticked
 locked-passes m row tables l t x s placed none r tables₁ l₁ is passes-it tables₂ l₂ tables-are l-is =

@@ -136,6 +136,8 @@ module _ (ev : ℕ → Event) (passes : refusal ev 0 ≡ 0) where
             landed-0 x,
           )
           (clear (lastCell x));
+      falls =
+          rw (landed-away ev 0 x (λ commits _. false-true (sym no-commit ∙ commits .test)), landed-0 x) (omega arith);
       stretch-is = rw (clear (lastCell x)) (clear (stretchCell x));
     }
 

@@ -72,8 +72,9 @@ committedTables tables l t j =
 
 unfoldable pub committedWork : List ℕ → List ℕ → ℕ → ℕ → List ℕ
 committedWork tables l row t =
+    let p = threadOf tables t .oldest in
     let link = getD tables (lastCell (oldestPlace tables l t)) 0 in
-    putRow (noStore l row) (threadOf tables t .oldest) 14 link
+    putRow (putRow (noStore l row) p 14 link) p 13 row
 
 unfoldable pub commitW : World → ℕ → World
 commitW w t =
@@ -141,9 +142,10 @@ exchangedTables tables row t x j =
     let issued = issuedTables tables row t x in
     putCommitted (headed issued (eventAt row) x j) t (committedT (threadOf issued t) 0)
 
-unfoldable pub exchangedWork : List ℕ → List ℕ → ℕ → ℕ → ℕ → ℕ → List ℕ
-exchangedWork tables l row t x j =
-    set (issuedWork tables l row t x j) (row + 14) (getD (issuedTables tables row t x) (lastCell x) 0)
+unfoldable pub exchangedWork : List ℕ → List ℕ → ℕ → ℕ → ℕ → ℕ → ℕ → List ℕ
+exchangedWork tables l row t x s j =
+    let with-source = set (issuedWork tables l row t x j) (row + 13) s in
+    set with-source (row + 14) (getD (issuedTables tables row t x) (lastCell x) 0)
 
 -- a locked operation by thread t at location x from s: its load, then its issue and its commit
 unfoldable pub lockedW : World → ℕ → ℕ → ℕ → World
@@ -151,7 +153,7 @@ lockedW w t x s =
     let st = w .state in
     let loaded = loadW w t x s in
     world (ticked st) (exchangedTables (loaded .tables) (st .row) t x (st .stretch))
-    (exchangedWork (loaded .tables) (loaded .work) (st .row) t x (st .stretch))
+    (exchangedWork (loaded .tables) (loaded .work) (st .row) t x s (st .stretch))
 
 -- stretch j is finished: the commits of thread t are noted, and the thread starts afresh
 unfoldable pub finishedThread : List ℕ → ℕ → ℕ → List ℕ

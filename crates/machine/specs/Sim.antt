@@ -17,7 +17,7 @@ use Rattle.model.specs.Choice.{finished}
 use Rattle.model.specs.Clocks.{seen}
 use Rattle.model.specs.Stores.{storeAt, newestAt, landed}
 use Rattle.area.specs.Cells.{getRow}
-use Rattle.area.specs.Rows.{Linked, HeldLinked, Rows}
+use Rattle.area.specs.Rows.{Linked, Falls, HeldLinked, Rows}
 use Rattle.machine.specs.declared.threads.Thread.{Thread}
 use Rattle.machine.specs.Tables.{lastCell, sourceCell, commitsCell, newestCell, stretchCell}
 use Rattle.machine.specs.Threads.{threadOf, ofThread}
@@ -94,9 +94,11 @@ module _ (ev : ℕ → Event) where
 
   -- ---- the tables and the rows
 
-  -- the chain of location x begins with the last store committed there, and the stretch of that commit stands beside it
+  -- the chain of location x begins with the last store committed there, and the stretch of that commit stands beside it;
+  -- its stores were committed one before the other, before event n
   pub record Chain (n x : ℕ) (tables l : List ℕ) : Type 0 where
     pub links : Linked l (getD tables (lastCell x) 0) (landed ev n x)
+    pub falls : Falls l (16 * (n - 1)) (landed ev n x)
     pub stretch-is :
         getD tables (stretchCell x) 0
         ≡ (eqb (getD tables (lastCell x) 0) 0 gives 0 else stretch ev (getD tables (lastCell x) 0))

@@ -40,9 +40,10 @@ fn head(tables: &mut Tables, p: u16, x: u16, j: u16)
     tables[tables::stretch(x)] = j;
 }
 
-// "the oldest waiting store of the thread takes effect": it heads its location's chain, and links to the head so far.
+// "the oldest waiting store of the thread takes effect": it heads its location's chain, links to the head so far, and keeps
+// where the row of this event begins.
 pub(crate) fn commit(tables: &mut Tables, work: &mut [u16], row: usize, t: u16, j: u16)
-    requires { ⌜ (t < 8) × (row + 16 ≤ length (now work)) ⌝ }
+    requires { ⌜ (t < 8) × (row < 32768) × (row + 16 ≤ length (now work)) ⌝ }
     ensures { λ _. ⌜ now (tables .exit) ≡ committedTables (now (tables .entry)) (now (work .entry)) t j ⌝ }
     ensures { λ _. ⌜ now (work .exit) ≡ committedWork (now (tables .entry)) (now (work .entry)) row t ⌝ }
 {
@@ -53,19 +54,29 @@ pub(crate) fn commit(tables: &mut Tables, work: &mut [u16], row: usize, t: u16, 
     let new = old.commit(next);
     area::no_store(work, row);
     area::row_put(work, p, 14, tables[tables::last(x)]);
+    area::row_put(work, p, 13, row as u16);
     head(tables, p, x, j);
     threads::put_committed(tables, t, new);
 }
 
-// A locked operation's store, behind its load: it joins the queue, which is empty, and takes effect. It is this event's
-// own, whose row stays that of a store, so it links itself.
-pub(crate) fn exchange(tables: &mut Tables, work: &mut [u16], row: usize, t: u16, x: u16, j: u16)
+// A locked operation's store, behind its load from s: it joins the queue, which is empty, and takes effect. It is this
+// event's own, whose row stays that of a store, so it links itself; and it keeps its source, held or not.
+pub(crate) fn exchange(
+    tables: &mut Tables,
+    work: &mut [u16],
+    row: usize,
+    t: u16,
+    x: u16,
+    s: u16,
+    j: u16,
+)
     requires { ⌜ (t < 8) × (x < 256) × (row < 32768) × (row + 16 ≤ length (now work)) ⌝ }
     ensures { λ _. ⌜ now (tables .exit) ≡ exchangedTables (now (tables .entry)) row t x j ⌝ }
-    ensures { λ _. ⌜ now (work .exit) ≡ exchangedWork (now (tables .entry)) (now (work .entry)) row t x j ⌝ }
+    ensures { λ _. ⌜ now (work .exit) ≡ exchangedWork (now (tables .entry)) (now (work .entry)) row t x s j ⌝ }
 {
     issue(tables, work, row, t, x, j);
     let own = threads::thread_of(tables, t);
+    work[row + 13] = s;
     work[row + 14] = tables[tables::last(x)];
     head(tables, area::event_at(row), x, j);
     threads::put_committed(tables, t, own.commit(0));

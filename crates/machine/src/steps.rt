@@ -222,7 +222,7 @@ fn locked(
     if r.refusal != 0 {
         return r;
     }
-    effects::exchange(tables, work, row, t, x, m.stretch);
+    effects::exchange(tables, work, row, t, x, s, m.stretch);
     r
 }
 

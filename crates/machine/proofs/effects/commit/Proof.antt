@@ -32,11 +32,19 @@ element-copy-out-row-put c = search needs
 row-put-requires : tie.Need-row-put-requires
 row-put-requires c κs = search needs
 
+cast-row-put : tie.Need-cast-row-put
+cast-row-put c = search needs
+
+row-put-requires-2 : tie.Need-row-put-requires-2
+row-put-requires-2 c κs = search needs
+
 head-requires : tie.Need-head-requires
 head-requires c κs = search needs
 
 put-committed-requires : tie.Need-put-committed-requires
-put-committed-requires c κs = search needs
+put-committed-requires c κs =
+    let entry = c .before .before .before .before .before .before .before .before .before .before .before .before .before .before .before .before .before .before .before .before .before .before .before .before .before in
+    entry .pre .0
 
 same-length : tie.Need-same-length
 same-length c = search needs
@@ -45,13 +53,15 @@ returns : tie.Need-returns
 unfolding committedTables committedWork
 returns c =
     let at-head = c .before .before in
-    let at-row-put = at-head .before .before .before .before in
+    let at-row-put2 = at-head .before .before .before .before in
+    let at-row-put = at-row-put2 .before .before .before .before in
     let at-last = at-row-put .before .before in
     let at-no-store = at-last .before .before .before .before in
     let at-commit = at-no-store .before .before in
     let at-row-get2 = at-commit .before in
     let at-row-get = at-row-get2 .before .before in
-    let at-thread-of = at-row-get .before .before in (
+    let at-thread-of = at-row-get .before .before in
+    (
       rw (
         c .put-committed .ensures,
         at-head .head .ensures,
@@ -61,6 +71,7 @@ returns c =
         at-thread-of .thread-of .ensures,
       ) refl,
       rw (
+        at-row-put2 .row-put2 .ensures,
         at-row-put .row-put .ensures,
         at-last .last .ensures,
         at-no-store .no-store .ensures,
@@ -82,6 +93,8 @@ commit-spec =
     mul-row-put
     element-copy-out-row-put
     row-put-requires
+    cast-row-put
+    row-put-requires-2
     head-requires
     put-committed-requires
     same-length

@@ -51,7 +51,7 @@ commit-requires c κs =
     let at-thread-fits = at-if1 .before in
     let entry = at-thread-fits .before .before in
     let bounds = at-thread-fits .thread-fits .ensures .1 (not-false _ (at-if1 .if1 .left)) in
-    (omega arith, row-inside _ _ _ (entry .pre) (bounds .0))
+    (omega arith, bounds .0, row-inside _ _ _ (entry .pre) (bounds .0))
 
 pass-requires : tie.Need-pass-requires
 pass-requires c κs = search needs
