@@ -2,8 +2,8 @@
 -- a store of F, the marks, in the choice C. If the load makes one, either the walk marks a store that was in the
 -- choice, or a store came into it: then it is of the source's stretch, and a lowest marked place there is below the
 -- cut.
--- In order: `Hit`; the test of one stretch; a load's test.
-use Prim.Native.Nat.{ℕ, suc, _+_, _≤_, _<_}
+-- In order: `Hit`; the test of one stretch, and of all; a load's test.
+use Prim.Native.Nat.{ℕ, zero, suc, _+_, _≤_, _<_}
 use native.Mathlib.Omega.{arith}
 use mathlib.Core.Path.{_≡_, refl, sym, _∙_, ap, ap₂}
 use mathlib.Core.Bool.{Bool, true, _&&_, _||_, not}
@@ -23,11 +23,12 @@ use Rattle.area.specs.Cells.{getRow}
 use Rattle.marks.specs.Marks.{Marks, cutCell, lowCell, countIn}
 use Rattle.marks.specs.Marking.{walked, loaded}
 use Rattle.marks.specs.Testing.{walkHits, hit, hits, loadHits}
+use Rattle.marks.specs.Judged.{pairIn}
 use Rattle.marks.specs.Matching.{PlaceOf, AtMost, Says}
 use Rattle.marks.proofs.Says.{Fit, fits, row}
 use Rattle.marks.proofs.Walking.{Walked}
 use Rattle.marks.proofs.Stepping.{chain, chained, alsoMarks, alsoSees, alsoAsks, Found, source-fits}
-use Rattle.marks.proofs.Stepping.{load-walk, load-says}
+use Rattle.marks.proofs.Stepping.{whole, load-walk, load-says}
 
 module _ (ev : ℕ → Event) where
   -- a store of F is in the choice C
@@ -95,6 +96,29 @@ module _ (ev : ℕ → Event) where
             let same-cut : C (stretch ev p) t ≡ C j t = ap (λ (i : ℕ). C i t) in-j in
             omega (arith, it .at-most, says .cuts j t from-1 to-7 there, inside)
 
+  -- ---- the test of all stretches
+
+  module _
+      (N : ℕ) (accepted : Accepted ev N) (F O : ℕ → Bool) (C : Choice) (over : (p : ℕ) → F p ≡ true → Over ev N p)
+      (m : Marks) (says : Says ev F O C m) where
+    pub pair→ : pairIn (m .counts) ≡ true → Hit F C
+    unfolding pairIn
+    pair→ passes =
+        let (i, there, at-i) = some→ 7 _ passes in
+        hits→ N accepted F O C over m says (suc i) (omega arith) (omega arith) at-i
+
+    pub →pair : Hit F C → pairIn (m .counts) ≡ true
+    unfolding pairIn
+    →pair hit = by-stretch (stretch ev (hit .p)) refl (fits ev N N (hit .p) accepted (omega arith) (over _ (hit .in-f)))
+      where
+        by-stretch :
+            (j : ℕ) → stretch ev (hit .p) ≡ j → Fit ev N (hit .p) → some 7 (λ i. hits (m .counts) (suc i)) ≡ true
+        by-stretch zero is-j fit = absurd (omega (arith, fit .stretch-from-1))
+        by-stretch (suc i) is-j fit =
+            let to-7 : suc i ≤ 7 = omega (arith, fit .stretch-to-7) in
+            →some 7 _ i to-7
+            (→hits N accepted F O C over m says (suc i) (omega arith) to-7 (hit .p) is-j (hit .in-f) (hit .inside))
+
   -- ---- a load's test
 
   module _
@@ -117,10 +141,11 @@ module _ (ev : ℕ → Event) where
     sourceHit = not (eqb s 0) && hits (after .counts) (getRow l s 10)
 
     says-after : Says ev (alsoMarks ev k F) (alsoSees ev k O) (alsoAsks ev k C) after
-    says-after = load-says ev n l k accepted found F O C m says
+    says-after =
+        load-says ev n l k accepted found F O C m says h (chain ev k) (whole ev n l k accepted found) (λ p. refl)
 
     walk : Walked ev O C s (chain ev k) F (walked 2048 l m h s) walkHit
-    walk = load-walk ev n l k accepted found F O C m says
+    walk = load-walk ev n l k accepted found F O C m says h (chain ev k) (whole ev n l k accepted found)
 
     -- the stretch of the source
     source-fit : s ≢ 0 → Fit ev (suc n) s
@@ -128,14 +153,6 @@ module _ (ev : ℕ → Event) where
 
     source-stretch : s ≢ 0 → getRow l s 10 ≡ stretch ev s
     source-stretch some = row ev (suc n) l (found .rows) s (source-fit some) .stretch-is
-
-    -- what was a pair stays one
-    pub hit-stays : Hit F C → Hit (alsoMarks ev k F) (alsoAsks ev k C)
-    hit-stays hit = record {
-      p = hit .p;
-      in-f = or-right (chained ev k (hit .p)) _ (hit .in-f);
-      inside = omega (arith, hit .inside);
-    }
 
     pub load-hits→ : loadHits l m (headOf (chain ev k)) (source ev k) ≡ true → Hit (alsoMarks ev k F) (alsoAsks ev k C)
     unfolding loadHits

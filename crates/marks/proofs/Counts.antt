@@ -1,5 +1,5 @@
 -- What judging a load leaves of the counts: the walk stores below number 128, observing stores in the eight numbers of
--- one stretch's cut, and noting stores in its location's two numbers and at the breaking load's.
+-- one stretch's cut, and noting stores in its location's two numbers.
 use Prim.Native.Nat.{ℕ, zero, suc, _≤_}
 use native.Mathlib.Omega.{arith}
 use mathlib.Core.Path.{_≡_, refl, _∙_}
@@ -11,7 +11,7 @@ use lib.Dec.{eqb}
 use lib.Seq.{getD-set-same, getD-set-other}
 use Rattle.area.specs.Cells.{getRow}
 use Rattle.area.proofs.Joins.{joined-leaves}
-use Rattle.marks.specs.Marks.{Marks, cutCell, lastCell, sourceCell, brokenCell, countIn, brokenIn}
+use Rattle.marks.specs.Marks.{Marks, cutCell, lastCell, sourceCell, countIn}
 use Rattle.marks.specs.Marking.{lowIn, marked, walked, seenFrom, loaded}
 use Rattle.marks.specs.Judged.{noted}
 

@@ -23,7 +23,7 @@ use Rattle.area.proofs.Covering.{covers-is}
 use Rattle.marks.specs.Marks.{Marks, flagIn}
 use Rattle.marks.specs.Testing.{inCut, isForbidden, isObserved, missingIn, observedIn, missingBy, observedBy}
 use Rattle.marks.specs.Matching.{Judging}
-use Rattle.marks.proofs.Says.{Fit, fits, row, in-cut}
+use Rattle.marks.proofs.Says.{Fit, fits, in-cut}
 
 -- searches by tests that agree find the same
 first-from-same :

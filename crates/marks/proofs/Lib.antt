@@ -4,6 +4,7 @@ pub mod Loops
 pub mod Counts
 pub mod Says
 pub mod Walking
+pub mod Segments
 pub mod Stepping
 pub mod Breaking
 pub mod Finding

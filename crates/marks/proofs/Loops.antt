@@ -1,6 +1,7 @@
 -- One turn of each of the code's loops, and the functions that make several calls: laws over plain variables, which the
 -- functions' proofs hand what their calls ensure.
--- In order: marking and the walk; a counted load; the loads that a close counts; the searches; the end.
+-- In order: marking and the walk; a counted load; one that counts as of its own event; the loads that a close counts;
+-- the searches; the end.
 use Prim.Native.Nat.{ℕ, zero, suc, _+_, _-_, _*_, _/_, _≤_, _<_, min}
 use native.Mathlib.Nat.{not-suc-le-zero}
 use native.Mathlib.Numerals.{sub-one, add-one}
@@ -17,7 +18,7 @@ use Rattle.area.specs.Cells.{getRow}
 use Rattle.marks.specs.Marks.{Marks, marksOf, cutCell, lowCell, flagCell, brokenCell, countIn, brokenIn}
 use Rattle.marks.specs.Marking.{forbid, lower, marked, walked, seenFrom, loaded}
 use Rattle.marks.specs.Testing.{markHits, walkHits, hits, loadHits}
-use Rattle.marks.specs.Judged.{repeated, noted, judgedFrom, breaksFrom, allJudged, allBreak, judged}
+use Rattle.marks.specs.Judged.{repeated, noted, judged, startOf, deepestOf, heldAt, allHeld, pairIn, judgedHeld}
 use Rattle.marks.specs.Ending.{leastAt, copied}
 
 -- ---- marking and the walk
@@ -80,89 +81,124 @@ module _ (l : List ℕ) (stop : ℕ) (w : Marks) (b : Bool) where
 
 -- ---- a counted load
 
+-- its marks
+module _ (l : List ℕ) (m : Marks) (h s : ℕ) (m₁ : Marks) (walk-is : m₁ ≡ walked 2048 l m h s) where
+  pub loaded-none : s ≡ 0 → m₁ ≡ loaded l m h s
+  unfolding loaded
+  loaded-none none = rw (eq-eqb s 0 none) walk-is
+
+  pub loaded-from :
+      (m₂ : Marks) (j : ℕ) → (s ≡ 0 → ⊥) → j ≡ getRow l s 10 → m₂ ≡ seenFrom l m₁ s j → m₂ ≡ loaded l m h s
+  unfolding loaded
+  loaded-from m₂ j store j-is see-is = rw (see-is, j-is, walk-is, ne-eqb s 0 store) refl
+
+-- and its test
 module _
     (l : List ℕ) (m : Marks) (h s : ℕ) (m₁ : Marks) (walks : Bool)
     (walks-is : walks ≡ walkHits 2048 l (m .counts) h s) (walk-is : m₁ ≡ walked 2048 l m h s) where
   pub load-none : s ≡ 0 → (walks ≡ loadHits l m h s) × (m₁ ≡ loaded l m h s)
-  unfolding loadHits loaded
-  load-none none = rw (eq-eqb s 0 none) (walks-is ∙ sym (or-false _), walk-is)
+  unfolding loadHits
+  load-none none = (rw (eq-eqb s 0 none) (walks-is ∙ sym (or-false _)), loaded-none l m h s m₁ walk-is none)
 
   pub load-from :
       (m₂ : Marks) (j : ℕ) (source any : Bool)
       → (s ≡ 0 → ⊥) → j ≡ getRow l s 10 → m₂ ≡ seenFrom l m₁ s j → source ≡ hits (m₂ .counts) j
       → any ≡ (walks || source) → (any ≡ loadHits l m h s) × (m₂ ≡ loaded l m h s)
-  unfolding loadHits loaded
+  unfolding loadHits
   load-from m₂ j source any store j-is see-is source-is any-is =
-      rw (any-is, source-is, see-is, j-is, walk-is, walks-is, ne-eqb s 0 store) (refl, refl)
+      let load-is = loaded-from l m h s m₁ walk-is m₂ j store j-is see-is in
+      (rw (any-is, source-is, walks-is, load-is, j-is, ne-eqb s 0 store) refl, load-is)
 
--- ---- the loads that count as of an event
+-- ---- a load that counts as of its own event
 
-module _ (l : List ℕ) (m : Marks) (h x s : ℕ) (again : Bool) (again-is : again ≡ repeated (m .counts) h x s) where
-  pub one-again : again ≡ true → (false ≡ breaksFrom l m h x s) × (m ≡ judgedFrom l m h x s)
-  one-again repeats = rw (← again-is, repeats) (refl, refl)
-
-  pub one-new :
-      (m₁ : Marks) (counts : List ℕ) (breaks : Bool)
-      → again ≡ false → (breaks ≡ loadHits l m h s) × (m₁ ≡ loaded l m h s) → counts ≡ noted (m₁ .counts) h x s
-      → (breaks ≡ breaksFrom l m h x s) × (marksOf counts (m₁ .flags) ≡ judgedFrom l m h x s)
-  one-new m₁ counts breaks new (breaks-is, load-is) note-is =
-      rw (← again-is, new, note-is, breaks-is, load-is) (refl, refl)
-
--- The loop in rows l that leaves the marks w and answers b: after some turns n are left, the marks are m, the load of
--- location x from s with the head h is next and those from k on behind it, and `hit` says what it has found.
-module _ (l : List ℕ) (w : Marks) (b : Bool) where
-  abbrev pub Due : ℕ → Marks → ℕ → ℕ → ℕ → ℕ → Bool → Type 0
-  Due n m h x s k hit = (allJudged n l m h x s k ≡ w) × ((hit || allBreak n l m h x s k) ≡ b)
-
-  pub all-out :
-      (n : ℕ) (m : Marks) (h x s k : ℕ) (hit : Bool) → Due n m h x s k hit → n ≡ 0 → (hit ≡ b) × (m ≡ w)
-  unfolding allJudged allBreak
-  all-out n m h x s k hit (judged-is, hit-is) none =
-      (sym (or-false hit) ∙ rw none at hit-is, rw none at judged-is)
-
-  -- it was the last one
-  pub all-end :
-      (n : ℕ) (m : Marks) (h x s k : ℕ) (hit : Bool) (m₁ : Marks) (here found : Bool) → Due n m h x s k hit → 0 < n
-      → (here ≡ breaksFrom l m h x s) × (m₁ ≡ judgedFrom l m h x s) → found ≡ (hit || here) → k ≡ 0
-      → (found ≡ b) × (m₁ ≡ w)
-  unfolding allJudged allBreak
-  all-end zero m h x s k hit m₁ here found due some one found-is last = absurd (not-suc-le-zero some)
-  all-end (suc n) m h x s k hit m₁ here found (judged-is, hit-is) some (here-is, one-is) found-is last =
-      (found-is ∙ rw here-is (rw (eq-eqb k 0 last) at hit-is), one-is ∙ rw (eq-eqb k 0 last) at judged-is)
-
-  -- others follow
-  pub all-more :
-      (n : ℕ) (m : Marks) (h x s k : ℕ) (hit : Bool) (m₁ : Marks) (here found : Bool) (h₁ x₁ s₁ k₁ : ℕ)
-      → Due n m h x s k hit → 0 < n → (here ≡ breaksFrom l m h x s) × (m₁ ≡ judgedFrom l m h x s)
-      → found ≡ (hit || here) → (k ≡ 0 → ⊥) → h₁ ≡ getRow l k 14 → x₁ ≡ getRow l k 9 → s₁ ≡ getRow l k 13
-      → k₁ ≡ getRow l k 15 → Due (n - 1) m₁ h₁ x₁ s₁ k₁ found
-  unfolding allJudged allBreak
-  all-more zero m h x s k hit m₁ here found h₁ x₁ s₁ k₁ due some one found-is load h-is x-is s-is k-is =
-      absurd (not-suc-le-zero some)
-  all-more (suc n) m h x s k hit m₁ here found h₁ x₁ s₁ k₁ (judged-is, hit-is) some (here-is, one-is) found-is load h-is
-      x-is s-is k-is =
-      rw (found-is, here-is, one-is, h-is, x-is, s-is, k-is, sub-one) (
-        rw (ne-eqb k 0 load) at judged-is,
-        or-assoc hit (breaksFrom l m h x s) _ ∙ rw (ne-eqb k 0 load) at hit-is,
-      )
-
-module _ (l : List ℕ) (m : Marks) (h x s k e : ℕ) where
-  pub judged-behind : (brokenIn (m .counts) ≡ 0 → ⊥) → m ≡ judged l m h x s k e
+module _
+    (l : List ℕ) (m : Marks) (h x s e : ℕ) (again : Bool) (again-is : again ≡ repeated (m .counts) h x s) where
+  pub judged-again : again ≡ true → m ≡ judged l m h x s e
   unfolding judged
-  judged-behind broken = rw (ne-eqb (brokenIn (m .counts)) 0 broken)
+  judged-again repeats = rw (← again-is, repeats)
+
+  module _ (new : again ≡ false) where
+    pub judged-behind : (brokenIn (m .counts) ≡ 0 → ⊥) → m ≡ judged l m h x s e
+    unfolding judged
+    judged-behind broken = rw (← again-is, new, ne-eqb (brokenIn (m .counts)) 0 broken)
+
+    module _
+        (unbroken : brokenIn (m .counts) ≡ 0) (m₁ : Marks) (breaks : Bool) (counts : List ℕ)
+        (loads : (breaks ≡ loadHits l m h s) × (m₁ ≡ loaded l m h s)) (notes : counts ≡ noted (m₁ .counts) h x s) where
+      pub judged-breaks :
+          breaks ≡ true → (e' : ℕ) → e' ≡ e → marksOf (set counts brokenCell e') (m₁ .flags) ≡ judged l m h x s e
+      unfolding judged
+      judged-breaks passes e' e-is =
+          rw (
+            ← again-is,
+            new,
+            eq-eqb (brokenIn (m .counts)) 0 unbroken,
+            ← (loads .0),
+            passes,
+            e-is,
+            notes,
+            loads .1,
+          ) refl
+
+      pub judged-holds : breaks ≡ false → marksOf counts (m₁ .flags) ≡ judged l m h x s e
+      unfolding judged
+      judged-holds holds =
+          rw (← again-is, new, eq-eqb (brokenIn (m .counts)) 0 unbroken, ← (loads .0), holds, notes, loads .1) refl
+
+-- ---- the loads that a close counts
+
+module _
+    (l : List ℕ) (m : Marks) (k h x s : ℕ) (again : Bool) (h-is : h ≡ getRow l k 14) (x-is : x ≡ getRow l k 9)
+    (s-is : s ≡ getRow l k 13) (again-is : again ≡ repeated (m .counts) h x s) where
+  pub held-again : again ≡ true → m ≡ heldAt l m k
+  held-again repeats = rw (← h-is, ← x-is, ← s-is, ← again-is, repeats)
+
+  pub held-new :
+      (m₁ : Marks) (first back : ℕ) (counts : List ℕ)
+      → again ≡ false → first ≡ startOf l (m .counts) h x s → back ≡ deepestOf l (m .counts) h x s
+      → m₁ ≡ loaded l m first s → counts ≡ noted (m₁ .counts) h x back → marksOf counts (m₁ .flags) ≡ heldAt l m k
+  held-new m₁ first back counts new first-is back-is load-is note-is =
+      rw (← h-is, ← x-is, ← s-is, ← again-is, new, note-is, load-is, first-is, back-is) refl
+
+-- The loop in rows l that leaves the marks w: after some turns n are left, the marks are m, and the loads from k on are
+-- next.
+module _ (l : List ℕ) (w : Marks) where
+  abbrev pub Next : ℕ → Marks → ℕ → Type 0
+  Next n m k = allHeld n l m k ≡ w
+
+  pub all-out : (n : ℕ) (m : Marks) (k : ℕ) → Next n m k → n ≡ 0 → m ≡ w
+  unfolding allHeld
+  all-out n m k next none = rw none at next
+
+  pub all-end : (n : ℕ) (m : Marks) (k : ℕ) → Next n m k → k ≡ 0 → m ≡ w
+  unfolding allHeld
+  all-end zero m k next end = next
+  all-end (suc n) m k next end = rw (eq-eqb k 0 end) at next
+
+  pub all-more :
+      (n : ℕ) (m : Marks) (k : ℕ) (m₁ : Marks) (k₁ : ℕ) → Next n m k → 0 < n → (k ≡ 0 → ⊥) → m₁ ≡ heldAt l m k
+      → k₁ ≡ getRow l k 15 → Next (n - 1) m₁ k₁
+  unfolding allHeld
+  all-more zero m k m₁ k₁ next some load one k-is = absurd (not-suc-le-zero some)
+  all-more (suc n) m k m₁ k₁ next some load one k-is = rw (one, k-is, sub-one) (rw (ne-eqb k 0 load) at next)
+
+module _ (l : List ℕ) (m : Marks) (k e : ℕ) where
+  pub held-behind : (brokenIn (m .counts) ≡ 0 → ⊥) → m ≡ judgedHeld l m k e
+  unfolding judgedHeld
+  held-behind broken = rw (ne-eqb (brokenIn (m .counts)) 0 broken)
 
   module _
-      (m₁ : Marks) (breaks : Bool) (unbroken : brokenIn (m .counts) ≡ 0)
-      (all : (breaks ≡ allBreak 2048 l m h x s k) × (m₁ ≡ allJudged 2048 l m h x s k)) where
-    pub judged-breaks :
-        breaks ≡ true → (e' : ℕ) → e' ≡ e → marksOf (set (m₁ .counts) brokenCell e') (m₁ .flags) ≡ judged l m h x s k e
-    unfolding judged
-    judged-breaks passes e' e-is =
-        rw (eq-eqb (brokenIn (m .counts)) 0 unbroken, ← all .0, passes, ← all .1, e-is) refl
+      (m₁ : Marks) (breaks : Bool) (unbroken : brokenIn (m .counts) ≡ 0) (all : m₁ ≡ allHeld 2048 l m k)
+      (breaks-is : breaks ≡ pairIn (m₁ .counts)) where
+    pub held-breaks :
+        breaks ≡ true → (e' : ℕ) → e' ≡ e → marksOf (set (m₁ .counts) brokenCell e') (m₁ .flags) ≡ judgedHeld l m k e
+    unfolding judgedHeld
+    held-breaks passes e' e-is =
+        rw (eq-eqb (brokenIn (m .counts)) 0 unbroken, ← all, ← breaks-is, passes, e-is) refl
 
-    pub judged-holds : breaks ≡ false → m₁ ≡ judged l m h x s k e
-    unfolding judged
-    judged-holds holds = rw (eq-eqb (brokenIn (m .counts)) 0 unbroken, ← all .0, holds) (all .1)
+    pub held-holds : breaks ≡ false → m₁ ≡ judgedHeld l m k e
+    unfolding judgedHeld
+    held-holds holds = rw (eq-eqb (brokenIn (m .counts)) 0 unbroken, ← all, ← breaks-is, holds) refl
 
 -- ---- the searches
 

@@ -1,11 +1,11 @@
--- The last judged load of each location, in its two numbers: `Loads` says that all it marks and observes is marked (F)
--- and observed (O), so a load that repeats it changes nothing; and noting a load keeps that. A load is noted by the
--- head of the chain that it found, which names the whole chain.
--- In order: the start; what notes nothing; a load that repeats the one noted; the load is noted.
+-- What is noted at each location, in its two numbers: `Loads` says that walks along the chain with that head have come
+-- to that source, so what stands before it is marked (F) and it is observed (O); and noting a load keeps that. The head
+-- of the chain that a load found names the whole chain.
+-- In order: the start; what notes nothing; a load that found the chain of the one noted; the load is noted.
 use Prim.Native.Nat.{ℕ, suc, _≤_, _<_}
 use native.Mathlib.Omega.{arith}
-use mathlib.Core.Path.{_≡_, refl, sym, _∙_}
-use mathlib.Core.Bool.{Bool, true, false}
+use mathlib.Core.Path.{_≡_, sym, _∙_}
+use mathlib.Core.Bool.{Bool, true}
 use mathlib.Core.Logic.{_⊎_, inl, inr, _≢_}
 use mathlib.Core.List.{List}
 use lib.ListN.{length}
@@ -13,18 +13,27 @@ use lib.Dec.{eqb}
 use borrow.Author.Tests.{eqb-true}
 use Rattle.record.specs.declared.events.Event.{Event}
 use Rattle.model.specs.Trace.{location, source}
-use Rattle.model.specs.Stores.{headOf, landed, passed}
+use Rattle.model.specs.Stores.{headOf, passed, landed}
 use Rattle.model.specs.Rules.{Accepted}
 use Rattle.model.specs.Choice.{Choice}
 use Rattle.model.specs.Verdict.{observes?}
-use Rattle.model.proofs.Searching.{false-true, same?, less?, parts, or-left, or-right}
-use Rattle.model.proofs.Closure.{→observes}
+use Rattle.model.proofs.Searching.{false-true, same?, less?, parts, or-right}
 use Rattle.model.proofs.ChainOrder.{same-chain}
 use Rattle.marks.specs.Marks.{Marks, marksOf, cutCell, lowCell, lastCell, sourceCell, countIn}
 use Rattle.marks.specs.Judged.{repeated, noted}
-use Rattle.marks.specs.Matching.{Says, Noted, Loads}
+use Rattle.marks.specs.Matching.{Reached, Says, Noted, Loads}
 use Rattle.marks.proofs.Counts.{noted-leaves, noted-last, noted-source}
 use Rattle.marks.proofs.Stepping.{chain, chained, alsoMarks, alsoSees}
+
+-- walks have come there, with more that is marked and observed
+pub reached-more :
+    {F G O P : ℕ → Bool} {ps : List ℕ} {s : ℕ} → ((p : ℕ) → F p ≡ true → G p ≡ true)
+    → ((q : ℕ) → O q ≡ true → P q ≡ true) → Reached F O ps s → Reached G P ps s
+reached-more {s = s} more-f more-o it = record {
+  marked = λ p passes. more-f p (it .marked p passes);
+  observed = λ some. more-o s (it .observed some);
+  stands = it .stands;
+}
 
 module _ (ev : ℕ → Event) where
   -- where nothing is noted: the empty chain, and no source
@@ -34,8 +43,11 @@ module _ (ev : ℕ → Event) where
     k = 0;
     early = omega arith;
     last-is = empty (lastCell x);
-    marked = λ p passes. false-true passes;
-    observed = λ some. absurd (some (empty (sourceCell x)));
+    reached = record {
+      marked = λ p passes. false-true passes;
+      observed = λ some. absurd (some (empty (sourceCell x)));
+      stands = λ some. absurd (some (empty (sourceCell x)));
+    };
   }
 
   -- ---- what notes nothing
@@ -69,8 +81,7 @@ module _ (ev : ℕ → Event) where
       k = it .k;
       early = omega (arith, it .early);
       last-is = same-last ∙ it .last-is;
-      marked = λ p passes. more-f p (it .marked p (rw same-source at passes));
-      observed = λ some. rw same-source (more-o _ (it .observed (rw same-source at some)));
+      reached = rw same-source (reached-more more-f more-o (it .reached));
     }
 
     pub loads-later :
@@ -94,29 +105,17 @@ module _ (ev : ℕ → Event) where
     abbrev h : ℕ
     h = headOf (chain ev k)
 
-    -- a load that repeats the one noted finds what it forbids marked, and its source observed
-    pub record Again : Type 0 where
-      pub marked : (p : ℕ) → chained ev k p ≡ true → F p ≡ true
-      pub observed : source ev k ≢ 0 → O (source ev k) ≡ true
-
-    pub repeats-noted : repeated (m .counts) (headOf (chain ev k)) (location ev k) (source ev k) ≡ true → Again
-    repeats-noted again = record {
-      marked = λ p passes. it .marked p (rw (same-source, same-list) passes);
-      observed = λ some. rw same-source at (it .observed (rw same-source some));
-    }
+    -- a load that found the chain of the one noted
+    pub noted-reached :
+        eqb (countIn (m .counts) (lastCell (location ev k))) (headOf (chain ev k)) ≡ true
+        → Reached F O (chain ev k) (countIn (m .counts) (sourceCell (location ev k)))
+    noted-reached same = rw same-list at (it .reached)
       where
-        both-hold :
-            (eqb (countIn (m .counts) (lastCell x)) h ≡ true) × (eqb (countIn (m .counts) (sourceCell x)) s ≡ true)
-        both-hold = parts (eqb (countIn (m .counts) (lastCell x)) h) _ again
-
-        same-source : countIn (m .counts) (sourceCell x) ≡ s
-        same-source = eqb-true _ _ (both-hold .1)
-
         it : Noted ev (suc n) x F O (m .counts)
         it = loads x x-there
 
         same-head : headOf (landed ev (it .k) x) ≡ headOf (landed ev k x)
-        same-head = sym (it .last-is) ∙ eqb-true _ _ (both-hold .0)
+        same-head = sym (it .last-is) ∙ eqb-true (countIn (m .counts) (lastCell x)) h same
 
         -- the load noted can have come before it or after it
         same-list : landed ev (it .k) x ≡ landed ev k x
@@ -128,29 +127,30 @@ module _ (ev : ℕ → Event) where
             by-order (inl later) =
                 sym (same-chain ev (suc n) k (it .k) x accepted (omega arith) (it .early) (sym same-head))
 
-    -- the load is noted, among the loads that are judged with it
+    -- and repeats it
+    pub repeats-noted :
+        repeated (m .counts) (headOf (chain ev k)) (location ev k) (source ev k) ≡ true
+        → Reached F O (chain ev k) (source ev k)
+    repeats-noted again =
+        let both-hold = parts (eqb (countIn (m .counts) (lastCell x)) h) _ again in
+        rw (eqb-true (countIn (m .counts) (sourceCell x)) s (both-hold .1)) at (noted-reached (both-hold .0))
+
+    -- the load is noted, among the loads that are judged with it, with a source that walks along its chain have come to
     pub noted-loads :
-        length (m .counts) ≡ 648
+        (back : ℕ) → Reached (alsoMarks ev k F) (alsoSees ev k O) (chain ev k) back → length (m .counts) ≡ 648
         → Loads ev (suc n) (alsoMarks ev k F) (alsoSees ev k O)
-        (marksOf (noted (m .counts) (headOf (chain ev k)) (location ev k) (source ev k)) (m .flags))
-    noted-loads size y there = by-location (same? y x)
+        (marksOf (noted (m .counts) (headOf (chain ev k)) (location ev k) back) (m .flags))
+    noted-loads back reached size y there = by-location (same? y x)
       where
         after : List ℕ
-        after = noted (m .counts) h x s
-
-        source-is : countIn after (sourceCell x) ≡ s
-        source-is = noted-source (m .counts) h x s size
-
-        observes : s ≢ 0 → alsoSees ev k O s ≡ true
-        observes some = or-left _ _ (→observes ev k s (record { from = refl; some-store = some }))
+        after = noted (m .counts) h x back
 
         by-location : (y ≡ x) ⊎ (y ≢ x) → Noted ev (suc n) y (alsoMarks ev k F) (alsoSees ev k O) after
         by-location (inl is-x) = rw is-x (record {
           k = k;
           early = omega arith;
-          last-is = noted-last (m .counts) h x s size;
-          marked = λ p passes. or-left _ _ (rw source-is at passes);
-          observed = λ some. rw source-is (observes (rw source-is at some));
+          last-is = noted-last (m .counts) h x back size;
+          reached = rw (noted-source (m .counts) h x back size) reached;
         })
         by-location (inr differs) =
             noted-there (suc n) (suc n) F (alsoMarks ev k F) O (alsoSees ev k O) (omega arith)
@@ -160,4 +160,4 @@ module _ (ev : ℕ → Event) where
           where
             leaves : (i : ℕ) → i < 640 → i ≢ lastCell x → i ≢ sourceCell x → countIn after i ≡ countIn (m .counts) i
             leaves i below not-last not-source =
-                noted-leaves (m .counts) h x s i not-last not-source
+                noted-leaves (m .counts) h x back i not-last not-source

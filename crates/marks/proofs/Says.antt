@@ -83,14 +83,19 @@ module _ (ev : ℕ → Event) where
 
   -- ---- the same said otherwise
 
+  pub pointwise :
+      (S : (ℕ → Bool) → (ℕ → Bool) → Choice → Type 0) {F G O P : ℕ → Bool} {C D : Choice}
+      → ((p : ℕ) → F p ≡ G p) → ((q : ℕ) → O q ≡ P q) → ((j t : ℕ) → C j t ≡ D j t) → S F O C → S G P D
+  pointwise S {F} {G} {O} {P} {C} {D} same-f same-o same-c it =
+      subst (λ (X : ℕ → Bool). S X P D) (fun-ext same-f)
+      (subst (λ (X : ℕ → Bool). S F X D) (fun-ext same-o)
+      (subst (λ (X : Choice). S F O X) (fun-ext λ j. fun-ext λ t. same-c j t) it))
+
   pub says-same :
       {F G O P : ℕ → Bool} {C D : Choice} {m : Marks}
       → ((p : ℕ) → F p ≡ G p) → ((q : ℕ) → O q ≡ P q) → ((j t : ℕ) → C j t ≡ D j t)
       → Says ev F O C m → Says ev G P D m
-  says-same {F} {G} {O} {P} {C} {D} {m} same-f same-o same-c says =
-      subst (λ (X : ℕ → Bool). Says ev X P D m) (fun-ext same-f)
-      (subst (λ (X : ℕ → Bool). Says ev F X D m) (fun-ext same-o)
-      (subst (λ (X : Choice). Says ev F O X m) (fun-ext λ j. fun-ext λ t. same-c j t) says))
+  says-same {m = m} = pointwise (λ F O C. Says ev F O C m)
 
   -- ---- the lowest place of stretch j and thread t
 

@@ -1,7 +1,8 @@
 -- What the loads that count as of an event do to the marks, one after the other. `Due` says which of them are due yet:
 -- with what these forbid, observe and ask for, the marks say what the definitions say of one event more. So where none
 -- is due the marks are the next event's, and an event as of which no load counts has none due from the start.
--- In order: `Due`, its start, its step and its end; the chain that a load found; what a load does, `load-says`.
+-- In order: `Due`, its start, its step and its end; the chain that a load found; what a load does that walks it, or the
+-- part of it that is not marked yet, `load-says`.
 use Prim.Native.Nat.{ℕ, zero, suc, _≤_, _<_, max}
 use native.Mathlib.Omega.{arith}
 use mathlib.Core.Path.{_≡_, refl, sym, _∙_}
@@ -9,20 +10,23 @@ use mathlib.Core.Bool.{Bool, true, false, cond, _&&_, _||_, not}
 use mathlib.Core.Logic.{_⊎_, inl, inr, _≢_}
 use mathlib.Core.List.{List, [], _∷_}
 use lib.Dec.{eqb}
+use lib.ListN.{length}
 use borrow.Author.Tests.{eqb-true, eq-eqb, ne-eqb}
 use Rattle.record.specs.declared.events.Event.{Event}
-use Rattle.model.specs.Search.{any}
+use Rattle.model.specs.Search.{any, member}
 use Rattle.model.specs.Trace.{location, source, commit?, Commit, stretch}
-use Rattle.model.specs.Machine.{committed, countable, counting}
+use Rattle.model.specs.Machine.{committed, countable, counting, commitOf}
 use Rattle.model.specs.Stores.{headOf, passed, landsAt, landed, marked?}
 use Rattle.model.specs.Rules.{Accepted}
 use Rattle.model.specs.Choice.{Choice}
 use Rattle.model.specs.Clocks.{vc}
 use Rattle.model.specs.Verdict.{observes?, observed?, closure}
-use Rattle.model.proofs.Searching.{test, same?, less?, parts, or-cases, or-right, eqb-same, greatest}
-use Rattle.model.proofs.Acceptance.{prefix, event-bound, countable-source}
+use Rattle.model.proofs.Searching.{false-true, test, same?, less?, both, parts, or-cases, or-left, or-right, eqb-same}
+use Rattle.model.proofs.Searching.{greatest}
+use Rattle.model.proofs.Acceptance.{prefix, event-bound, FromPast, countable-source}
 use Rattle.model.proofs.Counting.{stretch-mono, earlier-stretch}
-use Rattle.model.proofs.Effects.{Effect, effect}
+use Rattle.model.proofs.Committed.{CommitOf, commit-of}
+use Rattle.model.proofs.Effects.{Effect, effect, effect-is, commit-effect}
 use Rattle.model.proofs.Closure.{observes→, observed→, clock-in-closure}
 use Rattle.model.proofs.RulingSteps.{observed-step, raise, closure-step, Over}
 use Rattle.model.proofs.ChainOrder.{landed-length, chain-earlier, event-marks}
@@ -34,6 +38,7 @@ use Rattle.marks.specs.Testing.{walkHits}
 use Rattle.marks.specs.Matching.{Says, Judging}
 use Rattle.marks.proofs.Says.{Fit, fits, says-same, see-says}
 use Rattle.marks.proofs.Walking.{AllFit, regroup, Walked, walk-along}
+use Rattle.marks.proofs.Segments.{from, from-linked, from-length, from-fit}
 
 module _ (ev : ℕ → Event) where
   -- ---- what is due
@@ -136,6 +141,22 @@ module _ (ev : ℕ → Event) where
 
   -- ---- a load that counts as of event n, and the rows l as the event leaves them
 
+  landed-stands :
+      (n d x : ℕ) → d < n → landsAt ev x d ≡ true → member (committed ev d) (landed ev n x) ≡ true
+  unfolding landed any
+  landed-stands zero d x early lands = absurd (omega arith)
+  landed-stands (suc n) d x early lands = by-last (same? d n) (test (landsAt ev x n)) (landed-stands n d x)
+    where
+      by-last :
+          (d ≡ n) ⊎ (d ≢ n) → (landsAt ev x n ≡ true) ⊎ (landsAt ev x n ≡ false)
+          → (d < n → landsAt ev x d ≡ true → member (committed ev d) (landed ev n x) ≡ true)
+          → member (committed ev d) (cond (landsAt ev x n) (committed ev n ∷ landed ev n x) (landed ev n x)) ≡ true
+      by-last (inl is-n) (inr fails) earlier = false-true (sym fails ∙ rw is-n at lands)
+      by-last (inl is-n) (inl also) earlier = rw (also, is-n) (or-left _ _ (eqb-same (committed ev n)))
+      by-last (inr differs) (inl also) earlier =
+          rw also (or-right (eqb (committed ev d) (committed ev n)) _ (earlier (omega arith) lands))
+      by-last (inr differs) (inr fails) earlier = rw fails (earlier (omega arith) lands)
+
   pub record Found (n : ℕ) (l : List ℕ) (k : ℕ) : Type 0 where
     pub not-later : k ≤ n
     pub is-countable : countable ev k ≡ true
@@ -188,31 +209,70 @@ module _ (ev : ℕ → Event) where
                   over = omega (arith, before-k, stretch-mono ev k (suc n) (omega arith));
                 }
 
+    inside : k < suc n
+    inside = omega (arith, found .not-later)
+
     pub source-fits : s ≢ 0 → Fit ev (suc n) s
     source-fits some =
-        let inside : k < suc n = omega (arith, found .not-later) in
         let from = countable-source ev (suc n) accepted k inside (found .is-countable) some in
-        fits ev (suc n) (suc n) s accepted (omega arith)
+        fits ev (suc n) (suc n) s accepted (omega (arith, inside))
         (record {
           store = from .store;
-          early = omega (arith, earlier-stretch ev s k (from .earlier));
-          over = omega (arith, from .earlier, stretch-mono ev k (suc n) (omega arith));
+          early = omega (arith, inside, earlier-stretch ev s k (from .earlier));
+          over = omega (arith, from .earlier, stretch-mono ev k (suc n) (omega (arith, inside)));
         })
+
+    -- it stands in the chain
+    pub source-stands : source ev k ≢ 0 → member (source ev k) (chain k) ≡ true
+    source-stands some = rw is-s at (landed-stands k d (location ev k) (commit .inside) lands)
+      where
+        past : FromPast ev k s
+        past = countable-source ev (suc n) accepted k inside (found .is-countable) some
+
+        d : ℕ
+        d = commitOf ev k s
+
+        commit : CommitOf ev k s d
+        commit = commit-of ev k s (past .committed)
+
+        is-s : committed ev d ≡ s
+        is-s =
+            effect-is ev d s
+            (commit-effect ev (suc n) k d s accepted (omega (arith, inside)) (past .store) commit)
+
+        lands : landsAt ev (location ev k) d ≡ true
+        lands =
+            both (commit? ev d) _ (commit .commits-it .test)
+            (eq-eqb (location ev (committed ev d)) (location ev k) (rw is-s (past .to-it)))
 
     -- ---- what the load does
 
-    module _ (F O : ℕ → Bool) (C : Choice) (m : Marks) (says : Says ev F O C m) where
-      abbrev after-walk : Marks
-      after-walk = walked 2048 l m h s
+    -- the links from `first` on spell stores that have their rows and numbers
+    pub record Segment (first : ℕ) (ps : List ℕ) : Type 0 where
+      pub links : Linked l first ps
+      pub fit : AllFit ev (suc n) ps
+      pub short : length ps ≤ 2048
 
+    pub whole : Segment (headOf (chain k)) (chain k)
+    whole =
+        let short = landed-length ev k (location ev k) in
+        let few = event-bound ev (suc n) accepted k inside in
+        record { links = found .links; fit = all-fit k (omega arith); short = omega arith }
+
+    pub segment : (d : ℕ) → (d ≢ 0 → member d (chain k) ≡ true) → Segment d (from d (chain k))
+    segment d stands = record {
+      links = from-linked l d h (chain k) (whole .links) stands;
+      fit = from-fit d ev (suc n) (chain k) (whole .fit);
+      short = omega (arith, whole .short, from-length d (chain k));
+    }
+
+    module _ (F O : ℕ → Bool) (C : Choice) (m : Marks) (says : Says ev F O C m) where
       pub load-walk :
-          Walked ev O C (source ev k) (chain k) F (walked 2048 l m (headOf (chain k)) (source ev k))
-          (walkHits 2048 l (m .counts) (headOf (chain k)) (source ev k))
-      load-walk =
-          let short = landed-length ev k (location ev k) in
-          let few = event-bound ev (suc n) accepted k (omega (arith, found .not-later)) in
-          walk-along ev O C s (suc n) l (found .rows) (chain k) 2048 m h F (found .links) (all-fit k (omega arith))
-          (omega arith) says
+          (first : ℕ) (ps : List ℕ) → Segment first ps
+          → Walked ev O C (source ev k) ps F (walked 2048 l m first (source ev k))
+          (walkHits 2048 l (m .counts) first (source ev k))
+      load-walk first ps it =
+          walk-along ev O C s (suc n) l (found .rows) ps 2048 m first F (it .links) (it .fit) (it .short) says
 
       sees-none : s ≡ 0 → (q : ℕ) → O q ≡ alsoSees k O q
       unfolding observes?
@@ -241,20 +301,27 @@ module _ (ev : ℕ → Event) where
           by-test true c v = refl
           by-test false c v = omega arith
 
+      -- walked from `first` on, where that marks what the load forbids
       pub load-says :
-          Says ev (alsoMarks k F) (alsoSees k O) (alsoAsks k C) (loaded l m (headOf (chain k)) (source ev k))
+          (first : ℕ) (ps : List ℕ) → Segment first ps
+          → ((p : ℕ) → (passed (source ev k) p ps || F p) ≡ alsoMarks k F p)
+          → Says ev (alsoMarks k F) (alsoSees k O) (alsoAsks k C) (loaded l m first (source ev k))
       unfolding loaded
-      load-says = by-source (same? s 0)
+      load-says first ps it marks = by-source (same? s 0)
         where
+          after-walk : Marks
+          after-walk = walked 2048 l m first s
+
+          says-walked : Says ev (alsoMarks k F) O C after-walk
+          says-walked = says-same ev marks (λ q. refl) (λ j t. refl) (load-walk first ps it .says)
+
           by-source :
               (s ≡ 0) ⊎ (s ≢ 0)
               → Says ev (alsoMarks k F) (alsoSees k O) (alsoAsks k C)
               (cond (eqb s 0) after-walk (seenFrom l after-walk s (getRow l s 10)))
           by-source (inl none) =
-              rw (eq-eqb s 0 none)
-              (says-same ev (λ p. refl) (sees-none none) (asks-none none) (load-walk .says))
+              rw (eq-eqb s 0 none) (says-same ev (λ p. refl) (sees-none none) (asks-none none) says-walked)
           by-source (inr some) =
               rw (ne-eqb s 0 some)
               (says-same ev (λ p. refl) (sees-source some) (asks-source some)
-              (see-says ev (suc n) l (found .rows) s (source-fits some) (alsoMarks k F) O C after-walk
-              (load-walk .says)))
+              (see-says ev (suc n) l (found .rows) s (source-fits some) (alsoMarks k F) O C after-walk says-walked))

@@ -1,19 +1,20 @@
--- Judging the loads that count as of an event: a load of location x from s, whose chain begins with h, and at a close the
--- held loads that the links of column 15 lead to. A load that repeats the last counted one of its location, with no commit
--- there since and with its source, changes nothing, so it does not walk again. Where no load is noted there is 0: a load
--- of a location without commits, from 0, has nothing to mark. All of an event's loads are judged, and only then is it said
--- whether there is a pair. Behind the event that breaks the trace none is judged.
+-- Judging the loads that count as of an event: one load of location x from s, whose chain begins with h; or at a close
+-- the held loads that the links of column 15 lead to. A load that repeats the one noted at its location, with no commit
+-- there since and with its source, changes nothing, so it does not walk again. Where no load is noted there is 0: a
+-- load of a location without commits, from 0, has nothing to mark. Behind the event that breaks the trace none is
+-- judged.
 use Prim.Native.Nat.{ℕ, zero, suc}
-use mathlib.Core.Bool.{Bool, false, cond, _&&_, _||_, not}
+use mathlib.Core.Bool.{Bool, cond, _&&_, _||_, not}
 use mathlib.Core.List.{List}
-use lib.Dec.{eqb}
+use lib.Dec.{eqb, ltb}
 use lib.ListN.{set}
-use Rattle.area.specs.Cells.{getRow}
+use Rattle.model.specs.Search.{some}
+use Rattle.area.specs.Cells.{getRow, committedAt}
 use Rattle.marks.specs.Marks.{Marks, marksOf, lastCell, sourceCell, brokenCell, countIn, brokenIn}
 use Rattle.marks.specs.Marking.{loaded}
-use Rattle.marks.specs.Testing.{loadHits}
+use Rattle.marks.specs.Testing.{hits, loadHits}
 
--- ---- one load
+-- ---- what is noted, and what is recorded
 
 -- the load noted at location x has the last store h and the source s
 abbrev pub repeated : List ℕ → ℕ → ℕ → ℕ → Bool
@@ -23,37 +24,62 @@ repeated counts h x s = eqb (countIn counts (lastCell x)) h && eqb (countIn coun
 unfoldable pub noted : List ℕ → ℕ → ℕ → ℕ → List ℕ
 noted counts h x s = set (set counts (lastCell x) h) (sourceCell x) s
 
--- the marks after it, and whether it makes a pair
-abbrev pub judgedFrom : List ℕ → Marks → ℕ → ℕ → ℕ → Marks
-judgedFrom l m h x s =
-    cond (repeated (m .counts) h x s) m (marksOf (noted (loaded l m h s .counts) h x s) (loaded l m h s .flags))
-
-abbrev pub breaksFrom : List ℕ → Marks → ℕ → ℕ → ℕ → Bool
-breaksFrom l m h x s = not (repeated (m .counts) h x s) && loadHits l m h s
-
--- ---- all loads of an event
-
--- that load, and then the held loads from k on, at most n in all: the row of a held load has the head of its chain, its
--- location, its source and the load held before it
-unfoldable pub allJudged : ℕ → List ℕ → Marks → ℕ → ℕ → ℕ → ℕ → Marks
-allJudged zero l m h x s k = m
-allJudged (suc n) l m h x s k =
-    cond (eqb k 0) (judgedFrom l m h x s)
-    (allJudged n l (judgedFrom l m h x s) (getRow l k 14) (getRow l k 9) (getRow l k 13) (getRow l k 15))
-
-unfoldable pub allBreak : ℕ → List ℕ → Marks → ℕ → ℕ → ℕ → ℕ → Bool
-allBreak zero l m h x s k = false
-allBreak (suc n) l m h x s k =
-    cond (eqb k 0) (breaksFrom l m h x s)
-    (breaksFrom l m h x s
-    || allBreak n l (judgedFrom l m h x s) (getRow l k 14) (getRow l k 9) (getRow l k 13) (getRow l k 15))
+-- the marks after a load from s whose chain is walked from `first` on, and which is noted with the source `back`
+abbrev pub walkedFrom : List ℕ → Marks → ℕ → ℕ → ℕ → ℕ → ℕ → Marks
+walkedFrom l m first h x s back = marksOf (noted (loaded l m first s .counts) h x back) (loaded l m first s .flags)
 
 -- event e is recorded if it breaks the trace
 abbrev pub withBreaking : ℕ → Bool → Marks → Marks
 withBreaking e breaks m = cond breaks (marksOf (set (m .counts) brokenCell e) (m .flags)) m
 
--- the marks after event e
-unfoldable pub judged : List ℕ → Marks → ℕ → ℕ → ℕ → ℕ → ℕ → Marks
-judged l m h x s k e =
+-- ---- a load that counts as of its own event
+
+-- the marks after event e, which is that load: its chain is walked from the head
+unfoldable pub judged : List ℕ → Marks → ℕ → ℕ → ℕ → ℕ → Marks
+judged l m h x s e =
+    cond (repeated (m .counts) h x s) m
+    (cond (eqb (brokenIn (m .counts)) 0) (withBreaking e (loadHits l m h s) (walkedFrom l m h h x s s)) m)
+
+-- ---- the loads that a close counts
+
+-- store s was committed before store d; 0 stands behind all
+abbrev pub olderIn : List ℕ → ℕ → ℕ → Bool
+olderIn l s d = not (eqb d 0) && (eqb s 0 || ltb (committedAt l s) (committedAt l d))
+
+-- where a load's walk starts: at the head, unless the load noted there found the same chain; then at the noted source,
+-- where walks ended so far, if its own source is older; else at its own source, so that nothing is walked
+abbrev pub startOf : List ℕ → List ℕ → ℕ → ℕ → ℕ → ℕ
+startOf l counts h x s =
+    let d = countIn counts (sourceCell x) in
+    cond (eqb (countIn counts (lastCell x)) h) (cond (olderIn l s d) d s) h
+
+-- the source to note: its own; or the noted one, if the load noted there found the same chain and it is not newer
+abbrev pub deepestOf : List ℕ → List ℕ → ℕ → ℕ → ℕ → ℕ
+deepestOf l counts h x s =
+    let d = countIn counts (sourceCell x) in
+    cond (eqb (countIn counts (lastCell x)) h) (cond (olderIn l s d) s d) s
+
+-- the marks after a held load
+abbrev pub heldFrom : List ℕ → Marks → ℕ → ℕ → ℕ → Marks
+heldFrom l m h x s =
+    cond (repeated (m .counts) h x s) m
+    (walkedFrom l m (startOf l (m .counts) h x s) h x s (deepestOf l (m .counts) h x s))
+
+-- the row of held load k has the head of its chain, its location and its source
+abbrev pub heldAt : List ℕ → Marks → ℕ → Marks
+heldAt l m k = heldFrom l m (getRow l k 14) (getRow l k 9) (getRow l k 13)
+
+-- the held loads from k on, at most n: the row of each has the load held before it
+unfoldable pub allHeld : ℕ → List ℕ → Marks → ℕ → Marks
+allHeld zero l m k = m
+allHeld (suc n) l m k = cond (eqb k 0) m (allHeld n l (heldAt l m k) (getRow l k 15))
+
+-- there is a pair: a forbidden store is in the cut, of one of the stretches 1 to 7
+unfoldable pub pairIn : List ℕ → Bool
+pairIn counts = some 7 (λ i. hits counts (suc i))
+
+-- the marks after event e, as of which the held loads from k on count
+unfoldable pub judgedHeld : List ℕ → Marks → ℕ → ℕ → Marks
+judgedHeld l m k e =
     cond (eqb (brokenIn (m .counts)) 0)
-    (withBreaking e (allBreak 2048 l m h x s k) (allJudged 2048 l m h x s k)) m
+    (withBreaking e (pairIn (allHeld 2048 l m k .counts)) (allHeld 2048 l m k)) m

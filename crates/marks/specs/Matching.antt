@@ -7,13 +7,19 @@ use mathlib.Core.Logic.{_≢_}
 use mathlib.Core.List.{List}
 use lib.ListN.{length}
 use Rattle.record.specs.declared.events.Event.{Event}
-use Rattle.model.specs.Search.{bit}
+use Rattle.model.specs.Search.{bit, member}
 use Rattle.model.specs.Trace.{thread, stretch, place}
 use Rattle.model.specs.Rules.{Accepted}
 use Rattle.model.specs.Choice.{Choice}
 use Rattle.model.specs.Verdict.{observed?, bad?, closure}
 use Rattle.model.specs.Stores.{headOf, passed, landed, marked?}
 use Rattle.marks.specs.Marks.{Marks, cutCell, lowCell, lastCell, sourceCell, countIn, flagIn, brokenIn}
+
+-- walks along the stores ps have come to s: those before s are in F, and s, if it is not 0, is one of ps and in O
+pub record Reached (F O : ℕ → Bool) (ps : List ℕ) (s : ℕ) : Type 0 where
+  pub marked : (p : ℕ) → passed s p ps ≡ true → F p ≡ true
+  pub observed : s ≢ 0 → O s ≡ true
+  pub stands : s ≢ 0 → member s ps ≡ true
 
 module _ (ev : ℕ → Event) where
   -- m is one more than the place of a store of F in stretch j and thread t
@@ -47,14 +53,13 @@ module _ (ev : ℕ → Event) where
   abbrev pub Judging : ℕ → Marks → Type 0
   Judging n m = Says (marked? ev n) (observed? ev n) (closure ev n) m
 
-  -- the load noted at location x: the head of the location's chain when k events had been, and a source. What stands in
-  -- that chain before the source is in F, and the source is in O.
+  -- what is noted at location x: the head of the location's chain when k events had been, and a source that walks
+  -- along that chain have come to
   pub record Noted (n x : ℕ) (F O : ℕ → Bool) (counts : List ℕ) : Type 0 where
     pub k : ℕ
     pub early : k ≤ n
     pub last-is : countIn counts (lastCell x) ≡ headOf (landed ev k x)
-    pub marked : (p : ℕ) → passed (countIn counts (sourceCell x)) p (landed ev k x) ≡ true → F p ≡ true
-    pub observed : countIn counts (sourceCell x) ≢ 0 → O (countIn counts (sourceCell x)) ≡ true
+    pub reached : Reached F O (landed ev k x) (countIn counts (sourceCell x))
 
   abbrev pub Loads : ℕ → (ℕ → Bool) → (ℕ → Bool) → Marks → Type 0
   Loads n F O m = (x : ℕ) → x < 256 → Noted n x F O (m .counts)

@@ -5,6 +5,7 @@ mod cells;
 pub mod end;
 pub mod evidence;
 mod flags;
+pub mod held;
 mod hits;
 pub mod judged;
 mod load;

@@ -13,7 +13,7 @@ use crate::hits;
 use crate::walk;
 
 // Store s, of stretch j, becomes observed: its flag, and the cut of its stretch.
-fn see(marks: &mut Marks, flags: &mut Flags, rows: &[u16], s: u16, j: u16)
+pub(crate) fn see(marks: &mut Marks, flags: &mut Flags, rows: &[u16], s: u16, j: u16)
     requires { ⌜ 32768 ≤ length (now rows) ⌝ }
     ensures { λ _. ⌜ (marksOf (now (marks .exit)) (now (flags .exit))
         ≡ seenFrom (now (rows .entry)) (marksOf (now (marks .entry)) (now (flags .entry))) s j) ⌝ }
