@@ -28,21 +28,17 @@ use Rattle.model.proofs.Unchanged.{landed-away, landed-here}
 use Rattle.model.proofs.CountedLoads.{counts-as-of}
 use Rattle.area.specs.Cells.{getRow, eventAt}
 use Rattle.area.specs.Rows.{Linked, HeldLinked}
-use Rattle.area.proofs.Chains.{linked-head, linked-earlier}
+use Rattle.area.proofs.Chains.{linked-head, linked-earlier, falls-earlier}
 use Rattle.machine.specs.Tables.{lastCell, lastIn, heldIn}
 use Rattle.machine.specs.Twin.{World}
 use Rattle.machine.specs.Sim.{some?, Sim}
 use Rattle.machine.proofs.Closing.{last-is}
 use Rattle.marks.specs.Marks.{Marks}
-use Rattle.marks.specs.Judged.{judged}
+use Rattle.marks.specs.Judged.{judged, judgedHeld}
 use Rattle.marks.specs.Matching.{MarksMatch}
-use Rattle.marks.proofs.Stepping.{chain}
-use Rattle.marks.proofs.EachLoad.{judgedAs}
-use Rattle.marks.proofs.HeldLoads.{judged-all}
-use Rattle.marks.proofs.HeldLoads as loads
-use Rattle.marks.proofs.Matched.{match-event, judged-none}
-use Rattle.judge.specs.declared.loads.First.{First}
-use Rattle.judge.specs.Judging.{Stepped, Counting}
+use Rattle.marks.proofs.EachLoad.{Area}
+use Rattle.marks.proofs.Matched.{match-none, match-load, match-held}
+use Rattle.judge.specs.Judging.{Stepped}
 
 module _ (ev : ℕ → Event) (n : ℕ) (w : World) (sim : Sim ev n w) where
   -- the number of the event is the one whose row begins here
@@ -61,14 +57,15 @@ module _
       (load-has-location ev (countable-crosses ev l is-countable .loads))
 
   -- what the step leaves of the chain that a load found: commits add to its front only
-  found : (l : ℕ) → counts ev n l ≡ true → Linked work (headOf (chain ev l)) (chain ev l)
+  pub found : (l : ℕ) → counts ev n l ≡ true → Area ev n work l
   found l here =
       let it = counts-as-of ev n l here in
-      linked-earlier ev work (location ev l) l (suc n) _ (omega (arith, it .not-later))
-      (stepped .chains (location ev l) (located l (it .not-later) (it .is-countable)) .links)
-
-  match-after : (m : Marks) → MarksMatch ev n m → MarksMatch ev (suc n) (judgedAs ev work n (counting ev n) m)
-  match-after = match-event ev n work (stepped .accepted) (λ l here. (stepped .rows, found l here))
+      let chain-then = stepped .chains (location ev l) (located l (it .not-later) (it .is-countable)) in
+      let not-later : l ≤ suc n = omega (arith, it .not-later) in (
+        stepped .rows,
+        linked-earlier ev work (location ev l) l (suc n) _ not-later (chain-then .links),
+        falls-earlier ev work (location ev l) l (suc n) _ not-later (chain-then .falls),
+      )
 
 -- ---- which loads count as of the event
 
@@ -152,71 +149,35 @@ module _
       linked : Linked work (getD tables (lastCell x) 0) (n ∷ landed ev n x)
       linked = rw chain-is at (stepped .chains x x-small .links)
 
--- ---- the first of the loads that count
-
-module _
-    (ev : ℕ → Event) (n k : ℕ) (tables work : List ℕ) (stepped : Stepped ev n k true tables work) (f : Fields)
-    (fields-are : fieldsOf (ev n) ≡ f) where
-  -- the load itself, with the head that it found
-  pub first-itself :
-      k ≢ 16 → (h : ℕ) → h ≡ headOf (landed ev n (f .location))
-      → Counting ev n work (record { head = h; location = f .location; source = f .source; rest = 0 })
-  first-itself load h head-is = record {
-    l = n;
-    ls = [];
-    all = itself-counts ev n (λ is. load (sym (stepped .kind-is) ∙ is)) (stepped .counts-is) .1;
-    head-is = head-is ∙ ap (λ (g : Fields). headOf (landed ev n (g .location))) (sym fields-are);
-    location-is = sym (ap (λ (g : Fields). g .location) fields-are);
-    source-is = sym (ap (λ (g : Fields). g .source) fields-are);
-    others = refl;
-  }
-
-  -- the newest load that the close's thread holds, by its row
-  pub first-held :
-      k ≡ 16 → (e h x s b : ℕ) → e ≡ heldIn tables (f .thread) → h ≡ getRow work e 14 → x ≡ getRow work e 9
-      → s ≡ getRow work e 13 → b ≡ getRow work e 15
-      → Counting ev n work (record { head = h; location = x; source = s; rest = b })
-  first-held is-16 e h x s b e-is h-is x-is s-is b-is =
-      let close : kind ev n ≡ 16 = stepped .kind-is ∙ is-16 in
-      let same = held-count ev n close (stepped .counts-is) in
-      by-list (held ev n (thread ev n)) same (rw same at (stepped .counts-is))
-      (rw (← newest) at (stepped .held-are (rw close refl)))
-    where
-      newest : e ≡ heldIn tables (thread ev n)
-      newest = e-is ∙ ap (λ (g : Fields). heldIn tables (g .thread)) (sym fields-are)
-
-      by-list :
-          (es : List ℕ) → counting ev n ≡ es → some? es ≡ true → HeldLinked ev work e es
-          → Counting ev n work (record { head = h; location = x; source = s; rest = b })
-      by-list [] same some links = false-true some
-      by-list (i ∷ es) same some (is-i, row, links) = record {
-        l = i;
-        ls = es;
-        all = same;
-        head-is = h-is ∙ rw is-i (row .head-is);
-        location-is = x-is ∙ rw is-i (row .location-is);
-        source-is = s-is ∙ rw is-i (row .source-is);
-        others = rw (b-is, is-i) links;
-      }
-
 -- ---- THE MARKS AFTER THE EVENT, by what the code does
 
 module _ (ev : ℕ → Event) (n k : ℕ) (tables work : List ℕ) (m : Marks) (matching : MarksMatch ev n m) where
   pub match-uncounted : Stepped ev n k false tables work → MarksMatch ev (suc n) m
   match-uncounted stepped =
-      rw (none-counts (counting ev n) (stepped .counts-is), judged-none ev work n m) at
-      (match-after ev n k false tables work stepped m matching)
+      match-none ev n m (stepped .accepted) (none-counts (counting ev n) (stepped .counts-is)) matching
 
-  pub match-counted :
-      Stepped ev n k true tables work → (r : First) → Counting ev n work r
-      → (m' : Marks) → m' ≡ judged work m (r .head) (r .location) (r .source) (r .rest) n → MarksMatch ev (suc n) m'
-  match-counted stepped r it m' marks-are =
-      let few = event-bound ev (suc n) (stepped .accepted) n (omega arith) in
-      let first : loads.First ev work (it .l) (it .ls) (r .head) (r .location) (r .source) (r .rest) =
-      record { head-is = it .head-is; location-is = it .location-is; source-is = it .source-is; others = it .others }
-      in
-      rw (marks-are, judged-all ev work (it .l) (it .ls) m (r .head) (r .location) (r .source) (r .rest) n first (short few))
-      (rw (it .all) at (match-after ev n k true tables work stepped m matching))
-    where
-      short : n ≤ 2048 → length (it .l ∷ it .ls) ≤ 2048
-      short few = subst (λ (ls : List ℕ). length ls ≤ 2048) (it .all) (counting-length ev n few)
+  module _ (stepped : Stepped ev n k true tables work) (f : Fields) (fields-are : fieldsOf (ev n) ≡ f) where
+    -- a load, with the head that it found
+    pub match-itself :
+        k ≢ 16 → (h : ℕ) → h ≡ headOf (landed ev n (f .location)) → (m' : Marks)
+        → m' ≡ judged work m h (f .location) (f .source) n → MarksMatch ev (suc n) m'
+    unfolding any
+    match-itself load h head-is m' marks-are =
+        let alone = itself-counts ev n (λ is. load (sym (stepped .kind-is) ∙ is)) (stepped .counts-is) .1 in
+        let here : counts ev n n ≡ true = rw alone (or-true (eqb-same n)) in
+        let (rows, links, _) = found ev n k true tables work stepped n here in
+        rw (marks-are, head-is, ← fields-are)
+        (match-load ev n work (stepped .accepted) alone rows links m matching)
+
+    -- a close, with the newest load that its thread holds
+    pub match-close :
+        k ≡ 16 → (e : ℕ) → e ≡ heldIn tables (f .thread) → (m' : Marks) → m' ≡ judgedHeld work m e n
+        → MarksMatch ev (suc n) m'
+    match-close is-16 e e-is m' marks-are =
+        let close : kind ev n ≡ 16 = stepped .kind-is ∙ is-16 in
+        let few = event-bound ev (suc n) (stepped .accepted) n (omega arith) in
+        let newest : e ≡ heldIn tables (thread ev n) = e-is ∙ ap (λ (g : Fields). heldIn tables (g .thread)) (sym fields-are) in
+        rw marks-are
+        (match-held ev n work (stepped .accepted) (found ev n k true tables work stepped) e
+        (rw (held-count ev n close (stepped .counts-is), newest) (stepped .held-are (rw close refl)))
+        (counting-length ev n few) m matching)

@@ -3,11 +3,10 @@
 use Prim.Native.Nat.{ℕ, suc}
 use mathlib.Core.Path.{_≡_}
 use mathlib.Core.Bool.{Bool, true}
-use mathlib.Core.List.{List, _∷_}
+use mathlib.Core.List.{List}
 use Rattle.record.specs.declared.events.Event.{Event}
-use Rattle.model.specs.Trace.{kind, thread, location, source, close?}
+use Rattle.model.specs.Trace.{kind, thread, close?}
 use Rattle.model.specs.Machine.{held, counting}
-use Rattle.model.specs.Stores.{headOf, landed}
 use Rattle.model.specs.Rules.{Accepted}
 use Rattle.area.specs.Cells.{up}
 use Rattle.area.specs.Rows.{HeldLinked, Rows}
@@ -16,7 +15,6 @@ use Rattle.machine.specs.Sim.{some?, Chains}
 use Rattle.marks.specs.Marks.{Marks}
 use Rattle.marks.specs.Testing.{missingBy, observedBy}
 use Rattle.judge.specs.declared.loads.Evidence.{Evidence}
-use Rattle.judge.specs.declared.loads.First.{First}
 
 -- The machine has taken the step of event n, which passes and has kind k; `counts` says whether loads count as of it.
 -- `tables` and `work` are the machine's tables and the work area then: the chains of the locations, the rows of the
@@ -28,17 +26,6 @@ pub record Stepped (ev : ℕ → Event) (n k : ℕ) (counts : Bool) (tables work
   pub chains : Chains ev (suc n) tables work
   pub rows : Rows ev (suc n) work
   pub held-are : close? ev n ≡ true → HeldLinked ev work (heldIn tables (thread ev n)) (held ev n (thread ev n))
-
--- The loads that count as of event n: first l, which has the head, the location and the source that r says, and then those
--- that the links of the rows lead to from r's rest on.
-pub record Counting (ev : ℕ → Event) (n : ℕ) (work : List ℕ) (r : First) : Type 0 where
-  pub l : ℕ
-  pub ls : List ℕ
-  pub all : counting ev n ≡ l ∷ ls
-  pub head-is : r .head ≡ headOf (landed ev l (location ev l))
-  pub location-is : r .location ≡ location ev l
-  pub source-is : r .source ≡ source ev l
-  pub others : HeldLinked ev work (r .rest) ls
 
 -- the evidence of event `load`, by the rows and the marks as that load or a later event leaves them
 unfoldable pub evidenceAt : List ℕ → Marks → ℕ → Evidence

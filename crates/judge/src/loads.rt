@@ -11,11 +11,12 @@ ghost use Rattle.model.specs.Stores.{headOf, landed};
 ghost use Rattle.area.specs.Cells.{eventAt};
 ghost use Rattle.marks.specs.Marks.{marksOf};
 ghost use Rattle.marks.specs.Matching.{MarksMatch};
-ghost use Rattle.judge.specs.Judging.{evidenceAt, Stepped, Counting};
+ghost use Rattle.judge.specs.Judging.{evidenceAt, Stepped};
 use machine::Tables;
 use marks::Flags;
 use marks::Marks;
 use marks::evidence;
+use marks::held;
 use marks::judged;
 use record::Fields;
 
@@ -57,40 +58,6 @@ fn head_found(tables: &Tables, work: &[u16], kind: u16, row: usize, x: u16) -> u
     machine::last_committed(tables, x)
 }
 
-// A load that counts: the head of the chain that it found, its location and its source; and the load held before it that
-// counts with it, 0 if there is none.
-pub struct First {
-    pub head: u16,
-    pub location: u16,
-    pub source: u16,
-    pub rest: u16,
-}
-
-// The first of the loads that count as of the event of that kind with the fields f, whose row begins at `row`: at a close
-// the newest that its thread holds, whose row has the four numbers; else the load itself.
-fn first_of(tables: &Tables, work: &[u16], kind: u16, row: usize, f: Fields) -> First
-    requires { ⌜ row ≤ 32768 ⌝ }
-    ensures { λ r. ⌜ ((ev : ℕ → Event)
-        → Stepped ev (eventAt row) kind true (now (tables .entry)) (now (work .entry))
-        → fieldsOf (ev (eventAt row)) ≡ f → Counting ev (eventAt row) (now (work .entry)) r) ⌝ }
-{
-    if kind == 16 {
-        let k = machine::newest_held(tables, f.thread);
-        return First {
-            head: area::row_get(work, k, 14),
-            location: area::row_get(work, k, 9),
-            source: area::row_get(work, k, 13),
-            rest: area::row_get(work, k, 15),
-        };
-    }
-    First {
-        head: head_found(tables, work, kind, row, f.location),
-        location: f.location,
-        source: f.source,
-        rest: 0,
-    }
-}
-
 // The event of that kind whose row begins at `row`, which passes, with the fields f: the loads that count as of it are
 // judged. If the marks matched the events before this one, they match those up to it.
 pub(crate) fn judge_event(
@@ -113,15 +80,11 @@ pub(crate) fn judge_event(
     if !counted {
         return;
     }
-    let l = first_of(tables, work, kind, row, f);
-    judged::judge(
-        marks,
-        flags,
-        work,
-        l.head,
-        l.location,
-        l.source,
-        l.rest,
-        row,
-    );
+    if kind == 16 {
+        let k = machine::newest_held(tables, f.thread);
+        held::judge_held(marks, flags, work, k, row);
+        return;
+    }
+    let h = head_found(tables, work, kind, row, f.location);
+    judged::judge_load(marks, flags, work, h, f.location, f.source, row);
 }

@@ -27,9 +27,9 @@ use Rattle.model.proofs.Closure.{observes→, →observes}
 use Rattle.model.proofs.RulingSteps.{raise, raised→}
 use Rattle.area.specs.Cells.{committedAt}
 use Rattle.area.specs.Rows.{Linked, Falls, Rows}
-use Rattle.marks.specs.Marks.{Marks, lastCell, sourceCell, brokenCell, countIn, brokenIn}
+use Rattle.marks.specs.Marks.{Marks, marksOf, lastCell, sourceCell, brokenCell, countIn, brokenIn}
 use Rattle.marks.specs.Marking.{loaded}
-use Rattle.marks.specs.Judged.{repeated, walkedFrom, olderIn, startOf, deepestOf, heldFrom}
+use Rattle.marks.specs.Judged.{repeated, noted, walkedOver, olderIn, startOf, deepestOf, walkedFrom, heldFrom}
 use Rattle.marks.specs.Matching.{Reached, Says, Loads}
 use Rattle.marks.proofs.Counts.{loaded-leaves, noted-size, noted-leaves}
 use Rattle.marks.proofs.Says.{pointwise}
@@ -72,9 +72,12 @@ module _ (ev : ℕ → Event) where
   abbrev pub again? : Marks → ℕ → Bool
   again? m k = repeated (m .counts) (headOf (chain ev k)) (location ev k) (source ev k)
 
-  -- load k by the rows l, walked from `first` on and noted with the source `back`
-  abbrev pub walkedOne : List ℕ → Marks → ℕ → ℕ → ℕ → Marks
-  walkedOne l m k first back = walkedFrom l m first (headOf (chain ev k)) (location ev k) (source ev k) back
+  -- load k by the rows l, walked from the head; and of a close, walked from `first` on and noted with the source `back`
+  abbrev pub walkedOne : List ℕ → Marks → ℕ → Marks
+  walkedOne l m k = walkedOver l m (headOf (chain ev k)) (location ev k) (source ev k)
+
+  abbrev walkedBack : List ℕ → Marks → ℕ → ℕ → ℕ → Marks
+  walkedBack l m k first back = walkedFrom l m first (headOf (chain ev k)) (location ev k) (source ev k) back
 
   -- load k, of a close
   abbrev pub heldOne : List ℕ → Marks → ℕ → Marks
@@ -161,34 +164,38 @@ module _ (ev : ℕ → Event) where
       marks : (p : ℕ) → (passed (source ev k) p ps || F p) ≡ alsoMarks ev k F p
       reached : Reached (alsoMarks ev k F) (alsoSees ev k O) (chain ev k) back
 
-    walk-next : (first back : ℕ) (ps : List ℕ) → Walk first back ps → Part n ks F′ O′ C′ (walkedOne l m k first back)
+    -- noting a load leaves what the marks say, and which load breaks the trace
+    says-noted :
+        {F O : ℕ → Bool} {C : Choice} (v : Marks) (back : ℕ) → Says ev F O C v
+        → Says ev F O C (marksOf (noted (v .counts) h x back) (v .flags))
+    says-noted v back =
+        says-there ev v _ (noted-size (v .counts) h x back)
+        (λ i below. noted-leaves (v .counts) h x back i (λ same. omega arith) (λ same. omega arith))
+
+    broken-noted : (counts : List ℕ) (back : ℕ) → brokenIn (noted counts h x back) ≡ brokenIn counts
+    broken-noted counts back =
+        noted-leaves counts h x back brokenCell (λ same. omega arith) (λ same. omega arith)
+
+    walk-next : (first back : ℕ) (ps : List ℕ) → Walk first back ps → Part n ks F′ O′ C′ (walkedBack l m k first back)
     walk-next first back ps walk = record {
       due = due-then;
       says =
-          says-there ev after _ (noted-size (after .counts) h x back)
-          (λ i below.
-          noted-leaves (after .counts) h x back i (λ same. omega arith) (λ same. omega arith))
-          says-after;
+          load-says ev n l k accepted found F O C before (says-noted m back (part .says)) first ps (walk .along)
+          (walk .marks);
       loads =
-          noted-loads ev n k accepted (found .not-later) x-there F O after same-loads back
-          (walk .reached) (says-after .counts-size);
+          loads-later ev (suc n) (suc n) F′ F′ O′ O′ (omega arith) (λ p in-f. in-f) (λ q in-o. in-o) before after
+          (λ i from-128 below. loaded-leaves l before first s i from-128)
+          (noted-loads ev n k accepted (found .not-later) x-there F O m (part .loads) back (walk .reached)
+          (part .says .counts-size));
       unbroken =
-          noted-leaves (after .counts) h x back brokenCell (λ same. omega arith) (λ same. omega arith)
-          ∙ (loaded-leaves l m first s brokenCell (omega arith) ∙ part .unbroken);
+          loaded-leaves l before first s brokenCell (omega arith) ∙ (broken-noted (m .counts) back ∙ part .unbroken);
     }
       where
+        before : Marks
+        before = marksOf (noted (m .counts) h x back) (m .flags)
+
         after : Marks
-        after = loaded l m first s
-
-        says-after : Says ev F′ O′ C′ after
-        says-after =
-            load-says ev n l k accepted found F O C m (part .says) first ps (walk .along)
-            (walk .marks)
-
-        same-loads : Loads ev (suc n) F O after
-        same-loads =
-            loads-later ev (suc n) (suc n) F F O O (omega arith) (λ p in-f. in-f)
-            (λ q in-o. in-o) m after (λ i from-128 below. loaded-leaves l m first s i from-128) (part .loads)
+        after = loaded l before first s
 
     -- back to its own source
     reached-source : Reached F′ O′ (chain ev k) s
@@ -198,13 +205,28 @@ module _ (ev : ℕ → Event) where
       stands = source-stands ev n l k accepted found;
     }
 
-    -- from the head
-    pub whole-next :
-        Part n ks (alsoMarks ev k F) (alsoSees ev k O) (alsoAsks ev k C)
-        (walkedOne l m k (headOf (chain ev k)) (source ev k))
-    whole-next =
-        walk-next h s (chain ev k)
-        (record { along = whole ev n l k accepted found; marks = λ p. refl; reached = reached-source })
+    from-head : Walk h s (chain ev k)
+    from-head = record { along = whole ev n l k accepted found; marks = λ p. refl; reached = reached-source }
+
+    -- a load that counts as of its own event is walked from the head, and noted behind that
+    pub whole-next : Part n ks (alsoMarks ev k F) (alsoSees ev k O) (alsoAsks ev k C) (walkedOne l m k)
+    whole-next = record {
+      due = due-then;
+      says = says-noted after s says-after;
+      loads =
+          noted-loads ev n k accepted (found .not-later) x-there F O after
+          (loads-later ev (suc n) (suc n) F F O O (omega arith) (λ p in-f. in-f) (λ q in-o. in-o) m after
+          (λ i from-128 below. loaded-leaves l m h s i from-128) (part .loads))
+          s reached-source (says-after .counts-size);
+      unbroken = broken-noted (after .counts) s ∙ (loaded-leaves l m h s brokenCell (omega arith) ∙ part .unbroken);
+    }
+      where
+        after : Marks
+        after = loaded l m h s
+
+        says-after : Says ev F′ O′ C′ after
+        says-after =
+            load-says ev n l k accepted found F O C m (part .says) h (chain ev k) (from-head .along) (from-head .marks)
 
     -- ---- a load of a close that found the chain of the one noted, whose source is d
 
@@ -302,13 +324,13 @@ module _ (ev : ℕ → Event) where
         older = olderIn l s (countIn (m .counts) (sourceCell x))
 
         by-age :
-            same-head ≡ true → (older ≡ true) ⊎ (older ≡ false) → Part n ks F′ O′ C′ (walkedOne l m k first back)
+            same-head ≡ true → (older ≡ true) ⊎ (older ≡ false) → Part n ks F′ O′ C′ (walkedBack l m k first back)
         by-age same (inl is-older) = rw (same, is-older) (walk-next _ _ _ (on-from b falls same is-older))
         by-age same (inr not-older) = rw (same, not-older) (walk-next _ _ _ (at-once b falls same not-older))
 
-        by-chain : (same-head ≡ true) ⊎ (same-head ≡ false) → Part n ks F′ O′ C′ (walkedOne l m k first back)
+        by-chain : (same-head ≡ true) ⊎ (same-head ≡ false) → Part n ks F′ O′ C′ (walkedBack l m k first back)
         by-chain (inl same) = by-age same (test older)
-        by-chain (inr other) = rw other whole-next
+        by-chain (inr other) = rw other (walk-next _ _ _ from-head)
 
         by-again : (again? m k ≡ true) ⊎ (again? m k ≡ false) → SomePart n ks (heldOne l m k)
         by-again (inl again) = rw again (record { F = F; O = O; C = C; part = again-next again })

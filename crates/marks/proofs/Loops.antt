@@ -156,9 +156,9 @@ module _
   pub held-new :
       (m₁ : Marks) (first back : ℕ) (counts : List ℕ)
       → again ≡ false → first ≡ startOf l (m .counts) h x s → back ≡ deepestOf l (m .counts) h x s
-      → m₁ ≡ loaded l m first s → counts ≡ noted (m₁ .counts) h x back → marksOf counts (m₁ .flags) ≡ heldAt l m k
-  held-new m₁ first back counts new first-is back-is load-is note-is =
-      rw (← h-is, ← x-is, ← s-is, ← again-is, new, note-is, load-is, first-is, back-is) refl
+      → counts ≡ noted (m .counts) h x back → m₁ ≡ loaded l (marksOf counts (m .flags)) first s → m₁ ≡ heldAt l m k
+  held-new m₁ first back counts new first-is back-is note-is load-is =
+      rw (← h-is, ← x-is, ← s-is, ← again-is, new, load-is, note-is, first-is, back-is) refl
 
 -- The loop in rows l that leaves the marks w: after some turns n are left, the marks are m, and the loads from k on are
 -- next.

@@ -234,7 +234,7 @@ module _ (ev : ℕ → Event) where
 
     walked-load :
         brokenIn (m .counts) ≡ 0
-        → MarksMatch ev (suc n) (withBreaking n (loadHits l m h s) (walkedOne ev l m n h s))
+        → MarksMatch ev (suc n) (withBreaking n (loadHits l m h s) (walkedOne ev l m n))
     walked-load none =
         match-judged n accepted m none so-far F′ (alsoSees ev n (observed? ev n)) C′ _ end (loadHits l m h s)
         (load-hits→ ev n l n accepted found (marked? ev n) (observed? ev n) (closure ev n) over m (so-far .judging))
@@ -252,7 +252,7 @@ module _ (ev : ℕ → Event) where
         C′ : Choice
         C′ = alsoAsks ev n (closure ev n)
 
-        end : Part ev n [] F′ (alsoSees ev n (observed? ev n)) C′ (walkedOne ev l m n h s)
+        end : Part ev n [] F′ (alsoSees ev n (observed? ev n)) C′ (walkedOne ev l m n)
         end =
             whole-next ev n l n [] accepted found (marked? ev n) (observed? ev n) (closure ev n) m
             (load-due so-far none)
@@ -273,7 +273,7 @@ module _ (ev : ℕ → Event) where
             → (brokenIn (m .counts) ≡ 0) ⊎ (brokenIn (m .counts) ≢ 0)
             → MarksMatch ev (suc n)
             (cond (again? ev m n) m
-            (cond (eqb (brokenIn (m .counts)) 0) (withBreaking n (loadHits l m h s) (walkedOne ev l m n h s)) m))
+            (cond (eqb (brokenIn (m .counts)) 0) (withBreaking n (loadHits l m h s) (walkedOne ev l m n)) m))
         by-tests (inl again) either =
             rw again
             (match-same n m accepted matching

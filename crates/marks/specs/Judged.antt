@@ -24,21 +24,21 @@ repeated counts h x s = eqb (countIn counts (lastCell x)) h && eqb (countIn coun
 unfoldable pub noted : List ℕ → ℕ → ℕ → ℕ → List ℕ
 noted counts h x s = set (set counts (lastCell x) h) (sourceCell x) s
 
--- the marks after a load from s whose chain is walked from `first` on, and which is noted with the source `back`
-abbrev pub walkedFrom : List ℕ → Marks → ℕ → ℕ → ℕ → ℕ → ℕ → Marks
-walkedFrom l m first h x s back = marksOf (noted (loaded l m first s .counts) h x back) (loaded l m first s .flags)
-
 -- event e is recorded if it breaks the trace
 abbrev pub withBreaking : ℕ → Bool → Marks → Marks
 withBreaking e breaks m = cond breaks (marksOf (set (m .counts) brokenCell e) (m .flags)) m
 
 -- ---- a load that counts as of its own event
 
--- the marks after event e, which is that load: its chain is walked from the head
+-- its chain is walked from the head, and it is noted
+abbrev pub walkedOver : List ℕ → Marks → ℕ → ℕ → ℕ → Marks
+walkedOver l m h x s = marksOf (noted (loaded l m h s .counts) h x s) (loaded l m h s .flags)
+
+-- the marks after event e, which is that load
 unfoldable pub judged : List ℕ → Marks → ℕ → ℕ → ℕ → ℕ → Marks
 judged l m h x s e =
     cond (repeated (m .counts) h x s) m
-    (cond (eqb (brokenIn (m .counts)) 0) (withBreaking e (loadHits l m h s) (walkedFrom l m h h x s s)) m)
+    (cond (eqb (brokenIn (m .counts)) 0) (withBreaking e (loadHits l m h s) (walkedOver l m h x s)) m)
 
 -- ---- the loads that a close counts
 
@@ -58,6 +58,10 @@ abbrev pub deepestOf : List ℕ → List ℕ → ℕ → ℕ → ℕ → ℕ
 deepestOf l counts h x s =
     let d = countIn counts (sourceCell x) in
     cond (eqb (countIn counts (lastCell x)) h) (cond (olderIn l s d) s d) s
+
+-- a held load is noted with the source `back`, and its chain is walked from `first` on
+abbrev pub walkedFrom : List ℕ → Marks → ℕ → ℕ → ℕ → ℕ → ℕ → Marks
+walkedFrom l m first h x s back = loaded l (marksOf (noted (m .counts) h x back) (m .flags)) first s
 
 -- the marks after a held load
 abbrev pub heldFrom : List ℕ → Marks → ℕ → ℕ → ℕ → Marks

@@ -85,8 +85,8 @@ fn mark_held(marks: &mut Marks, flags: &mut Flags, rows: &[u16], k: u16)
     }
     let first = start(marks, rows, h, x, s);
     let back = deepest(marks, rows, h, x, s);
-    mark_from(marks, flags, rows, first, s);
     judged::note(marks, h, x, back);
+    mark_from(marks, flags, rows, first, s);
 }
 
 // The held loads from `newest` on, which the links of column 15 lead to. At most 2,048 loads count as of an event.

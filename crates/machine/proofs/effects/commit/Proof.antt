@@ -60,8 +60,7 @@ returns c =
     let at-commit = at-no-store .before .before in
     let at-row-get2 = at-commit .before in
     let at-row-get = at-row-get2 .before .before in
-    let at-thread-of = at-row-get .before .before in
-    (
+    let at-thread-of = at-row-get .before .before in (
       rw (
         c .put-committed .ensures,
         at-head .head .ensures,

@@ -62,8 +62,7 @@ returns c =
     let at-event-at = at-head .before in
     let at-last = at-event-at .before .before .before in
     let at-thread-of = at-last .before in
-    let at-issue = at-thread-of .before .before .before .before in
-    (
+    let at-issue = at-thread-of .before .before .before .before in (
       rw (
         c .put-committed .ensures,
         c .before .commit .ensures,
