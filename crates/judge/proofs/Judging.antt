@@ -3,11 +3,11 @@
 -- head of its location's committed stores, and any other event leaves the marks.
 -- In order: the event's number; the marks after it; the head that a counted load found, by its kind; the marks after an
 -- event that does not count and after one that does.
-use mathlib.Core.Path.{_≡_, refl, sym, ap, _∙_, subst}
+use mathlib.Core.Path.{_≡_, refl, sym, ap, _∙_}
 use mathlib.Core.Bool.{Bool, true, false, cond, _&&_, _||_, not}
 use mathlib.Core.List.{List, [], _∷_}
 use mathlib.Core.Logic.{_≢_}
-use Prim.Native.Nat.{ℕ, suc, _≤_, _<_}
+use Prim.Native.Nat.{ℕ, suc, _-_, _*_, _≤_, _<_}
 use native.Mathlib.Omega.{arith}
 use borrow.Author.Tests.{ne-eqb}
 use lib.Dec.{eqb}
@@ -18,7 +18,8 @@ use Rattle.record.specs.Fields.{fieldsOf}
 use Rattle.model.specs.Trace.{kind, is, thread, location, outcome, commit?, close?}
 use Rattle.model.specs.Machine.{committed, opened, countable, held, counting, counts}
 use Rattle.model.specs.Stores.{headOf, landed}
-use Rattle.model.proofs.Searching.{false-true, parts}
+use Rattle.model.specs.Search.{any}
+use Rattle.model.proofs.Searching.{false-true, parts, eqb-same}
 use Rattle.model.proofs.Roles.{one-kind}
 use Rattle.model.proofs.Acceptance.{countable-crosses, event-bound}
 use Rattle.model.proofs.CountedLoads.{counting-length}
@@ -28,7 +29,7 @@ use Rattle.model.proofs.Unchanged.{landed-away, landed-here}
 use Rattle.model.proofs.CountedLoads.{counts-as-of}
 use Rattle.area.specs.Cells.{getRow, eventAt}
 use Rattle.area.specs.Rows.{Linked, HeldLinked}
-use Rattle.area.proofs.Chains.{linked-head, linked-earlier, falls-earlier}
+use Rattle.area.proofs.Chains.{linked-head, linked-earlier, falls-less, falls-earlier}
 use Rattle.machine.specs.Tables.{lastCell, lastIn, heldIn}
 use Rattle.machine.specs.Twin.{World}
 use Rattle.machine.specs.Sim.{some?, Sim}
@@ -36,6 +37,7 @@ use Rattle.machine.proofs.Closing.{last-is}
 use Rattle.marks.specs.Marks.{Marks}
 use Rattle.marks.specs.Judged.{judged, judgedHeld}
 use Rattle.marks.specs.Matching.{MarksMatch}
+use Rattle.marks.proofs.Stepping.{chain}
 use Rattle.marks.proofs.EachLoad.{Area}
 use Rattle.marks.proofs.Matched.{match-none, match-load, match-held}
 use Rattle.judge.specs.Judging.{Stepped}
@@ -64,7 +66,8 @@ module _
       let not-later : l ≤ suc n = omega (arith, it .not-later) in (
         stepped .rows,
         linked-earlier ev work (location ev l) l (suc n) _ not-later (chain-then .links),
-        falls-earlier ev work (location ev l) l (suc n) _ not-later (chain-then .falls),
+        falls-less work (16 * (suc n - 1)) (16 * n) (chain ev l) (omega arith)
+            (falls-earlier ev work (location ev l) l (suc n) _ not-later (chain-then .falls)),
       )
 
 -- ---- which loads count as of the event
@@ -164,7 +167,7 @@ module _ (ev : ℕ → Event) (n k : ℕ) (tables work : List ℕ) (m : Marks) (
     unfolding any
     match-itself load h head-is m' marks-are =
         let alone = itself-counts ev n (λ is. load (sym (stepped .kind-is) ∙ is)) (stepped .counts-is) .1 in
-        let here : counts ev n n ≡ true = rw alone (or-true (eqb-same n)) in
+        let here : counts ev n n ≡ true = rw (alone, eqb-same n) refl in
         let (rows, links, _) = found ev n k true tables work stepped n here in
         rw (marks-are, head-is, ← fields-are)
         (match-load ev n work (stepped .accepted) alone rows links m matching)
@@ -176,7 +179,9 @@ module _ (ev : ℕ → Event) (n k : ℕ) (tables work : List ℕ) (m : Marks) (
     match-close is-16 e e-is m' marks-are =
         let close : kind ev n ≡ 16 = stepped .kind-is ∙ is-16 in
         let few = event-bound ev (suc n) (stepped .accepted) n (omega arith) in
-        let newest : e ≡ heldIn tables (thread ev n) = e-is ∙ ap (λ (g : Fields). heldIn tables (g .thread)) (sym fields-are) in
+        let newest : e ≡ heldIn tables (thread ev n) =
+        e-is ∙ ap (λ (g : Fields). heldIn tables (g .thread)) (sym fields-are)
+        in
         rw marks-are
         (match-held ev n work (stepped .accepted) (found ev n k true tables work stepped) e
         (rw (held-count ev n close (stepped .counts-is), newest) (stepped .held-are (rw close refl)))
