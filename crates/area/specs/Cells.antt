@@ -33,8 +33,8 @@ coversW l p q = eqb (getRow l p 10) (getRow l q 10) && clockCoversW l p q
 abbrev pub oneLineW : List ℕ → ℕ → ℕ → Bool
 oneLineW l p q = eqb (getRow l p 9 / 8) (getRow l q 9 / 8)
 
--- where the row of the event that committed store p begins: column 13 of its row. A locked operation commits itself, and
--- its column 13 is its source, which is below.
+-- where the row of the event that committed store p begins: column 13 of its row. A locked operation commits itself,
+-- and its column 13 is its source, which is below.
 abbrev pub committedAt : List ℕ → ℕ → ℕ
 committedAt l p = max (getRow l p 13) (rowStart p)
 

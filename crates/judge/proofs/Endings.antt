@@ -199,7 +199,8 @@ module _ (bytes : List ℕ) where
 
   module _
       (version threads locations n k : ℕ) (tables : List ℕ) (m : Marks) (work : List ℕ)
-      (stopped : Stopped bytes version threads locations n k tables m work) (cut : List ℕ) (right-size : length cut ≡ 56)
+      (stopped : Stopped bytes version threads locations n k tables m work) (cut : List ℕ)
+      (right-size : length cut ≡ 56)
     where
       -- the end of the run
       abbrev endBy : End

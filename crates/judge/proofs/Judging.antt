@@ -11,7 +11,7 @@ use Prim.Native.Nat.{ℕ, suc, _-_, _*_, _≤_, _<_}
 use native.Mathlib.Omega.{arith}
 use borrow.Author.Tests.{ne-eqb}
 use lib.Dec.{eqb}
-use lib.ListN.{length, getD}
+use lib.ListN.{getD}
 use Rattle.record.specs.declared.events.Event.{Event}
 use Rattle.record.specs.declared.events.Fields.{Fields}
 use Rattle.record.specs.Fields.{fieldsOf}
@@ -28,7 +28,7 @@ use Rattle.model.proofs.StorePlaces.{committed-itself}
 use Rattle.model.proofs.Unchanged.{landed-away, landed-here}
 use Rattle.model.proofs.CountedLoads.{counts-as-of}
 use Rattle.area.specs.Cells.{getRow, eventAt}
-use Rattle.area.specs.Rows.{Linked, HeldLinked}
+use Rattle.area.specs.Rows.{Linked}
 use Rattle.area.proofs.Chains.{linked-head, linked-earlier, falls-less, falls-earlier}
 use Rattle.machine.specs.Tables.{lastCell, lastIn, heldIn}
 use Rattle.machine.specs.Twin.{World}

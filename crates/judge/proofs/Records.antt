@@ -32,7 +32,8 @@ use Rattle.model.specs.Rules.{refusal}
 use Rattle.model.specs.Reading.{eventIn, refusalIn, events, inTrace, passing, recordAt, turnedAway, begunReading}
 use Rattle.model.specs.Reading.{TurnedAwayWith}
 use Rattle.model.proofs.Searching.{same?, test}
-use Rattle.model.proofs.TurnedAway.{passed→, ends-there, in-trace-1, in-trace-one, unread-there, forbidden-there, passing-there}
+use Rattle.model.proofs.TurnedAway.{passed→, ends-there, in-trace-1, in-trace-one, unread-there, forbidden-there}
+use Rattle.model.proofs.TurnedAway.{passing-there}
 use Rattle.model.proofs.NoBytes.{begun-none, begun-away, no-begin-first}
 use Rattle.area.specs.Cells.{eventAt}
 use Rattle.area.specs.Rows.{HeldLinked}
@@ -172,7 +173,8 @@ module _ (bytes : List ℕ) where
 
       first-state :
           (work : List ℕ) → 32768 ≤ length work
-          → Sim (events bytes) 1 (world (started (fieldsOf x .version) (fieldsOf x .threads) (fieldsOf x .locations)) noTables work)
+          → Sim (events bytes) 1 (world (started (fieldsOf x .version) (fieldsOf x .threads)
+          (fieldsOf x .locations)) noTables work)
       first-state work room = rw (sym event-0) (sim-start (events bytes) passes work room)
 
   -- ---- a later record
@@ -278,7 +280,8 @@ module _ (bytes : List ℕ) where
             held-are = λ close.
                 let there = held-is ev n w (reached .state) passes close in
                 let world-is = step-is ∙ ap (stepW w) (sym event-n) in
-                subst (λ (v : World). HeldLinked ev (v .work) (heldIn (v .tables) (thread ev n)) (held ev n (thread ev n)))
+                subst (λ (v : World). HeldLinked ev (v .work) (heldIn (v .tables) (thread ev n))
+                (held ev n (thread ev n)))
                 (sym world-is) there;
           })
           (ap fieldsOf event-n) (reached .loads);
@@ -325,7 +328,8 @@ module _ (bytes : List ℕ) where
 
         pub scanned-passes :
             s .refusal ≡ 0 → (m' : Marks) → JudgedTo (r .kind) (r .fields) (s .counted) tables' work' m'
-            → Reached bytes version threads locations (suc n) (cursor (s .stretch) (t .row + 16) (r .next)) tables' m' work'
+            → Reached bytes version threads locations (suc n)
+            (cursor (s .stretch) (t .row + 16) (r .next)) tables' m' work'
         scanned-passes passes m' judged-to =
             let (x, (read-is, kind-is, fields-are)) = scan-read bytes at r is in
             let told : given ≡ stepO w (kindOf x) (fieldsOf x) = rw (← kind-is, ← fields-are) step-is in
@@ -349,7 +353,8 @@ module _ (bytes : List ℕ) where
     -- the next record lies further on
     pub less-left :
         (t' : Cursor) (tables' : List ℕ) (m' : Marks) (work' : List ℕ)
-        → Reached bytes version threads locations (suc n) t' tables' m' work' → length bytes - t' .at < length bytes - at
+        → Reached bytes version threads locations (suc n) t' tables' m' work'
+        → length bytes - t' .at < length bytes - at
     less-left t' tables' m' work' next =
         let p = passed→ bytes n (next .all-pass n (omega arith)) in
         omega (

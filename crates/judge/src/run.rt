@@ -110,10 +110,10 @@ fn begin(trace: &[u8]) -> Begun
     }
 }
 
-// The judging step: a record that can't be read ends the judging there with its refusal, which is 3 in the place of a wrong
-// length if the trace's version does not know the kind; so does an event that a rule forbids. Any other takes its step,
-// and the loads that count as of it are judged. At the trace's end there are no bytes to read, which is the reader's
-// refusal 1; no later record has that number otherwise.
+// The judging step: a record that can't be read ends the judging there with its refusal, which is 3 in the place of a
+// wrong length if the trace's version does not know the kind; so does an event that a rule forbids. Any other takes its
+// step, and the loads that count as of it are judged. At the trace's end there are no bytes to read, which is the
+// reader's refusal 1; no later record has that number otherwise.
 fn judge_record(
     trace: &[u8],
     version: u16,

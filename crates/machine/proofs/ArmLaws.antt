@@ -14,8 +14,11 @@ behind-load k low not-2 not-3 not-4 = omega arith
 pub behind-crash : (k : ℕ) → 9 ≤ k → k ≢ 9 → 10 ≤ k
 behind-crash k low not-9 = omega arith
 
-module _ {A : Type 0} (k : ℕ) (issue commit load flush fence crash skip locked signal wait opening closing other : A) where
-  pub flush-arm : 5 ≤ k → k ≤ 6 → flush ≡ byKind k issue commit load flush fence crash skip locked signal wait opening closing other
+module _
+    {A : Type 0} (k : ℕ) (issue commit load flush fence crash skip locked signal wait opening closing other : A) where
+  pub flush-arm :
+      5 ≤ k → k ≤ 6
+      → flush ≡ byKind k issue commit load flush fence crash skip locked signal wait opening closing other
   unfolding byKind
   flush-arm low high =
       rw (
@@ -26,7 +29,9 @@ module _ {A : Type 0} (k : ℕ) (issue commit load flush fence crash skip locked
         le-leb k 6 high,
       )
 
-  pub fence-arm : 7 ≤ k → k ≤ 8 → fence ≡ byKind k issue commit load flush fence crash skip locked signal wait opening closing other
+  pub fence-arm :
+      7 ≤ k → k ≤ 8
+      → fence ≡ byKind k issue commit load flush fence crash skip locked signal wait opening closing other
   unfolding byKind
   fence-arm low high =
       rw (
@@ -39,7 +44,9 @@ module _ {A : Type 0} (k : ℕ) (issue commit load flush fence crash skip locked
         le-leb k 8 high,
       )
 
-  pub skip-arm : 10 ≤ k → k ≤ 11 → skip ≡ byKind k issue commit load flush fence crash skip locked signal wait opening closing other
+  pub skip-arm :
+      10 ≤ k → k ≤ 11
+      → skip ≡ byKind k issue commit load flush fence crash skip locked signal wait opening closing other
   unfolding byKind
   skip-arm low high =
       rw (
@@ -56,11 +63,14 @@ module _ {A : Type 0} (k : ℕ) (issue commit load flush fence crash skip locked
       )
 
   pub other-arm :
-      (2 ≤ k → k ≤ 16 → ⊥) → other ≡ byKind k issue commit load flush fence crash skip locked signal wait opening closing other
+      (2 ≤ k → k ≤ 16 → ⊥)
+      → other ≡ byKind k issue commit load flush fence crash skip locked signal wait opening closing other
   unfolding byKind
   other-arm outside = by-order (less? k 2)
     where
-      by-order : (k < 2) ⊎ (2 ≤ k) → other ≡ byKind k issue commit load flush fence crash skip locked signal wait opening closing other
+      by-order :
+          (k < 2) ⊎ (2 ≤ k)
+          → other ≡ byKind k issue commit load flush fence crash skip locked signal wait opening closing other
       by-order (inl low) =
           rw (
             ne-eqb k 2 (λ is. omega arith),

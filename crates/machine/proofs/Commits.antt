@@ -4,7 +4,7 @@
 -- And the step of kind 3, which is a commit and nothing else: the next store of the thread is then the oldest.
 -- In order: chains; the store; the chains afterwards; the step.
 use mathlib.Core.Path.{_≡_, refl, sym, _∙_}
-use mathlib.Core.Bool.{true, false}
+use mathlib.Core.Bool.{false}
 use mathlib.Core.List.{List, [], _∷_}
 use mathlib.Core.Logic.{_⊎_, inl, inr, _≢_}
 use Prim.Native.Nat.{ℕ, suc, _+_, _-_, _*_, _≤_, _<_}
@@ -24,7 +24,8 @@ use Rattle.model.proofs.Limits.{accepted-next}
 use Rattle.model.proofs.Ranges.{issue-has-location, commit-has-thread, location-bound}
 use Rattle.model.proofs.StorePlaces.{Store, its-place, committed-at, committed-store, committed-itself}
 use Rattle.model.proofs.StorePlaces.{committed-earlier}
-use Rattle.model.proofs.Unchanged.{live-here, store-at-away, landed-away, landed-here, landed-once, committed-apart, Lacks}
+use Rattle.model.proofs.Unchanged.{live-here, store-at-away, landed-away, landed-here, landed-once, committed-apart}
+use Rattle.model.proofs.Unchanged.{Lacks}
 use Rattle.area.specs.Cells.{rowStart, getRow, putRow, committedAt, noStore}
 use Rattle.area.specs.Rows.{Linked, Falls}
 use Rattle.area.proofs.Chains.{Kept, linked-kept, falls-kept, falls-less}
@@ -39,7 +40,8 @@ use Rattle.machine.proofs.Storing.{Same}
 use Rattle.machine.proofs.TableLaws.{committed-replaced, committed-beyond, committed-last}
 use Rattle.machine.proofs.TableLaws.{committed-stretch}
 use Rattle.machine.proofs.RowLaws.{no-store-is, no-store-earlier, no-store-behind, link-no-store}
-use Rattle.machine.proofs.Keep.{Early, landed-early, limits-next, in-time, few-own, numbers-next, spares, counted-up}
+use Rattle.machine.proofs.Keep.{Early, landed-early, limits-next, in-time, few-own, numbers-next, spares}
+use Rattle.machine.proofs.Keep.{counted-up}
 use Rattle.machine.proofs.Keep.{place-stays, issued-stays, newest-stays, skip-stays, queues-with, seen-keep}
 use Rattle.machine.proofs.Keep.{newest-keep, commits-keep, sources-keep, rows-keep, links-keep}
 use Rattle.machine.proofs.Holding.{regions-keep}
@@ -274,7 +276,8 @@ module _ (ev : ℕ → Event) (n : ℕ) (w : World) (sim : Sim ev n w) (passes :
         let both-kinds = locked-kind ev loads (rw (← is-taken) at (taken-store .store)) in
         let commits-own : Commit ev e = record { test = rw both-kinds refl } in
         let own =
-        committed-itself ev (suc n) e accepted (omega arith) (rw both-kinds refl) (rw (← is-taken) at (taken-store .store))
+        committed-itself ev (suc n) e accepted (omega arith) (rw both-kinds refl)
+        (rw (← is-taken) at (taken-store .store))
         in
         committed-apart ev (suc n) e n accepted early (omega arith) commits-own is-commit (own ∙ is-taken)
 

@@ -194,7 +194,8 @@ module _ (ev : ℕ → Event) (n : ℕ) (w : World) (sim : Sim ev n w) (passes :
       commits-are = commits-keep ev n tables tables no-crash (λ _ _ _. refl) (sim .commits-are);
       sources = sources-keep ev n tables tables (λ _ _ _. refl) (sim .sources);
       chains =
-          chains-keep ev n tables tables (w .work) after (sim .limits) (rw kind-is refl) (λ q k from-one early _ _. it .earlier q k from-one early)
+          chains-keep ev n tables tables (w .work) after (sim .limits) (rw kind-is refl)
+          (λ q k from-one early _ _. it .earlier q k from-one early)
           (λ _ _ _. refl) (λ _ _ _. refl) (sim .chains);
       rows =
           rows-with ev n (w .work) after (sim .limits) (it .size)

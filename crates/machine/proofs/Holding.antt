@@ -1,25 +1,22 @@
 -- The regions under a checksum, from event n to the next. A thread that stays open goes on holding what it held, by the
 -- same rows; a crossing load of it in no skip is held in front of these.
 -- In order: the rows of held loads; events that are no load; a load.
-use mathlib.Core.Path.{_≡_, refl, sym, ap, _∙_}
-use mathlib.Core.Bool.{Bool, true, false, _&&_}
+use mathlib.Core.Path.{_≡_, sym, _∙_}
+use mathlib.Core.Bool.{true, false, _&&_}
 use mathlib.Core.List.{List, [], _∷_}
 use mathlib.Core.Logic.{_⊎_, inl, inr, _≢_}
-use Prim.Native.Nat.{ℕ, suc, _+_, _*_, _≤_, _<_}
+use Prim.Native.Nat.{ℕ, suc, _≤_, _<_}
 use native.Mathlib.Omega.{arith}
 use lib.Dec.{eqb}
-use borrow.Author.Tests.{ne-eqb}
 use Rattle.record.specs.declared.events.Event.{Event}
 use Rattle.model.specs.Search.{any, member}
-use Rattle.model.specs.Trace.{thread, location, source, load?, crash?, open?, close?, Load}
-use Rattle.model.specs.Machine.{opened, countable, held}
-use Rattle.model.specs.Stores.{headOf, landed}
+use Rattle.model.specs.Trace.{thread, load?, crash?, open?, close?, Load}
+use Rattle.model.specs.Machine.{countable, held}
 use Rattle.model.proofs.Searching.{false-true, test, same?, or-left, or-right, eqb-same}
-use Rattle.model.proofs.Roles.{load-no-crash, load-no-open, load-no-close}
 use Rattle.model.proofs.Acceptance.{countable-crosses, begins}
 use Rattle.model.proofs.Roles.{begin-no-load}
 use Rattle.model.proofs.Unchanged.{opened-away, opened-crash}
-use Rattle.model.proofs.Holding.{Held, held-is, held-else, held-next, held-closed}
+use Rattle.model.proofs.Holding.{held-is, held-else}
 use Rattle.area.specs.Cells.{getRow}
 use Rattle.area.specs.Rows.{HeldRow, HeldLinked}
 use Rattle.machine.specs.declared.regions.Region.{Region}
@@ -97,7 +94,8 @@ module _ (ev : ℕ → Event) where
             record {
               opened-is = region .opened-is ∙ sym stays;
               held-are = λ is-open.
-                  rw (held-else ev n t is-open other) (held-there t (r .newest) (region .held-are (sym stays ∙ is-open)));
+                  rw (held-else ev n t is-open other)
+                  (held-there t (r .newest) (region .held-are (sym stays ∙ is-open)));
             }
 
   -- ---- an event that is no load, open or close

@@ -9,7 +9,7 @@ use Prim.Native.Nat.{ℕ, zero, suc, _+_, _-_, _*_, _≤_, _<_}
 use native.Mathlib.Omega.{arith}
 use borrow.Author.Tests.{ltb-true}
 use lib.Dec.{ltb}
-use lib.ListN.{length, getD}
+use lib.ListN.{length}
 use Rattle.record.specs.declared.events.Event.{Event}
 use Rattle.model.specs.Trace.{thread, location, hasThread?, hasLocation?, issue?, commit?, load?, crash?, skipOn?}
 use Rattle.model.specs.Trace.{skipOff?, signal?, wait?, Issue, Signal, stretch, commits, place}
@@ -260,7 +260,8 @@ module _ (ev : ℕ → Event) (n : ℕ) where
           links = rw (same-list, head) (linked-kept l l′ _ (landed ev n x) kept (chains x few .links));
           falls =
               rw same-list
-              (falls-less l′ _ _ (landed ev n x) (omega arith) (falls-kept l l′ _ (landed ev n x) kept (chains x few .falls)));
+              (falls-less l′ _ _ (landed ev n x) (omega arith)
+              (falls-kept l l′ _ (landed ev n x) kept (chains x few .falls)));
           stretch-is =
               rw (head, stretches (stretchCell x) (omega arith) (omega arith)) (chains x few .stretch-is);
         }

@@ -26,7 +26,7 @@ use Rattle.model.proofs.Acceptance.{store-not-0, fitting, own-source, commit-so
 use Rattle.model.proofs.Ranges.{load-has-thread, load-has-location}
 use Rattle.model.proofs.ClockSteps.{loads-store}
 use Rattle.model.proofs.Unchanged.{seen-crossing, opened-away}
-use Rattle.area.specs.Cells.{getRow, eventAt, noStore, joined}
+use Rattle.area.specs.Cells.{eventAt, noStore, joined}
 use Rattle.area.specs.Rows.{HeldRow, HeldLinked}
 use Rattle.area.proofs.Chains.{linked-head}
 use Rattle.machine.specs.declared.regions.Region.{Region}
@@ -178,7 +178,8 @@ module _ (ev : ℕ → Event) (n : ℕ) (w : World) (sim : Sim ev n w) (passes :
           (u : ℕ) → u < 8 → ((countable ev n && eqb t u) ≡ true) ⊎ ((countable ev n && eqb t u) ≡ false)
           → InRegion ev (suc n) u (regionOf tables u) plainWork
       by-test u few-u (inr other) =
-          region-keep ev n (sim .limits) (w .work) plainWork (rows-stay ev n w sim passes) u (regionOf tables u) no-crash
+          region-keep ev n (sim .limits) (w .work) plainWork (rows-stay ev n w sim passes) u
+          (regionOf tables u) no-crash
           (spares ev n (open? ev) (load-no-open ev loads) u) (spares ev n (close? ev) (load-no-close ev loads) u) other
           (sim .regions u few-u)
       by-test u few-u (inl own) =
@@ -300,7 +301,8 @@ module _ (ev : ℕ → Event) (n : ℕ) (w : World) (sim : Sim ev n w) (passes :
         before :
             HeldLinked ev after (regionOf notedTables t .newest) (held ev n t)
         before =
-            rw same-region (held-there ev n (sim .limits) (w .work) after stays t _ (sim .regions t few .held-are is-open))
+            rw same-region (held-there ev n (sim .limits) (w .work) after stays t _
+            (sim .regions t few .held-are is-open))
 
         own : InRegion ev (suc n) t (heldR (regionOf notedTables t) (eventAt row)) after
         own = record {
@@ -324,7 +326,8 @@ module _ (ev : ℕ → Event) (n : ℕ) (w : World) (sim : Sim ev n w) (passes :
             ∙ noted-regions u few-u
             in
             rw same
-            (region-keep ev n (sim .limits) (w .work) after stays u (regionOf tables u) no-crash (λ _. other) (λ _. other)
+            (region-keep ev n (sim .limits) (w .work) after stays u (regionOf tables u) no-crash (λ _. other)
+            (λ _. other)
             (other-thread u other) (sim .regions u few-u))
 
   -- whether it is held, by the thread's state
@@ -364,14 +367,21 @@ module _ (ev : ℕ → Event) (n : ℕ) (w : World) (sim : Sim ev n w) (passes :
           (rw (loads .test, eq-eqb (waiting ev n) 0 none-waits, ne-eqb (current ev n) 0 commits)))
       by-case (inl none-waits) (inl none-current) true opens skips-is opens-is =
           rw (eq-eqb (waiting ev n) 0 none-waits, eq-eqb (current ev n) 0 none-current)
-          (passes-by none-waits none-current (λ counts. false-true (sym (rw (skips-is, and-false (crossing ev n))) ∙ counts)))
+          (passes-by none-waits none-current
+          (λ counts. false-true (sym (rw (skips-is, and-false (crossing ev n))) ∙ counts)))
       by-case (inl none-waits) (inl none-current) false false skips-is opens-is =
           rw (eq-eqb (waiting ev n) 0 none-waits, eq-eqb (current ev n) 0 none-current)
           (passes-by none-waits none-current (λ counts. opens-is))
       by-case (inl none-waits) (inl none-current) false true skips-is opens-is =
           rw (eq-eqb (waiting ev n) 0 none-waits, eq-eqb (current ev n) 0 none-current)
           (held-by none-waits none-current
-          (rw (loads .test, eq-eqb (waiting ev n) 0 none-waits, eq-eqb (current ev n) 0 none-current, skips-is)) opens-is)
+          (rw (
+            loads .test,
+            eq-eqb (waiting ev n) 0 none-waits,
+            eq-eqb
+                (current ev n) 0 none-current,
+            skips-is,
+          )) opens-is)
 
   -- ---- the step of kind 4, which is no issue, no commit and no skip
 

@@ -291,8 +291,8 @@ module _ (ev : ℕ → Event) (n : ℕ) (w : World) (sim : Sim ev n w) (passes :
     regions-same : (u : ℕ) → u < 8 → regionOf tables′ u ≡ regionOf loadedTables u
     regions-same u few-u = its-commit .regions-same u few-u ∙ its-issue .regions-same u few-u
 
-    -- what the store and its link write into rows other than column 12: of the event's own, its location and the head that
-    -- its load found
+    -- what the store and its link write into rows other than column 12: of the event's own, its location and the head
+    -- that its load found
     row-stays : (p k : ℕ) → 1 ≤ p → p < n → k < 16 → k ≢ 12 → getRow l′ p k ≡ getRow loadedWork p k
     unfolding exchangedWork issuedWork
     row-stays p k from-one early low other =
@@ -304,7 +304,8 @@ module _ (ev : ℕ → Event) (n : ℕ) (w : World) (sim : Sim ev n w) (passes :
     held-before =
         set-column sourced row n begins n-small 14 (getD withStore (lastCell x) 0) n 15 (omega arith) (omega arith)
         (λ same. omega arith)
-        ∙ set-column written row n begins n-small 13 (source ev n) n 15 (omega arith) (omega arith) (λ same. omega arith)
+        ∙ set-column written row n begins n-small 13 (source ev n) n 15 (omega arith) (omega arith)
+        (λ same. omega arith)
         ∙ written-beside row n begins n-small loadedTables t _ few x _ _ loadedWork n 15 (omega arith) (omega arith)
 
     own-stays : StillHeld ev loadedWork l′ n

@@ -2,7 +2,7 @@
 -- `Sim`: then flushes, fences, skips, opens and closes, which change nothing else but whether a thread is in a skip or
 -- open.
 use mathlib.Core.Path.{_≡_, refl, sym, _∙_}
-use mathlib.Core.Bool.{Bool, false, _&&_}
+use mathlib.Core.Bool.{Bool, false}
 use mathlib.Core.List.{List, []}
 use Prim.Native.Nat.{ℕ, suc, _≤_, _<_}
 use native.Mathlib.Omega.{arith}
@@ -18,7 +18,7 @@ use Rattle.model.proofs.Acceptance.{passed}
 use Rattle.model.proofs.Unchanged.{opened-on, opened-off}
 use Rattle.model.proofs.Holding.{held-else, held-closed}
 use Rattle.record.specs.Table.{rowOf}
-use Rattle.area.specs.Cells.{getRow, noStore}
+use Rattle.area.specs.Cells.{noStore}
 use Rattle.machine.specs.declared.regions.Region.{Region}
 use Rattle.machine.specs.Regions.{beganR, endedR, putRegion}
 use Rattle.machine.specs.Threads.{skippedT, putSkip}

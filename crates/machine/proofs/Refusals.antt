@@ -19,7 +19,8 @@ use Rattle.model.specs.Rules.{answer, rules, refusal}
 use Rattle.model.proofs.Searching.{same-test}
 use Rattle.machine.specs.Arms.{byKind}
 use Rattle.machine.specs.Twin.{World, threadAt, regionAt, fitsW, signalledW}
-use Rattle.machine.specs.Turning.{empty, onThread, onPlace, onNew, refusalK, refusalW, beginRule, beginK, beginRefusal}
+use Rattle.machine.specs.Turning.{empty, onThread, onPlace, onNew, refusalK, refusalW, beginRule, beginK}
+use Rattle.machine.specs.Turning.{beginRefusal}
 use Rattle.machine.specs.Sim.{issued, done, Sim}
 use Rattle.machine.proofs.Searches.{none-oldest, fits-is}
 use Rattle.machine.proofs.HandOver.{signalled-found}
@@ -280,7 +281,8 @@ module _ (ev : ℕ → Event) (n : ℕ) (w : World) (sim : Sim ev n w) where
 
   -- the version knows the kind
   on-new : (r r′ : ℕ) → r ≡ r′ → onNew (w .state) r ≡ newRule ev n begun r′
-  on-new r r′ same = rw (same, sim .numbers .version-is, ltb-not (version ev) 2) (chosen (not (leb 2 (version ev))) 3 r′)
+  on-new r r′ same =
+      rw (same, sim .numbers .version-is, ltb-not (version ev) 2) (chosen (not (leb 2 (version ev))) 3 r′)
 
   opened-is : (t a r : ℕ) → t < 8 → (regionAt w t .opened gives a else r) ≡ cond (opened ev n t) a r
   opened-is t a r few = rw (sim .regions t few .opened-is) (chosen (opened ev n t) a r)

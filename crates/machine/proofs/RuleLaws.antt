@@ -242,7 +242,8 @@ pub plain-stays :
     → plainIn (set tables (sourceCell x) s) t ≡ (not (threadOf tables t .skip) && not (regionOf tables t .opened))
 unfolding threadOf regionOf
 plain-stays tables t x s few =
-    rw (getD-set-other tables (sourceCell x) (threadCell t 12) s 0 (λ same. omega arith)) (plain-is (ofThread tables t 12))
+    rw (getD-set-other tables (sourceCell x) (threadCell t 12) s 0 (λ same. omega arith))
+    (plain-is (ofThread tables t 12))
 
 -- ---- a crossing load, behind the step r that does not hold it yet
 

@@ -15,7 +15,6 @@ use Rattle.record.specs.declared.events.Event.the-variants.{Signal, Wait, Open,
 use Rattle.record.specs.Events.{kindOf}
 use Rattle.record.specs.Fields.{fieldsOf}
 use Rattle.record.specs.Table.{rowOf}
-use Rattle.record.specs.Tests.{_gives_else_}
 use Rattle.model.specs.Trace.{kind, thread, outcome, load?, open?, close?}
 use Rattle.model.specs.Trace as trace
 use Rattle.model.specs.Machine.{waiting, current, skipping, opened, countable, held, counting}
@@ -75,7 +74,8 @@ module _ (ev : ℕ → Event) (n : ℕ) (w : World) (sim : Sim ev n w) (passes :
         no-crash = rw kind-is refl;
         no-signal = rw kind-is refl;
       })
-      (rw kind-is refl) (rw kind-is refl) (rw kind-is refl) (rw kind-is refl) (few-own ev n (sim .limits) passes (rw kind-is refl))
+      (rw kind-is refl) (rw kind-is refl) (rw kind-is refl) (rw kind-is refl)
+      (few-own ev n (sim .limits) passes (rw kind-is refl))
       (skipping-on ev n (rw kind-is refl))
 
   next-of-off : kind ev n ≡ 11 → Sim ev (suc n) (stepK w 11 (fieldsOf (ev n)))
@@ -88,7 +88,8 @@ module _ (ev : ℕ → Event) (n : ℕ) (w : World) (sim : Sim ev n w) (passes :
         no-crash = rw kind-is refl;
         no-signal = rw kind-is refl;
       })
-      (rw kind-is refl) (rw kind-is refl) (rw kind-is refl) (rw kind-is refl) (few-own ev n (sim .limits) passes (rw kind-is refl))
+      (rw kind-is refl) (rw kind-is refl) (rw kind-is refl) (rw kind-is refl)
+      (few-own ev n (sim .limits) passes (rw kind-is refl))
       (skipping-off ev n (rw kind-is refl))
 
   next-of-locked : kind ev n ≡ 12 → Sim ev (suc n) (stepK w 12 (fieldsOf (ev n)))
@@ -164,7 +165,8 @@ module _ (ev : ℕ → Event) (n : ℕ) (w : World) (sim : Sim ev n w) (passes :
       held-some h (e ∷ es) links = rw (links .0, ne-eqb e 0 (links .1 .some-load)) refl
 
       by-outcome :
-          (one : Bool) (b : Bool) (es : List ℕ) → b ≡ some? es → (one && b) ≡ some? (cond one es (cond false (n ∷ []) []))
+          (one : Bool) (b : Bool) (es : List ℕ) → b ≡ some? es → (one && b) ≡ some?
+          (cond one es (cond false (n ∷ []) []))
       by-outcome true b es is = is
       by-outcome false b es is = refl
 

@@ -142,7 +142,8 @@ module _ (ev : ℕ → Event) (passes : refusal ev 0 ≡ 0) where
     }
 
     start-with :
-        length tables ≡ 3008 → 32768 ≤ length l → Sim ev 1 (world (started (version ev) (threads ev) (locations ev)) tables l)
+        length tables ≡ 3008 → 32768 ≤ length l → Sim ev 1
+        (world (started (version ev) (threads ev) (locations ev)) tables l)
     start-with size room = record {
       numbers = record {
         row-is = omega arith;

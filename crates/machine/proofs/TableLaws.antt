@@ -15,7 +15,6 @@ use Rattle.model.proofs.Searching.{same?, same-test}
 use Rattle.area.specs.Cells.{eventAt}
 use Rattle.machine.specs.declared.threads.Thread.{Thread}
 use Rattle.machine.specs.Tables.{lastCell, commitsCell, newestCell, stretchCell}
-use Rattle.model.specs.Search.{bit}
 use Rattle.machine.specs.Threads.{fresh, issuedT, committedT, skippedT, crashedT, threadOf, ofThread}
 use Rattle.machine.specs.Threads.{putIssued, putCommitted, skipSet, putSkip, unseen, restarted}
 use Rattle.machine.specs.declared.regions.Region.{Region}

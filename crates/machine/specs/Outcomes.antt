@@ -1,7 +1,7 @@
 -- What the code's functions give for an event: the rule that turns it away first, or its effect. What a step leaves is
 -- the state that it hands back, the machine's tables and the work area.
 use Prim.Native.Nat.{ℕ, _+_}
-use mathlib.Core.Bool.{Bool, false, not}
+use mathlib.Core.Bool.{Bool, false}
 use mathlib.Core.List.{List}
 use lib.Dec.{eqb}
 use lib.ListN.{set}
@@ -11,10 +11,12 @@ use Rattle.machine.specs.declared.state.Step.{Step}
 use Rattle.machine.specs.Arms.{byKind}
 use Rattle.machine.specs.declared.state.Machine.{Machine}
 use Rattle.machine.specs.Tables.{sourceCell}
-use Rattle.machine.specs.Twin.{State, World, world, threadAt, regionAt, lastW, hereW, admitsW}
+use Rattle.machine.specs.Twin.{State, World, world, regionAt, lastW, hereW, admitsW}
 use Rattle.machine.specs.Turning.{commitRule, loadRule, lockedRule, fenceRule, crashRule, skipRule, signalRule}
-use Rattle.machine.specs.Turning.{waitRule, openRule, closeRule, closeCounts, onThread, onPlace, onNew, atOnceW, countedW}
-use Rattle.machine.specs.Effects.{issueW, commitW, passWith, passW, meetW, crossW, loadW, lockedW, crashW, skipW, signalW}
+use Rattle.machine.specs.Turning.{waitRule, openRule, closeRule, closeCounts, onThread, onPlace, onNew, atOnceW}
+use Rattle.machine.specs.Turning.{countedW}
+use Rattle.machine.specs.Effects.{issueW, commitW, passWith, passW, meetW, crossW, loadW, lockedW, crashW, skipW}
+use Rattle.machine.specs.Effects.{signalW}
 use Rattle.machine.specs.Effects.{openW, closeW}
 
 pub record Outcome : Type 0 where
@@ -101,7 +103,9 @@ abbrev pub openO : World → ℕ → Outcome
 openO w t = byRule (onNew (w .state) (onThread (w .state) t (openRule w t))) w false (openW w t)
 
 abbrev pub closeO : World → ℕ → ℕ → Outcome
-closeO w t o = byRule (onNew (w .state) (onThread (w .state) t (closeRule w t o))) w (closeCounts o (regionAt w t .newest)) (closeW w t)
+closeO w t o =
+    byRule (onNew (w .state) (onThread (w .state) t (closeRule w t o))) w (closeCounts o (regionAt w t .newest))
+    (closeW w t)
 
 -- a later event: a begin, and what is no kind, is turned away by 5
 unfoldable pub stepO : World → ℕ → Fields → Outcome

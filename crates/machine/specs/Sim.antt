@@ -94,8 +94,8 @@ module _ (ev : ℕ → Event) where
 
   -- ---- the tables and the rows
 
-  -- the chain of location x begins with the last store committed there, and the stretch of that commit stands beside it;
-  -- its stores were committed one before the other, before event n
+  -- the chain of location x begins with the last store committed there, and the stretch of that commit stands beside
+  -- it; its stores were committed one before the other, before event n
   pub record Chain (n x : ℕ) (tables l : List ℕ) : Type 0 where
     pub links : Linked l (getD tables (lastCell x) 0) (landed ev n x)
     pub falls : Falls l (16 * (n - 1)) (landed ev n x)

@@ -40,8 +40,8 @@ fn head(tables: &mut Tables, p: u16, x: u16, j: u16)
     tables[tables::stretch(x)] = j;
 }
 
-// "the oldest waiting store of the thread takes effect": it heads its location's chain, links to the head so far, and keeps
-// where the row of this event begins.
+// "the oldest waiting store of the thread takes effect": it heads its location's chain, links to the head so far, and
+// keeps where the row of this event begins.
 pub(crate) fn commit(tables: &mut Tables, work: &mut [u16], row: usize, t: u16, j: u16)
     requires { ⌜ (t < 8) × (row < 32768) × (row + 16 ≤ length (now work)) ⌝ }
     ensures { λ _. ⌜ now (tables .exit) ≡ committedTables (now (tables .entry)) (now (work .entry)) t j ⌝ }
@@ -104,8 +104,8 @@ pub(crate) fn meet(tables: &mut Tables, work: &mut [u16], row: usize, t: u16, s:
     area::no_store(work, row);
 }
 
-// A crossing load of thread t, which is open, at location x from s is held: its row has its location and source, the last
-// store committed there, and the load held before it.
+// A crossing load of thread t, which is open, at location x from s is held: its row has its location and source, the
+// last store committed there, and the load held before it.
 pub(crate) fn hold(tables: &mut Tables, work: &mut [u16], row: usize, t: u16, x: u16, s: u16)
     requires { ⌜ (t < 8) × (x < 256) × (row < 32768) × (row + 16 ≤ length (now work)) ⌝ }
     ensures { λ _. ⌜ now (tables .exit) ≡ heldTables (now (tables .entry)) row t ⌝ }

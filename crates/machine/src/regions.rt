@@ -1,5 +1,5 @@
-// A thread's region under a checksum: whether the thread is open, and the loads that it holds, columns 12 and 13 of its row.
-// The methods hand the new state back. The held loads are linked in the work area; here is the newest.
+// A thread's region under a checksum: whether the thread is open, and the loads that it holds, columns 12 and 13 of its
+// row. The methods hand the new state back. The held loads are linked in the work area; here is the newest.
 ghost use mathlib.Core.Path.{_≡_};
 ghost use Prim.Native.Nat.{_<_};
 ghost use Rattle.machine.specs.Regions.{beganR, heldR, endedR, crashedR, regionOf, plainIn};
@@ -9,7 +9,8 @@ use crate::tables::Tables;
 
 pub struct Region {
     pub opened: bool,
-    // The newest load that is held, 0 if there is none. A close leaves it, for the judge to count the loads from there on.
+    // The newest load that is held, 0 if there is none. A close leaves it, for the judge to count the loads from there
+    // on.
     pub newest: u16,
 }
 

@@ -7,7 +7,7 @@ ghost use Prim.Native.Nat.{ℕ, _+_, _≤_, _<_};
 ghost use lib.ListN.{length};
 ghost use Rattle.machine.specs.Twin.{stateOf, world, admits, admitted};
 ghost use Rattle.machine.specs.Turning.{Fits};
-ghost use Rattle.machine.specs.Outcomes.{outcome, issueO, commitO, onlyO, plainO, acrossO, memoryO, loadO};
+ghost use Rattle.machine.specs.Outcomes.{outcome, issueO, commitO, onlyO, plainO, memoryO, loadO};
 ghost use Rattle.machine.specs.Outcomes.{flushO, fenceO, crashO, skipO, signalO, waitO, openO};
 ghost use Rattle.machine.specs.Outcomes.{lockedO, closeO, stepO};
 ghost use Rattle.machine.specs.Effects.{asideTables, asideWork};
@@ -110,8 +110,8 @@ fn load_across(
     m.pass(regions::is_plain(tables, t))
 }
 
-// Behind a crossing load that does not count: if it passed, and its thread is in no skip, the thread is open, and the load
-// is held. This hands nothing back, and is asked where a load does not count: so it costs other loads nothing.
+// Behind a crossing load that does not count: if it passed, and its thread is in no skip, the thread is open, and the
+// load is held. This hands nothing back, and is asked where a load does not count: so it costs other loads nothing.
 fn set_aside(
     tables: &mut Tables,
     work: &mut [u16],

@@ -77,8 +77,22 @@ module _ (ev : ℕ → Event) where
     passed n inside = by-number (passes (rules ev n) (accepted .passes n inside))
       where
         by-number : Passes (rules ev n) → Passed n
-        by-number
-            (no-3, (no-1, (no-5, (no-13, (no-6, (no-7, (no-8, (no-11, (no-9, (no-10, (no-12, (no-18, (no-19, (no-12-open, end)))))))))))))) =
+        by-number (
+          no-3,
+          (
+            no-1,
+            (
+              no-5,
+              (
+                no-13,
+                (
+                  no-6,
+                  (no-7, (no-8, (no-11, (no-9, (no-10, (no-12, (no-18, (no-19, (no-12-open, end))))))))),
+                ),
+              ),
+            ),
+          ),
+        ) =
             record {
               no-3 = no-3;
               no-1 = no-1;

@@ -287,7 +287,9 @@ module _
           ))
           (λ other. rw (counting-role .same e, other))
 
-      all-held : close? part e ≡ true → held whole n (thread whole n) ≡ map (via .loads .number) (held part e (thread part e))
+      all-held :
+          close? part e ≡ true
+          → held whole n (thread whole n) ≡ map (via .loads .number) (held part e (thread part e))
       all-held close =
           rw (via .closing .thread-same e close)
           (held-kept n (thread part e) (via .closing .thread-own e close) ∙ rw (via .loads .kept-number e))
@@ -329,7 +331,8 @@ module _
       }
     where
       -- a gap that closes is of a thread that is not the part's, and so is what it held
-      own-thread : Held whole (it .as-of) (thread whole (it .as-of)) l → threadsBy .own? (thread whole (it .as-of)) ≡ true
+      own-thread :
+          Held whole (it .as-of) (thread whole (it .as-of)) l → threadsBy .own? (thread whole (it .as-of)) ≡ true
       own-thread held-there =
           let k = via .loads .kept l in
           let is-l : via .loads .number k ≡ l = via .loads .number-kept l load in

@@ -92,8 +92,8 @@ module _ (ev : ℕ → Event) where
       by-open (inl is-open) (inl holds) earlier here =
           by-first holds (or-cases (eqb l n) _ (rw (is-open, holds) at here)) earlier
 
-  -- as a relation: a crossing load in no skip of the thread, which has been open from then on. An open when open is turned away, so
-  -- that is since one open
+  -- as a relation: a crossing load in no skip of the thread, which has been open from then on. An open when open is
+  -- turned away, so that is since one open
   pub record HeldSince (n t l : ℕ) : Type 0 where
     pub early : l < n
     pub is-countable : countable ev l ≡ true

@@ -32,7 +32,8 @@ use Rattle.model.specs.Answers.{tabulate, cutOf, sum, shareOf}
 use Rattle.model.specs.Answers as answers
 use Rattle.model.specs.Judge.{smallWork, wrongCut, ruledAnswer, readingAnswer, readingCut, judgeOf, cutAfter}
 use Rattle.model.proofs.Searching.{false-true, same?, less?, parts}
-use Rattle.model.proofs.TurnedAway.{ends-there, in-trace-one, unread-there, forbidden-there, passing-there, ended→}
+use Rattle.model.proofs.TurnedAway.{ends-there, in-trace-one, unread-there, forbidden-there, passing-there}
+use Rattle.model.proofs.TurnedAway.{ended→}
 use Rattle.model.proofs.TurnedAway.{four-bytes-each, accepted-exactly, turned-away-exactly}
 
 -- ---- accepted with no records
@@ -226,7 +227,8 @@ module _ (bytes : List ℕ) where
     earlier-pass = λ i l. absurd (omega arith);
     number =
         forbidden-there bytes 0 (it .other) (it .next) (it .is-read) 1
-        (rw (first-known (events bytes), it .is-read, ne-eqb (kindOf (it .other)) 1 (it .no-begin)) refl) (λ z. omega arith);
+        (rw (first-known (events bytes), it .is-read, ne-eqb (kindOf (it .other)) 1 (it .no-begin)) refl)
+        (λ z. omega arith);
   }
 
   -- "1 IN JUDGING ONLY FOR BYTES THAT BEGIN WITH SOME OTHER RECORD", AND FOR ALL OF THESE

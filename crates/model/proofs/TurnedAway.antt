@@ -67,7 +67,8 @@ module _ (bytes : List ℕ) where
     -- a number by which reading refuses a record stays one, and 0 stays 0; 1 comes of 1 alone
     in-trace-some : (k : ℕ) → k ≢ 0 → inTrace bytes n k ≢ 0
     unfolding laterRefusal
-    in-trace-some k some none = by-tests (ltb 0 n) (eqb k 4 && newAt (version (events bytes)) bytes (start bytes n)) none
+    in-trace-some k some none =
+        by-tests (ltb 0 n) (eqb k 4 && newAt (version (events bytes)) bytes (start bytes n)) none
       where
         by-tests : (later unknown : Bool) → (later gives (unknown gives 3 else k) else k) ≡ 0 → ⊥
         by-tests false unknown none = some none
@@ -114,7 +115,8 @@ module _ (bytes : List ℕ) where
       pub forbidden-there :
           (k : ℕ) → refusal (events bytes) n ≡ k → k ≢ 0 → recordAt bytes n ≡ refusedBy k
       unfolding recordAt
-      forbidden-there k forbids some-number = rw (not-ended read-inside, is, in-trace-none, forbids, ne-eqb k 0 some-number)
+      forbidden-there k forbids some-number =
+          rw (not-ended read-inside, is, in-trace-none, forbids, ne-eqb k 0 some-number)
 
       pub passing-there : refusal (events bytes) n ≡ 0 → recordAt bytes n ≡ passing
       unfolding recordAt

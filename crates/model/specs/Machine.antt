@@ -103,8 +103,8 @@ module _ (ev : ℕ → Event) where
   abbrev pub skipping : ℕ → ℕ → Bool
   skipping n t = switched (skipOn? ev) (skipOff? ev) n t
 
-  -- "A crossing load in a skip is checked but not counted; all other crossing loads count", or are held. No choice has a
-  -- say in it: "a load stays counted even if the choice cuts its own thread short"
+  -- "A crossing load in a skip is checked but not counted; all other crossing loads count", or are held. No choice has
+  -- a say in it: "a load stays counted even if the choice cuts its own thread short"
   unfoldable pub countable : ℕ → Bool
   countable n = crossing n && not (skipping n (thread ev n))
 
@@ -114,8 +114,8 @@ module _ (ev : ℕ → Event) where
   abbrev pub opened : ℕ → ℕ → Bool
   opened n t = switched (open? ev) (close? ev) n t
 
-  -- "A thread's crossing loads in between are held"; "A load in a skip is never held": the loads that thread t holds before
-  -- event n, the newest first. A thread that is not open holds none: a crash "drops them"
+  -- "A thread's crossing loads in between are held"; "A load in a skip is never held": the loads that thread t holds
+  -- before event n, the newest first. A thread that is not open holds none: a crash "drops them"
   unfoldable pub held : ℕ → ℕ → List ℕ
   held zero t = []
   held (suc n) t =
@@ -127,8 +127,8 @@ module _ (ev : ℕ → Event) where
   abbrev pub confirms? : ℕ → Bool
   confirms? n = close? ev n && eqb (outcome ev n) 1
 
-  -- the loads that count as of event n: at such a close those that its thread holds; a load whose thread is not open, as
-  -- of itself. "the trace's end drops" what is still held, since no event counts it
+  -- the loads that count as of event n: at such a close those that its thread holds; a load whose thread is not open,
+  -- as of itself. "the trace's end drops" what is still held, since no event counts it
   unfoldable pub counting : ℕ → List ℕ
   counting n =
       cond (confirms? n) (held n (thread ev n))

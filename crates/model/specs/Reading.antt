@@ -86,9 +86,9 @@ passing? passing = true
 unfoldable pub stop : List ℕ → ℕ
 stop bytes = first (suc (length bytes)) (λ e. not (passing? (recordAt bytes e)))
 
--- "A trace is accepted if no refusal over its records (1 to 13 here) applies", to which document 02, jobs 4 and 7, add 18
--- and 19: accepted, with the number of its records, 0 of no bytes; or turned away, with the refusal's number and the event
--- number
+-- "A trace is accepted if no refusal over its records (1 to 13 here) applies", to which document 02, jobs 4 and 7, add
+-- 18 and 19: accepted, with the number of its records, 0 of no bytes; or turned away, with the refusal's number and the
+-- event number
 pub data Reading : Type 0 where
   accepted : ℕ → Reading
   turnedAway : ℕ → ℕ → Reading

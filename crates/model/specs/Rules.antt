@@ -36,7 +36,8 @@ module _ (ev : ℕ → Event) where
       let f = fieldsOf (ev n) in
       within 1 2 (f .version) && within 1 8 (f .threads) && within 1 256 (f .locations)
 
-  -- what turns event n away: "3, wrong length, 1, 5, 13, 6, 7, 8, and the kind's own rule". "Each kind has its own rule."
+  -- what turns event n away: "3, wrong length, 1, 5, 13, 6, 7, 8, and the kind's own rule". "Each kind has its own
+  -- rule."
   unfoldable pub rules : ℕ → Rules
   rules n =
       -- "later in a version 1 trace they get 3"

@@ -63,8 +63,8 @@ module _ (ev : ℕ → Event) where
   abbrev pub locations : ℕ
   locations = fieldsOf (ev 0) .locations
 
-  -- the trace's version does not know its kind: "Read alone, or as a trace's first record, the two kinds are known; later
-  -- in a version 1 trace they get 3"
+  -- the trace's version does not know its kind: "Read alone, or as a trace's first record, the two kinds are known;
+  -- later in a version 1 trace they get 3"
   abbrev pub new? : ℕ → Bool
   new? e = not (knownIn version (kind e)) && ltb 0 e
 

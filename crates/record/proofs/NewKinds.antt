@@ -1,12 +1,11 @@
--- Which version of the format knows a kind: the ways of the code are the definition's cases. A record that is framed has
--- its kind within the bytes; past the end there is none.
+-- Which version of the format knows a kind: the ways of the code are the definition's cases. A record that is framed
+-- has its kind within the bytes; past the end there is none.
 use mathlib.Core.Path.{_≡_, refl}
-use mathlib.Core.Bool.{false, not}
+use mathlib.Core.Bool.{false}
 use mathlib.Core.Logic.{_≢_, _⊎_, inl, inr}
 use mathlib.Core.List.{List}
 use Prim.Native.Nat.{ℕ, _≤_, _<_}
 use native.Mathlib.Omega.{arith}
-use lib.Dec.{eqb}
 use lib.ListN.{length, drop, length-drop}
 use borrow.Author.Tests.{eq-eqb}
 use Rattle.record.specs.declared.reading.Frame.the-variants.{Size}

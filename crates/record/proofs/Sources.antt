@@ -9,7 +9,7 @@ use Prim.Native.Nat.{ℕ, _+_, _<_}
 use native.Mathlib.Omega.{arith}
 use native.Mathlib.Nat.{add-zero}
 use lib.Dec.{eqb}
-use lib.ListN.{length, drop, length-drop}
+use lib.ListN.{length, drop}
 use borrow.Author.Tests.{eq-eqb, ne-eqb, eqb-true}
 use Rattle.record.specs.declared.events.Event.{Event}
 use Rattle.record.specs.declared.events.Fields.{Fields}
@@ -20,7 +20,7 @@ use Rattle.record.specs.Events.{kindOf}
 use Rattle.record.specs.Fields.{threadIn, sourceIn, fieldAt, fieldsOf, fieldsAt}
 use Rattle.record.specs.Table.{kinds, rowOf, lengthOf}
 use Rattle.record.specs.Parts.{sizeAt, noSource, sourceIf, sourced?, sourceAt}
-use Rattle.record.specs.Reading.{frame, readAt, readFirst}
+use Rattle.record.specs.Reading.{readAt, readFirst}
 use Rattle.record.specs.Tests.{_gives_else_}
 use Rattle.record.proofs.Computed.{everywhere, else-at}
 use Rattle.record.proofs.Frames.{read→}

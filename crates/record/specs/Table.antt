@@ -4,8 +4,8 @@ use Prim.Native.Nat.{ℕ}
 use lib.ListN.{getD}
 
 -- a row for each kind, at its number: kind, length, and the offsets in the record of its thread, location and source,
--- then of a begin's version, threads and locations, then of a close's outcome; last the first version of the format that
--- knows the kind; offset 0: no such field; length 0: no such kind
+-- then of a begin's version, threads and locations, then of a close's outcome; last the first version of the format
+-- that knows the kind; offset 0: no such field; length 0: no such kind
 abbrev pub kinds : List (List ℕ)
 kinds =
     (0 ∷ 0 ∷ 0 ∷ 0 ∷ 0 ∷ 0 ∷ 0 ∷ 0 ∷ 0 ∷ 0 ∷ [])
@@ -35,7 +35,7 @@ rowOf k = getD kinds k (getD kinds 0 [])
 abbrev pub lengthOf : ℕ → ℕ
 lengthOf k = getD (rowOf k) 1 0
 
--- the first version of the format that knows the kind: document 02, job 7, "Version 2 of the begin record admits kind 15
--- (open: thread, length 4) and kind 16 (close: thread, outcome, length 6)"; 0 where there is no such kind
+-- the first version of the format that knows the kind: document 02, job 7, "Version 2 of the begin record admits kind
+-- 15 (open: thread, length 4) and kind 16 (close: thread, outcome, length 6)"; 0 where there is no such kind
 abbrev pub sinceOf : ℕ → ℕ
 sinceOf k = getD (rowOf k) 9 0

@@ -189,7 +189,8 @@ fn positions() {
 }
 
 // Records as plain numbers: through B, a load and a crash, then at the end and inside records; a locked operation; a
-// wait; an open and a close, with their lengths and with others; then refusals 2, 3 and 4 with ten bytes and with fewer.
+// wait; an open and a close, with their lengths and with others; then refusals 2, 3 and 4 with ten bytes and with
+// fewer.
 fn scans() {
     title(b"scans");
     let trace =
@@ -254,8 +255,8 @@ fn parts() {
     parts_of(b"\x02\x00\x09\x00\x02\x00\x09");
 }
 
-// What refuses the record at a position behind the first, by the trace's version, where a number refuses it read alone: an
-// open of a wrong length behind B, a crash of one, a close whose bytes are missing, and the end.
+// What refuses the record at a position behind the first, by the trace's version, where a number refuses it read alone:
+// an open of a wrong length behind B, a crash of one, a close whose bytes are missing, and the end.
 fn versions() {
     title(b"versions");
     let trace =

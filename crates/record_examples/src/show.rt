@@ -183,8 +183,8 @@ pub fn scan(s: &[u8]) {
     numbers(record::scan_at(s, 0));
 }
 
-// The numbers of the record at a position: its kind, its fields (thread, location, source, version, threads, locations and
-// outcome) and the position past it.
+// The numbers of the record at a position: its kind, its fields (thread, location, source, version, threads, locations
+// and outcome) and the position past it.
 pub fn scan_from(s: &[u8], at: usize) {
     say(b"scan at");
     number(at as u64);

@@ -22,7 +22,8 @@ returns c =
     λ ev stepped load at-x.
     c .row-get .ensures
     ∙ (ap (λ (e : ℕ). getRow (args .work .now) e 14) (at-event .event-at .ensures)
-    ∙ head-linked ev _ (args .kind) (args .x) (args .tables .now) (args .work .now) stepped load at-x (at-if1 .if1 .taken))
+    ∙ head-linked ev _ (args .kind) (args .x) (args .tables .now) (args .work .now) stepped load at-x
+    (at-if1 .if1 .taken))
 
 last-committed-requires : tie.Need-last-committed-requires
 last-committed-requires c κs = search needs

@@ -1,5 +1,5 @@
 -- An event as of which nothing counts changes nothing; a close counts what its thread holds, any other load itself.
-use mathlib.Core.Path.{refl, sym, ap, _∙_}
+use mathlib.Core.Path.{ap}
 use borrow.Author.Tests.{not-true, not-false}
 use Rattle.record.specs.declared.events.Fields.{Fields}
 use Rattle.judge.proofs.Judging.{match-uncounted, match-itself, match-close}
@@ -47,8 +47,10 @@ returns-3 c =
     let args = entry .args in
     λ ev stepped fields-are matching.
     let counts = rw (not-false (args .counted) (at-if1 .if1 .left)) at stepped in
-    match-itself ev _ (args .kind) (args .tables .now) (args .work .now) _ matching counts (args .f) fields-are (at-if2 .if2 .left) _
-    (at-head-found .head-found .ensures ev counts (at-if2 .if2 .left) (ap (λ (g : Fields). g .location) fields-are)) _ (c .judge-load .ensures)
+    match-itself ev _ (args .kind) (args .tables .now) (args .work .now) _ matching counts (args .f) fields-are
+    (at-if2 .if2 .left) _
+    (at-head-found .head-found .ensures ev counts (at-if2 .if2 .left) (ap (λ (g : Fields). g .location) fields-are)) _
+    (c .judge-load .ensures)
 
 pub judge-event-spec : {M : Type 1} → statement M
 judge-event-spec =

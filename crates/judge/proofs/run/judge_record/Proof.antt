@@ -39,7 +39,8 @@ returns c =
     at-refusal .refusal-of .ensures ∙ ap refusalOf (told .1)
     in
     rw (c .later-refusal .ensures, number)
-    (scanned-unread (args .trace .now) (args .version) (args .threads) (args .locations) (eventAt (args .t .row)) (args .t)
+    (scanned-unread (args .trace .now) (args .version) (args .threads) (args .locations) (eventAt (args .t .row))
+    (args .t)
     (args .tables .now) (marksOf (args .marks .now) (args .flags .now)) (args .work .now) (entry .pre) (told .0 .0)
     (sym (told .1) ∙ at-scan .scan-at .ensures))
 
@@ -62,7 +63,8 @@ returns-2 c =
     let entry = at-scan .before .before .before in
     let args = entry .args in
     let told = at-record .d .given in
-    scanned-forbidden (args .trace .now) (args .version) (args .threads) (args .locations) (eventAt (args .t .row)) (args .t)
+    scanned-forbidden (args .trace .now) (args .version) (args .threads) (args .locations) (eventAt (args .t .row))
+    (args .t)
     (args .tables .now) (marksOf (args .marks .now) (args .flags .now)) (args .work .now) (entry .pre) (told .0 .0)
     (sym (told .1) ∙ at-scan .scan-at .ensures) (at-step .step .result) _ _ (at-step .step .ensures)
     (λ none. omega arith) _ _ _
@@ -95,7 +97,8 @@ returns-3 c =
     let entry = at-scan .before .before .before in
     let args = entry .args in
     let told = at-record .d .given in
-    scanned-passes (args .trace .now) (args .version) (args .threads) (args .locations) (eventAt (args .t .row)) (args .t)
+    scanned-passes (args .trace .now) (args .version) (args .threads) (args .locations) (eventAt (args .t .row))
+    (args .t)
     (args .tables .now) (marksOf (args .marks .now) (args .flags .now)) (args .work .now) (entry .pre) (told .0 .0)
     (sym (told .1) ∙ at-scan .scan-at .ensures) (at-step .step .result) _ _ (at-step .step .ensures)
     (omega (arith, at-if1 .if1 .left)) _ (c .judge-event .ensures (events (args .trace .now)))

@@ -47,7 +47,8 @@ module _
 
 -- what is answered where the run is over before record n, by number k
 answered :
-    (bytes : List ℕ) (version threads locations n k : ℕ) (tables : List ℕ) (m : Marks) (work part cut₀ cut cut' : List ℕ)
+    (bytes : List ℕ) (version threads locations n k : ℕ) (tables : List ℕ) (m : Marks)
+    (work part cut₀ cut cut' : List ℕ)
     (end : End) (v : Verdict)
     → Stopped bytes version threads locations n k tables m work
     → length cut₀ ≡ 56
@@ -57,7 +58,8 @@ answered :
     → v ≡ verdictAfter bytes end tables m part
     → cut' ≡ cutFrom end (m .counts) cut
     → AnswersAsDefined bytes v work × (cut' ≡ readingCut bytes cut₀ (begunReading bytes))
-answered bytes version threads locations n k tables m work part cut₀ cut cut' end v stopped size lent all end-is v-is cut-is =
+answered bytes version threads locations n k tables m work part cut₀ cut cut' end v stopped size lent all end-is v-is
+    cut-is =
     rw (v-is, cut-is, end-is, all, lent) (
       stopped-answers bytes version threads locations n k tables m work stopped cut₀ size,
       stopped-with-cut bytes version threads locations n k tables m work stopped cut₀ size .1,
@@ -195,12 +197,14 @@ returns-2 c =
     let size = at-record .judge-record .kept .1 .1 .1 .1 .1 .1 .1 .1 .0 ∙ all-length (here .work) (here .inv .size) in
     let all = nothing-behind (here .work) after 32768 (here .inv .size) in
     let stopped =
-    ended-by bytes (b .version) (b .threads) (b .locations) (eventAt (here .t .row)) _ _ _ _ (at-record .judge-record .ensures)
+    ended-by bytes (b .version) (b .threads) (b .locations) (eventAt (here .t .row)) _ _ _ _
+    (at-record .judge-record .ensures)
     (told .0 .0) (told .1)
     in
     let number = at-number .number-in .ensures ∙ ap numberIn (told .1) in
     rw all
-    (answered bytes (b .version) (b .threads) (b .locations) _ _ _ _ after _ _ _ _ _ _ stopped (entry .pre .1) (here .inv .as-lent)
+    (answered bytes (b .version) (b .threads) (b .locations) _ _ _ _ after _ _ _ _ _ _ stopped (entry .pre .1)
+    (here .inv .as-lent)
     (ap (take 32768) all ∙ all-of after 32768 size) (rw (number, at-event .event-at .ensures) refl)
     (at-verdict .verdict .ensures .0) (at-verdict .verdict .ensures .1))
 
@@ -216,7 +220,8 @@ loop-less c =
     let told = at-next .r .given in
     less-left bytes (b .version) (b .threads) (b .locations) (eventAt (here .t .row)) (here .t) (here .tables)
     (marksOf (here .marks) (here .flags)) (here .work) (here .inv .reached) (told .0 .0) _ _ _
-    (went-on bytes (b .version) (b .threads) (b .locations) (eventAt (here .t .row)) _ _ _ _ (at-record .judge-record .ensures)
+    (went-on bytes (b .version) (b .threads) (b .locations) (eventAt (here .t .row)) _ _ _ _
+    (at-record .judge-record .ensures)
     (told .0 .0) (told .1))
 
 loop-again : tie.Need-loop-again Inv-loop μ-loop
@@ -234,7 +239,8 @@ loop-again c =
     at-record .judge-record .kept .1 .1 .1 .1 .1 .1 .1 .1 .0 ∙ all-length (here .work) (here .inv .size)
     in
     let next =
-    went-on bytes (b .version) (b .threads) (b .locations) (eventAt (here .t .row)) _ _ _ _ (at-record .judge-record .ensures)
+    went-on bytes (b .version) (b .threads) (b .locations) (eventAt (here .t .row)) _ _ _ _
+    (at-record .judge-record .ensures)
     (told .0 .0) (told .1)
     in
     rw (nothing-behind (here .work) after 32768 (here .inv .size))

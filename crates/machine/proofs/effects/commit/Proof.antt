@@ -43,7 +43,9 @@ head-requires c κs = search needs
 
 put-committed-requires : tie.Need-put-committed-requires
 put-committed-requires c κs =
-    let entry = c .before .before .before .before .before .before .before .before .before .before .before .before .before .before .before .before .before .before .before .before .before .before .before .before .before in
+    let at-last = c .before .before .before .before .before .before .before .before .before .before .before in
+    let at-commit = at-last .before .before .before .before .before .before in
+    let entry = at-commit .before .before .before .before .before .before .before .before in
     entry .pre .0
 
 same-length : tie.Need-same-length

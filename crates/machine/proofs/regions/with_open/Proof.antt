@@ -1,6 +1,5 @@
 -- By the new state.
 use mathlib.Core.Path.{refl}
-use borrow.Author.Tests.{not-true}
 use borrow.Author.Needs.{needs}
 use Rattle.machine.proofs.regions.with_open.Statement.{statement}
 use Rattle.machine.proofs.regions.with_open.Tie as tie

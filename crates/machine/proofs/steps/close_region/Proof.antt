@@ -12,7 +12,8 @@ refuse-requires : tie.Need-refuse-requires
 refuse-requires c κs = search needs
 
 returns : tie.Need-returns
-returns c = stopped _ _ _ _ _ _ _ _ _ (rw (lt-ltb _ 2 (c .before .if1 .taken)) refl) (λ is. omega arith) (c .refuse .ensures)
+returns c =
+    stopped _ _ _ _ _ _ _ _ _ (rw (lt-ltb _ 2 (c .before .if1 .taken)) refl) (λ is. omega arith) (c .refuse .ensures)
 
 thread-fits-requires : tie.Need-thread-fits-requires
 thread-fits-requires c κs = search needs
@@ -29,7 +30,8 @@ returns-2 c =
     let at-thread-fits = at-if2 .before in
     let at-if1 = at-thread-fits .before in
     rw (le-ltb _ 2 (at-if1 .if1 .left))
-    (turned-away _ _ _ _ _ _ _ _ _ _ _ _ (at-thread-fits .thread-fits .ensures .0) (at-if2 .if2 .taken) (c .before .place-refusal .ensures)
+    (turned-away _ _ _ _ _ _ _ _ _ _ _ _ (at-thread-fits .thread-fits .ensures .0) (at-if2 .if2 .taken)
+    (c .before .place-refusal .ensures)
     (c .refuse2 .ensures))
 
 region-of-requires : tie.Need-region-of-requires
@@ -52,7 +54,8 @@ returns-3 c =
     let at-if1 = at-thread-fits .before in
     let own = rw (at-region-of .region-of .ensures) at (at-close-rule .close-rule .ensures) in
     rw (le-ltb _ 2 (at-if1 .if1 .left))
-    (stopped _ _ _ _ _ _ _ _ _ (behind _ _ _ _ (at-thread-fits .thread-fits .ensures .0) (at-if2 .if2 .left) ∙ sym own) (c .before .if3 .taken)
+    (stopped _ _ _ _ _ _ _ _ _ (behind _ _ _ _ (at-thread-fits .thread-fits .ensures .0) (at-if2 .if2 .left) ∙ sym own)
+    (c .before .if3 .taken)
     (c .refuse3 .ensures))
 
 no-store-requires : tie.Need-no-store-requires
@@ -98,7 +101,8 @@ returns-4 c =
     let own = rw region at (at-close-rule .close-rule .ensures) in
     rw (le-ltb _ 2 (at-if1 .if1 .left))
     (passes (entry .args .m) _ _ _ _ _ _ _ _
-    (behind _ _ _ _ (at-thread-fits .thread-fits .ensures .0) (at-if2 .if2 .left) ∙ sym own ∙ omega (arith, at-if3 .if3 .left))
+    (behind _ _ _ _ (at-thread-fits .thread-fits .ensures .0) (at-if2 .if2 .left) ∙ sym own ∙ omega
+    (arith, at-if3 .if3 .left))
     (rw (at-put-region .put-region .ensures, at-end .end .ensures, region, at-no-store .no-store .ensures) refl)
     (rw (c .pass .ensures, c .before .close-counts .ensures, region) refl))
 

@@ -1,7 +1,7 @@
 -- The tests of the place, then the load rule's three cases.
-use mathlib.Core.Path.{sym, _∙_}
+use mathlib.Core.Path.{_∙_}
 use native.Mathlib.Omega.{arith}
-use borrow.Author.Tests.{not-false, eq-eqb, ne-eqb, not-true}
+use borrow.Author.Tests.{not-false, eq-eqb, ne-eqb}
 use Rattle.machine.proofs.RuleLaws.{row-inside, at-once, aside, turned-away, load-waits, load-here, load-crosses}
 use borrow.Author.Needs.{needs}
 use Rattle.machine.proofs.steps.load.Statement.{statement}
@@ -136,7 +136,8 @@ returns-4 c =
     let bounds = at-place-fits .place-fits .ensures .1 (not-false _ (at-if1 .if1 .left)) in
     let not-here = rw (at-stretch .stretch .ensures) at (ne-eqb _ _ (at-if3 .if3 .left)) in
     at-once _ _ _ _ _ _ _ (omega arith) _ _ _ (at-load-across .load-across .ensures) (c .if4 .taken)
-    ∙ load-crosses _ _ _ _ _ (at-place-fits .place-fits .ensures .0) (at-if1 .if1 .left) _ (at-waiting .waiting .ensures)
+    ∙ load-crosses _ _ _ _ _ (at-place-fits .place-fits .ensures .0) (at-if1 .if1 .left) _
+    (at-waiting .waiting .ensures)
     (omega (arith, at-if2 .if2 .left)) not-here
 
 set-aside-requires : tie.Need-set-aside-requires
@@ -167,7 +168,8 @@ returns-5 c =
     let not-here = rw (at-stretch .stretch .ensures) at (ne-eqb _ _ (at-if3 .if3 .left)) in
     aside _ _ _ _ _ _ _ (omega arith) _ _ _ (at-load-across .load-across .ensures) (at-if4 .if4 .left) _ _
     (at-set-aside .set-aside .ensures .0) (at-set-aside .set-aside .ensures .1)
-    ∙ load-crosses _ _ _ _ _ (at-place-fits .place-fits .ensures .0) (at-if1 .if1 .left) _ (at-waiting .waiting .ensures)
+    ∙ load-crosses _ _ _ _ _ (at-place-fits .place-fits .ensures .0) (at-if1 .if1 .left) _
+    (at-waiting .waiting .ensures)
     (omega (arith, at-if2 .if2 .left)) not-here
 
 pub load-spec : {M : Type 1} → statement M

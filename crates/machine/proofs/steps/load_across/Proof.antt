@@ -1,5 +1,5 @@
 -- The rule; behind it the source is noted, and brings no clock.
-use mathlib.Core.Path.{refl, sym, _∙_}
+use mathlib.Core.Path.{refl, _∙_}
 use native.Mathlib.Omega.{arith}
 use borrow.Author.Tests.{not-true, not-false}
 use Rattle.machine.proofs.RuleLaws.{row-inside, stopped, passes, source-noted, source-not-noted, plain-stays}
@@ -18,7 +18,9 @@ same-length c = search needs
 
 returns : tie.Need-returns
 returns c =
-    let off = rw (c .before .before .admit .ensures .0) at (not-true (c .before .before .admit .result) (c .before .if1 .taken)) in
+    let off =
+    rw (c .before .before .admit .ensures .0) at (not-true (c .before .before .admit .result) (c .before .if1 .taken))
+    in
     rw (c .before .before .admit .ensures .1 ∙ source-not-noted _ _ _ _ _ _ off)
     (stopped _ _ _ _ _ _ _ _ _ (rw off refl) (λ is. omega arith) (c .refuse .ensures))
 

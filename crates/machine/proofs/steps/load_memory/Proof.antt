@@ -1,6 +1,6 @@
 -- The load rule's last two cases.
-use mathlib.Core.Path.{sym, _∙_}
-use borrow.Author.Tests.{eq-eqb, ne-eqb, not-true, not-false}
+use mathlib.Core.Path.{_∙_}
+use borrow.Author.Tests.{eq-eqb, ne-eqb}
 use Rattle.machine.specs.Twin.{stateOf, world}
 use Rattle.machine.proofs.RuleLaws.{row-inside, memory-here, memory-crosses, at-once, aside}
 use borrow.Author.Needs.{needs}
@@ -85,7 +85,8 @@ returns-3 c =
     let args = entry .args in
     let w = world (stateOf (args .m) (args .row)) (args .tables .now) (args .work .now) in
     let here = rw (at-stretch .stretch .ensures) at (eq-eqb _ _ (at-if1 .if1 .left)) in
-    (rw (at-last .last .ensures) at (at-load-only .load-only .ensures)) ∙ memory-here w (args .t) (args .x) (args .s) here
+    (rw (at-last .last .ensures) at (at-load-only .load-only .ensures)) ∙ memory-here w (args .t) (args .x)
+    (args .s) here
 
 pub load-memory-spec : {M : Type 1} → statement M
 load-memory-spec =

@@ -1,5 +1,5 @@
 -- The rules, one after the other.
-use mathlib.Core.Path.{refl, sym, _∙_}
+use mathlib.Core.Path.{refl, _∙_}
 use native.Mathlib.Omega.{arith}
 use borrow.Author.Tests.{not-false, lt-ltb, le-ltb}
 use Rattle.machine.specs.Effects.{openW}
@@ -12,7 +12,8 @@ refuse-requires : tie.Need-refuse-requires
 refuse-requires c κs = search needs
 
 returns : tie.Need-returns
-returns c = stopped _ _ _ _ _ _ _ _ _ (rw (lt-ltb _ 2 (c .before .if1 .taken)) refl) (λ is. omega arith) (c .refuse .ensures)
+returns c =
+    stopped _ _ _ _ _ _ _ _ _ (rw (lt-ltb _ 2 (c .before .if1 .taken)) refl) (λ is. omega arith) (c .refuse .ensures)
 
 thread-fits-requires : tie.Need-thread-fits-requires
 thread-fits-requires c κs = search needs
@@ -29,7 +30,8 @@ returns-2 c =
     let at-thread-fits = at-if2 .before in
     let at-if1 = at-thread-fits .before in
     rw (le-ltb _ 2 (at-if1 .if1 .left))
-    (turned-away _ _ _ _ _ _ _ _ _ _ _ _ (at-thread-fits .thread-fits .ensures .0) (at-if2 .if2 .taken) (c .before .place-refusal .ensures)
+    (turned-away _ _ _ _ _ _ _ _ _ _ _ _ (at-thread-fits .thread-fits .ensures .0) (at-if2 .if2 .taken)
+    (c .before .place-refusal .ensures)
     (c .refuse2 .ensures))
 
 region-of-requires : tie.Need-region-of-requires
@@ -48,7 +50,8 @@ returns-3 c =
     let at-if1 = at-thread-fits .before in
     rw (le-ltb _ 2 (at-if1 .if1 .left))
     (stopped _ _ _ _ _ _ _ _ _
-    (behind _ _ _ _ (at-thread-fits .thread-fits .ensures .0) (at-if2 .if2 .left) ∙ rw (← at-region-of .region-of .ensures, c .before .if3 .taken) refl)
+    (behind _ _ _ _ (at-thread-fits .thread-fits .ensures .0) (at-if2 .if2 .left) ∙ rw
+    (← at-region-of .region-of .ensures, c .before .if3 .taken) refl)
     (λ is. omega arith) (c .refuse3 .ensures))
 
 no-store-requires : tie.Need-no-store-requires
@@ -87,8 +90,10 @@ returns-4 c =
     let region = at-region-of .region-of .ensures in
     rw (le-ltb _ 2 (at-if1 .if1 .left))
     (passes _ _ _ _ _ _ _ _ _
-    (behind _ _ _ _ (at-thread-fits .thread-fits .ensures .0) (at-if2 .if2 .left) ∙ rw (← region, at-if3 .if3 .left) refl)
-    (rw (c .before .put-region .ensures, at-begin .begin .ensures, region, at-no-store .no-store .ensures) refl) (c .pass .ensures))
+    (behind _ _ _ _ (at-thread-fits .thread-fits .ensures .0) (at-if2 .if2 .left) ∙ rw
+    (← region, at-if3 .if3 .left) refl)
+    (rw (c .before .put-region .ensures, at-begin .begin .ensures, region, at-no-store .no-store .ensures) refl)
+    (c .pass .ensures))
 
 pub open-region-spec : {M : Type 1} → statement M
 open-region-spec =

@@ -1,7 +1,6 @@
 -- A load that was turned away or is in a skip changes nothing; any other is held.
-use mathlib.Core.Path.{refl, sym, _∙_}
-use native.Mathlib.Omega.{arith}
-use borrow.Author.Tests.{eq-eqb, ne-eqb, not-true}
+use mathlib.Core.Path.{refl}
+use borrow.Author.Tests.{eq-eqb, ne-eqb}
 use Rattle.machine.specs.Effects.{asideTables, asideWork}
 use borrow.Author.Needs.{needs}
 use Rattle.machine.proofs.steps.set_aside.Statement.{statement}

@@ -46,8 +46,10 @@ returns-2 c =
     let at-row-get3 = at-repeats .before .before in
     let at-row-get2 = at-row-get3 .before in
     let at-row-get = at-row-get2 .before in
-    held-new _ _ _ _ _ _ _ (at-row-get .row-get .ensures) (at-row-get2 .row-get2 .ensures) (at-row-get3 .row-get3 .ensures) (at-repeats .repeats .ensures)
-    _ _ _ _ (at-if1 .if1 .left) (at-start .start .ensures) (at-deepest .deepest .ensures) (at-note .note .ensures) (c .mark-from .ensures)
+    held-new _ _ _ _ _ _ _ (at-row-get .row-get .ensures) (at-row-get2 .row-get2 .ensures)
+    (at-row-get3 .row-get3 .ensures) (at-repeats .repeats .ensures)
+    _ _ _ _ (at-if1 .if1 .left) (at-start .start .ensures) (at-deepest .deepest .ensures) (at-note .note .ensures)
+    (c .mark-from .ensures)
 
 pub mark-held-spec : {M : Type 1} → statement M
 mark-held-spec =
