@@ -1,5 +1,5 @@
 -- The mathematics that the functions' proofs cite, and the theorems about the definitions: RoundTrips, Starts, Fronts
--- and Scans. TakesApart and GoesThrough have the walks that the reader's functions share.
+-- and Scans.
 pub mod Computed
 pub mod Rows
 pub mod Frames
@@ -10,5 +10,3 @@ pub mod NewKinds
 pub mod Fronts
 pub mod Scans
 pub mod Sources
-pub mod TakesApart
-pub mod GoesThrough

@@ -7,7 +7,7 @@ ghost use Rattle.record.specs.Answers.{named};
 use crate::kinds::{LENGTH, row_of};
 
 // An event of a trace: a variant for each kind of record, with the record's fields.
-#[derive(Drop)]
+#[derive(Clone, Copy)]
 pub enum Event {
     Begin {
         version: u16,
@@ -73,7 +73,7 @@ pub enum Event {
 }
 
 // The values of an event's fields; 0 where its kind has no such field.
-#[derive(Drop)]
+#[derive(Clone, Copy)]
 pub struct Fields {
     pub thread: u16,
     pub location: u16,
@@ -85,7 +85,7 @@ pub struct Fields {
 }
 
 // What a kind's number and fields name: the event, or nothing where the table has no such kind (refusal 3).
-#[derive(Drop)]
+#[derive(Clone, Copy)]
 pub enum Named {
     Known(Event),
     NoKind,

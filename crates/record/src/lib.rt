@@ -4,6 +4,8 @@
 // This layer knows nothing of threads or crashes: a field's value may be anything from 0 to 65,535. Every public call
 // takes any input, always returns, and has no `requires`; its answer, and every byte lent for writing, is an equation
 // with a definition of specs/. Behind a shared reference nothing can change.
+#![tactic(auto)]
+
 mod bytes;
 mod events;
 mod kinds;

@@ -21,7 +21,7 @@ pub(crate) fn size_at(trace: &[u8], at: usize) -> usize
 }
 
 // Where a record stands in its trace: the position of its length bytes, and its size with them.
-#[derive(Drop)]
+#[derive(Clone, Copy)]
 pub struct Place {
     pub start: usize,
     pub size: usize,
@@ -58,7 +58,7 @@ pub fn part(trace: &[u8], e: usize) -> &[u8]
 
 // What the record at a position says if its kind has a source: its thread and its source; and the position past the
 // record.
-#[derive(Drop)]
+#[derive(Clone, Copy)]
 pub struct SourceAt {
     pub sourced: bool,
     pub thread: u16,

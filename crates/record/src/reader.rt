@@ -8,7 +8,7 @@ ghost use Rattle.record.specs.Reading.{read_at};
 use crate::reading::{Read, step_at};
 use crate::scanning::{Scanned, scan_step};
 
-#[derive(Drop)]
+#[derive(Clone, Copy)]
 pub struct Reader<'a> {
     pub trace: &'a [u8],
     pub at: usize,

@@ -12,14 +12,14 @@ use crate::kinds::{
 };
 
 // What reading a record finds: its event and the position past it, or the refusal's number (1 to 4).
-#[derive(Drop)]
+#[derive(Clone, Copy)]
 pub enum Read {
     Record(Event, usize),
     Refused(u16),
 }
 
 // The first record of some bytes: its size with its length bytes, or the refusal's number (1, 2 or 4).
-#[derive(Drop)]
+#[derive(Clone, Copy)]
 pub(crate) enum Frame {
     Size(usize),
     Unframed(u16),

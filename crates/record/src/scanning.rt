@@ -14,7 +14,7 @@ use crate::kinds::{LENGTH, row_of};
 use crate::reading::{Read, fields_at, step_at};
 
 // A record as plain numbers: its kind, its fields and the position past it.
-#[derive(Drop)]
+#[derive(Clone, Copy)]
 pub struct Scan {
     pub kind: u16,
     pub fields: Fields,
@@ -22,7 +22,7 @@ pub struct Scan {
 }
 
 // What scanning a record finds: its numbers, or the refusal's number (1 to 4).
-#[derive(Drop)]
+#[derive(Clone, Copy)]
 pub enum Scanned {
     Record(Scan),
     Refused(u16),

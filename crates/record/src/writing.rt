@@ -11,7 +11,7 @@ use crate::kinds::{
 };
 
 // What writing did: the number of bytes written, or refusal 17.
-#[derive(Drop)]
+#[derive(Clone, Copy)]
 pub enum Written {
     Done(usize),
     NoRoom,
