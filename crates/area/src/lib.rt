@@ -3,6 +3,8 @@
 // `row_put` leaves the numbers past the first 32,768 as they are. The other stores go where they are told, in whatever
 // they are lent: `no_store` to columns 10 and 11 of the row that begins at `row`, `join` to the eight numbers from `to`
 // on, `clear` to all. The judge lends 32,768 numbers.
+#![tactic(auto)]
+
 ghost use Rattle.std.specs.Prelude.{◌≡◌, ◌+◌, ◌*◌, ◌≤◌, get_or, set, length, replicate};
 ghost use Rattle.area.specs.Cells.{row_start, get_row, put_row, clock_covers_w, covers_w, one_line_w};
 ghost use Rattle.area.specs.Cells.{committed_at, event_at, no_store, total, joined};

@@ -13,7 +13,7 @@ use lib.Dec.{eqb, ltb}
 use borrow.Author.Tests.{eqb-true, eqb-false, not-true, not-false}
 use Rattle.record.specs.declared.events.Event.{Event}
 use Rattle.record.specs.declared.events.Event.TheVariants.{Crash}
-use Rattle.record.specs.Answers.{Answer, refused, event}
+use Rattle.record.specs.Answers.{refused, event}
 use Rattle.record.specs.Events.{record_of}
 use Rattle.record.specs.Fields.{columns, fields_of, TwoByte}
 use Rattle.record.specs.Parts.{start, size_at}

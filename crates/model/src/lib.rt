@@ -1,16 +1,17 @@
 // What the judge's calls answer, in the papers' numbers and values. The definitions that give these answers their
 // meaning, and the theorems about them, are this crate's specs/ and proofs/; it has no code.
+#![tactic(auto)]
 
 // The records in front of which a thread may flush the missing store's line: the first and the last of them, or 0 and 0
 // if there is none.
-#[derive(Drop)]
+#[derive(Clone, Copy)]
 pub struct Window {
     pub first: u16,
     pub last: u16,
 }
 
 // The windows of threads 0 to 7, and which thread is primary: the missing store's.
-#[derive(Drop)]
+#[derive(Clone, Copy)]
 pub struct Windows {
     pub primary: u16,
     pub thread0: Window,
@@ -26,7 +27,7 @@ pub struct Windows {
 // Why a broken trace is broken: the missing store is itself observed; or it happens before the observed one, on another
 // cache line or on the same one. Only between stores on two lines is a flush missing, and only then are there windows
 // for it.
-#[derive(Drop)]
+#[derive(Clone, Copy)]
 pub enum Kind {
     Contradiction,
     Flush(Windows),
@@ -34,7 +35,7 @@ pub enum Kind {
 }
 
 // What judging a trace answers.
-#[derive(Drop)]
+#[derive(Clone, Copy)]
 pub enum Verdict {
     Refused {
         number: u16,
@@ -54,7 +55,7 @@ pub enum Verdict {
 }
 
 // How the first of two stores stands to the second, by happens-before.
-#[derive(Drop)]
+#[derive(Clone, Copy)]
 pub enum Order {
     Before,
     After,
