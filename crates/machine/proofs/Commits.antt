@@ -301,7 +301,7 @@ module _ (ev : ℕ → Event) (n : ℕ) (w : World) (sim : Sim ev n w) (passes :
         committed_replaced tables t few sim.size old.oldest (oldest_place tables l t) w.state.stretch
         (get_row l old.oldest 12) (omega arith)
         in
-        let no_store_lem =
+        let is_no_store =
         link_no_store n old.oldest 13 row l _ (omega arith) (omega arith)
         (link_no_store n old.oldest 14 (get_or tables (last_cell (oldest_place tables l t)) 0) l (no_store l row)
         (omega arith) (omega arith) (no_store_is row n sim.numbers.row_is n_small l sim.rows.room))
@@ -325,8 +325,8 @@ module _ (ev : ℕ → Event) (n : ℕ) (w : World) (sim : Sim ev n w) (passes :
               sim.commits_are;
           sources = sources_keep ev n tables tables' (λ i low high. between i low (omega arith)) sim.sources;
           chains = chains_next tables' l' headed;
-          rows = rows_keep ev n l l' sim.limits no_issue (rw kind_is refl) no_store_lem sim.rows;
-          links = links_keep ev n l l' sim.limits no_issue (rw kind_is refl) no_store_lem sim.links;
+          rows = rows_keep ev n l l' sim.limits no_issue (rw kind_is refl) is_no_store sim.rows;
+          links = links_keep ev n l l' sim.limits no_issue (rw kind_is refl) is_no_store sim.links;
           regions =
               regions_keep ev n tables tables' l l' sim.limits no_crash no_load (rw kind_is refl) (rw kind_is refl)
               replaced.regions_same (λ e k from_one early loads low _. held_stays e k from_one early loads low)

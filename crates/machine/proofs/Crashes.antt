@@ -128,7 +128,7 @@ module _ (ev : ℕ → Event) (n : ℕ) (w : World) (sim : Sim ev n w) (passes :
       λ i high apart. it.leaves i high (λ t few same. apart (omega arith) (omega arith))
       in
       let small = in_time ev n sim.limits passes in
-      let no_store_lem = no_store_is w.state.row n sim.numbers.row_is small w.work sim.rows.room in
+      let is_no_store = no_store_is w.state.row n sim.numbers.row_is small w.work sim.rows.room in
       record {
         numbers = numbers_next ev n crash w.state sim.limits sim.numbers;
         limits = limits_next ev n sim.limits passes;
@@ -150,10 +150,10 @@ module _ (ev : ℕ → Event) (n : ℕ) (w : World) (sim : Sim ev n w) (passes :
             (λ i low high. beyond i low (λ from below. omega arith))
             (λ i low high. beyond i (omega arith) (λ from below. omega arith)) sim.chains;
         rows =
-            rows_keep ev n w.work _ sim.limits (no_issue ev n crash) (no_signal ev n crash) no_store_lem
+            rows_keep ev n w.work _ sim.limits (no_issue ev n crash) (no_signal ev n crash) is_no_store
             sim.rows;
         links =
-            links_keep ev n w.work _ sim.limits (no_issue ev n crash) (no_signal ev n crash) no_store_lem
+            links_keep ev n w.work _ sim.limits (no_issue ev n crash) (no_signal ev n crash) is_no_store
             sim.links;
         regions = λ t few.
             rw (region_closed tables t (it.restarts t few 12 (omega arith)) (it.restarts t few 13 (omega arith)))

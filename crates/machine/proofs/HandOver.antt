@@ -200,7 +200,7 @@ module _ (ev : ℕ → Event) (n : ℕ) (w : World) (sim : Sim ev n w) (passes :
       rows =
           rows_with ev n w.work after sim.limits it.size
           (λ p k from_one early _. it.earlier p k from_one early)
-          (λ store. false_true (sym no_issue ∙ store.test)) (λ _. it.no_store) (λ _. new_row)
+          (λ store. false_true (sym no_issue ∙ store.test)) (λ _. it.is_no_store) (λ _. new_row)
           (λ none. false_true (sym none ∙ signal.test)) sim.rows;
       links =
           links_with ev n w.work after sim.limits no_issue (λ p from_one early. it.earlier p 12 from_one early)

@@ -12,7 +12,7 @@ use Rattle.record.specs.declared.events.Event.{Event}
 use Rattle.model.specs.Search.{any, member}
 use Rattle.model.specs.Trace.{thread, load?, crash?, open?, close?, Load}
 use Rattle.model.specs.Machine.{countable, held}
-use Rattle.model.proofs.Searching.{false_true, test, same?, or_left, or_right, eqb_same}
+use Rattle.model.proofs.Searching.{false_true, same?, or_left, or_right, eqb_same}
 use Rattle.model.proofs.Acceptance.{countable_crosses, begins}
 use Rattle.model.proofs.Roles.{begin_no_load}
 use Rattle.model.proofs.Unchanged.{opened_away, opened_crash}

@@ -293,7 +293,7 @@ module _ (ev : ℕ → Event) (n : ℕ) where
     rows_with limits size earlier stores others signals no_signals rows = record {
       room = rw size rows.room;
       stores = λ p below store. store_row p below store (same? p n);
-      others = λ p from_one below none. no_store_lem p from_one below none (same? p n);
+      others = λ p from_one below none. is_no_store p from_one below none (same? p n);
       signals = λ s below signal. signal_row s below signal (same? s n);
       no_signals = λ p from_one below none. no_signal p from_one below none (same? p n);
     }
@@ -305,9 +305,9 @@ module _ (ev : ℕ → Event) (n : ℕ) where
             row_same p (λ k low. earlier p k (omega arith) (omega arith) (omega arith))
             (rows.stores p (omega arith) store)
 
-        no_store_lem : (p : ℕ) → 1 ≤ p → p < suc n → issue? ev p ≡ false → (p ≡ n) ⊎ (p ≢ n) → get_row l' p 10 ≡ 0
-        no_store_lem p from_one below none (inl is_n) = rw is_n (others (rw is_n at none))
-        no_store_lem p from_one below none (inr differs) =
+        is_no_store : (p : ℕ) → 1 ≤ p → p < suc n → issue? ev p ≡ false → (p ≡ n) ⊎ (p ≢ n) → get_row l' p 10 ≡ 0
+        is_no_store p from_one below none (inl is_n) = rw is_n (others (rw is_n at none))
+        is_no_store p from_one below none (inr differs) =
             earlier p 10 from_one (omega arith) (omega arith) ∙ rows.others p from_one (omega arith) none
 
         signal_row : (s : ℕ) → s < suc n → Signal ev s → (s ≡ n) ⊎ (s ≢ n) → SignalRow ev l' s

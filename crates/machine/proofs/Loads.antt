@@ -154,7 +154,7 @@ module _ (ev : ℕ → Event) (n : ℕ) (w : World) (sim : Sim ev n w) (passes :
   -- behind it
   pub record Loaded (tables' l' : List ℕ) : Type 0 where
     pub brought : Brought ev n w tables'
-    pub no_store_lem : NoStore n w.work l'
+    pub is_no_store : NoStore n w.work l'
     pub rows_stay : RowsStay ev n sim.limits w.work l'
     pub behind_stays : BehindStays n w.work l'
     pub regions : Regions ev (suc n) tables' l'
@@ -166,7 +166,7 @@ module _ (ev : ℕ → Event) (n : ℕ) (w : World) (sim : Sim ev n w) (passes :
       → ((countable ev n ≡ true) → opened ev n t ≡ false) → Loaded tables' plain_work
   plainly tables' brought same not_held = record {
     brought = brought;
-    no_store_lem = no_store_is row n sim.numbers.row_is n_small w.work sim.rows.room;
+    is_no_store = no_store_is row n sim.numbers.row_is n_small w.work sim.rows.room;
     rows_stay = rows_stay ev n w sim passes;
     behind_stays = λ q k _ _. no_store_behind row n sim.numbers.row_is n_small w.work q k;
     regions = λ u few_u.
@@ -249,7 +249,7 @@ module _ (ev : ℕ → Event) (n : ℕ) (w : World) (sim : Sim ev n w) (passes :
       brought =
           crossed (held_tables noted_tables row t) (held_size noted_tables t few noted_size new)
           (held_leaves noted_tables t few noted_size new);
-      no_store_lem = here.no_store;
+      is_no_store = here.is_no_store;
       rows_stay = λ e k from_one early _ low _. here.earlier e k from_one early low;
       behind_stays = λ q k from_one early _. here.earlier q k from_one early;
       regions = λ u few_u. own_or_other u few_u (same? t u);
@@ -393,7 +393,7 @@ module _ (ev : ℕ → Event) (n : ℕ) (w : World) (sim : Sim ev n w) (passes :
       (still_with ev n w sim passes still _ _ it.size
       (queues_keep ev n tables _ no_crash still.no_issue still.no_commit (rw kind_is refl) (rw kind_is refl)
       it.threads_same sim.queues)
-      it.seen_are it.sources it.heads_same it.rest_same loaded.no_store loaded.behind_stays
+      it.seen_are it.sources it.heads_same it.rest_same loaded.is_no_store loaded.behind_stays
       loaded.regions)
     where
       still : Still ev n

@@ -205,8 +205,8 @@ module _ (ev : ℕ → Event) (n : ℕ) (w : World) (sim : Sim ev n w) (passes :
     abbrev l' : List ℕ
     l' = exchanged_work loaded_tables loaded_work row t x (source ev n) w.state.stretch
 
-    no_store_lem : NoStore n l loaded_work
-    no_store_lem = after_load.no_store
+    is_no_store : NoStore n l loaded_work
+    is_no_store = after_load.is_no_store
 
     abbrev seen_by : ℕ → ℕ
     seen_by u = of_thread loaded_tables t u
@@ -221,19 +221,19 @@ module _ (ev : ℕ → Event) (n : ℕ) (w : World) (sim : Sim ev n w) (passes :
 
     written_is :
         Stored n (newest ev n w sim passes store) t (suc (issued ev n t)) x j seen_by loaded_work written
-    written_is = stored ev n w sim passes store loaded_tables loaded_work same_thread no_store_lem.size
+    written_is = stored ev n w sim passes store loaded_tables loaded_work same_thread is_no_store.size
 
     its_row : Stored n (newest ev n w sim passes store) t (suc (issued ev n t)) x j seen_by l l'
     unfolding exchanged_work
     its_row =
         link_stored row n begins n_small 14 _ l sourced (omega arith) (omega arith)
         (link_stored row n begins n_small 13 (source ev n) l written (omega arith) (omega arith)
-        (stored_behind l loaded_work written no_store_lem written_is))
+        (stored_behind l loaded_work written is_no_store written_is))
 
     -- ---- the chain: the store heads that of its location
 
     written_room : 32768 ≤ length written
-    written_room = rw (written_is.size, no_store_lem.size) sim.rows.room
+    written_room = rw (written_is.size, is_no_store.size) sim.rows.room
 
     sourced_room : 32768 ≤ length sourced
     sourced_room = rw (length-set written (row + 13) (source ev n)) written_room

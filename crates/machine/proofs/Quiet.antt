@@ -49,7 +49,7 @@ module _ (ev : ℕ → Event) (n : ℕ) (w : World) (sim : Sim ev n w) (passes :
       → Sources ev (suc n) tables → Same 128 384 w.tables tables → Same 640 3008 w.tables tables
       → NoStore n w.work l' → BehindStays n w.work l'
       → Regions ev (suc n) tables l' → Sim ev (suc n) (world (ticked w.state) tables l')
-  still_with still tables l' size queues seen_are sources last_same rest_same no_store_lem behind regions = record {
+  still_with still tables l' size queues seen_are sources last_same rest_same is_no_store behind regions = record {
     numbers = numbers_next ev n w.state sim.numbers still.no_crash;
     limits = limits_next ev n sim.limits passes;
     size = size;
@@ -66,9 +66,9 @@ module _ (ev : ℕ → Event) (n : ℕ) (w : World) (sim : Sim ev n w) (passes :
         chains_keep ev n w.tables tables w.work l' sim.limits still.no_commit behind last_same
         (λ i low high. rest_same i (omega arith) high) sim.chains;
     rows =
-        rows_keep ev n w.work l' sim.limits still.no_issue still.no_signal no_store_lem sim.rows;
+        rows_keep ev n w.work l' sim.limits still.no_issue still.no_signal is_no_store sim.rows;
     links =
-        links_keep ev n w.work l' sim.limits still.no_issue still.no_signal no_store_lem sim.links;
+        links_keep ev n w.work l' sim.limits still.no_issue still.no_signal is_no_store sim.links;
     regions = regions;
   }
 

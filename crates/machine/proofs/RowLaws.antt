@@ -56,7 +56,7 @@ pub record Stored (n g t c x j : ℕ) (seen_by : ℕ → ℕ) (l l' : List ℕ) 
 pub record Signalled (n t c j : ℕ) (seen_by : ℕ → ℕ) (l l' : List ℕ) : Type 0 where
   pub size : length l' ≡ length l
   pub clock_is : (u : ℕ) → u < 8 → get_row l' n u ≡ cond (eqb t u) c (seen_by u)
-  pub no_store_lem : get_row l' n 10 ≡ 0
+  pub is_no_store : get_row l' n 10 ≡ 0
   pub stretch_is : get_row l' n 11 ≡ j
   pub earlier : (p k : ℕ) → 1 ≤ p → p < n → get_row l' p k ≡ get_row l p k
 
@@ -140,7 +140,7 @@ module _ (row n : ℕ) (begins : row + 16 ≡ 16 * n) (to_last : n ≤ 2048) whe
 
   -- it is no store, and its row has its location, its source, the head of its chain and the load held before it
   pub record HeldHere (x s h b : ℕ) (l l' : List ℕ) : Type 0 where
-    pub no_store_lem : NoStore n l l'
+    pub is_no_store : NoStore n l l'
     pub location_is : get_row l' n 9 ≡ x
     pub source_is : get_row l' n 13 ≡ s
     pub head_is : get_row l' n 14 ≡ h
@@ -153,7 +153,7 @@ module _ (row n : ℕ) (begins : row + 16 ≡ 16 * n) (to_last : n ≤ 2048) whe
       (held_work tables (no_store l row) row t x s)
   unfolding held_work
   held_here tables t x s l room = record {
-    no_store_lem = record {
+    is_no_store = record {
       size = size_4 ∙ none.size;
       none =
           column l₃ 15 b n 10 (omega arith) (omega arith) (λ same. omega arith)
@@ -316,7 +316,7 @@ module _ (row n : ℕ) (begins : row + 16 ≡ 16 * n) (to_last : n ≤ 2048) whe
               ne_eqb 11 u (λ same. omega arith),
               clock_in l room u low,
             );
-        no_store_lem = at_row signalled 10 (omega arith) ∙ simp (column_after, length-set, clock_room l room);
+        is_no_store = at_row signalled 10 (omega arith) ∙ simp (column_after, length-set, clock_room l room);
         stretch_is = at_row signalled 11 (omega arith) ∙ simp (column_after, length-set, clock_room l room);
         earlier = signalled_earlier;
       }

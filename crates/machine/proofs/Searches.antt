@@ -18,7 +18,7 @@ use Rattle.model.specs.Machine.{commits_before, waiting, current, past, source_f
 use Rattle.model.specs.Rules.{Accepted}
 use Rattle.model.specs.Choice.{finished}
 use Rattle.model.specs.Stores.{head_of, store_at, newest_at, landed}
-use Rattle.model.proofs.Searching.{test, same?, less?, both}
+use Rattle.model.proofs.Searching.{same?, less?, both}
 use Rattle.model.proofs.Counting.{stretch_mono, earlier_stretch, count_mono, count_lt}
 use Rattle.model.proofs.Roles.{issue_or_not}
 use Rattle.model.proofs.ClockSteps.{vc_own}
@@ -276,11 +276,11 @@ module _ (ev : ℕ → Event) (n : ℕ) (w : World) (sim : Sim ev n w) where
 
   -- no event of an earlier stretch is at or past n, and only stores are committed
   past_of-other : (p : ℕ) → (p < n → Issue ev p → ⊥) → past ev n p ≡ false
-  past_of-other p no_store_lem =
+  past_of-other p is_no_store =
       fails _
       (λ passes.
       let from = past_is ev n p passes in
-      no_store_lem (earlier_stretch ev p n from.earlier) from.store)
+      is_no_store (earlier_stretch ev p n from.earlier) from.store)
 
   -- of an earlier event
   earlier_past : (p : ℕ) → 1 ≤ p → p < n → past_in w.state.stretch w.tables l x p ≡ past ev n p

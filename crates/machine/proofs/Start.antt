@@ -105,8 +105,8 @@ module _ (ev : ℕ → Event) (passes : refusal ev 0 ≡ 0) where
         newest_is = sym (store_at_none ev 1 (stretch ev 1) t (issued ev 1 t - 1) (omega arith));
       }
 
-  no_store_lem : (p : ℕ) → p < 1 → Issue ev p → ⊥
-  no_store_lem p early store = store_not_0 ev 1 accepted (omega arith) store (omega arith)
+  is_no_store : (p : ℕ) → p < 1 → Issue ev p → ⊥
+  is_no_store p early store = store_not_0 ev 1 accepted (omega arith) store (omega arith)
 
   -- ---- over cleared tables
 
@@ -121,7 +121,7 @@ module _ (ev : ℕ → Event) (passes : refusal ev 0 ≡ 0) where
     newest_start : Newest ev 1 tables
     newest_start x t _ _ =
         clear (newest_cell x t)
-        ∙ sym (newest_away ev 0 x t (λ store _ _. no_store_lem 0 (omega arith) store) ∙ newest_0 x t)
+        ∙ sym (newest_away ev 0 x t (λ store _ _. is_no_store 0 (omega arith) store) ∙ newest_0 x t)
 
     commits_start : Commits ev 1 tables
     unfolding finished
@@ -169,12 +169,12 @@ module _ (ev : ℕ → Event) (passes : refusal ev 0 ≡ 0) where
       chains = chains_start;
       rows = record {
         room = room;
-        stores = λ p early store. absurd (no_store_lem p early store);
+        stores = λ p early store. absurd (is_no_store p early store);
         others = λ p from_one early _. absurd (omega arith);
         signals = λ s early signal. absurd (signal_not_0 ev 1 accepted (omega arith) signal (omega arith));
         no_signals = λ p from_one early _. absurd (omega arith);
       };
-      links = λ p early store. absurd (no_store_lem p early store);
+      links = λ p early store. absurd (is_no_store p early store);
       regions = λ t _.
           rw (region_closed tables t (clear (16 * t + 12)) (clear (16 * t + 13)))
           (record { opened_is = sym (opened_1 t); held_are = λ is_open. false_true (sym (opened_1 t) ∙ is_open) });

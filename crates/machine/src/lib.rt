@@ -1,6 +1,8 @@
 // The machine of documents 01 and 02: what turns an event away, what an event that passes does, which loads count, and
 // how two stores stand. A `Machine` and the place of the next event's row are handed from record to record by value;
 // the machine's tables and the work area, whose rows are its own too, are lent.
+#![tactic(auto)]
+
 mod clocks;
 mod effects;
 mod order;

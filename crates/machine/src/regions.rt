@@ -7,7 +7,7 @@ ghost use Rattle.machine.specs.Regions.{open_set, put_region, put_held};
 use crate::tables;
 use crate::tables::Tables;
 
-#[derive(Drop)]
+#[derive(Clone, Copy)]
 pub struct Region {
     pub opened: bool,
     // The newest load that is held, 0 if there is none. A close leaves it, for the judge to count the loads from there

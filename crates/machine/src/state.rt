@@ -2,7 +2,7 @@
 ghost use Rattle.std.specs.Prelude.{◌≡◌, false};
 ghost use Rattle.machine.specs.Twin.{next_stretch};
 
-#[derive(Drop)]
+#[derive(Clone, Copy)]
 pub struct Machine {
     pub stretch: u16,
     pub version: u16,
@@ -13,7 +13,7 @@ pub struct Machine {
 // After an event: the stretch, refusal 0, and whether loads count as of it: a load itself, or at a close those that its
 // thread holds. Or the number of what turns the event away, with the stretch as it was. The rest of the state is the
 // caller's to keep: version, threads and locations stay, and an event that passes is followed by the next row.
-#[derive(Drop)]
+#[derive(Clone, Copy)]
 pub struct Step {
     pub stretch: u16,
     pub refusal: u16,

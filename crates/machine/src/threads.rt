@@ -10,7 +10,7 @@ ghost use Rattle.machine.specs.Threads.{unseen, restarted};
 use crate::tables;
 use crate::tables::Tables;
 
-#[derive(Drop)]
+#[derive(Clone, Copy)]
 pub struct Thread {
     // The oldest waiting store, 0 if there is none; the newest store of the stretch, waiting or not.
     pub oldest: u16,

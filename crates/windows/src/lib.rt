@@ -1,5 +1,7 @@
 // Where the flush may go: the windows of a flush fault, from one more pass over the records between the missing store
 // and the observed one. The order of stores comes from the rows of the work area.
+#![tactic(auto)]
+
 ghost use Rattle.std.specs.Prelude.{◌≡◌};
 ghost use Rattle.windows.specs.Finding.{windows_by};
 

@@ -1,0 +1,41 @@
+-- The rules, one after the other.
+use mathlib.Core.Path.{refl, sym, ◌∙◌}
+use native.Mathlib.Omega.{arith}
+use Rattle.machine.specs.Effects.{pass_w}
+use Rattle.machine.proofs.RuleLaws.{row_inside, behind, stopped, turned_away_lem, passes}
+use mathlib.Core.Path.{ap}
+use mathlib.Core.Bool.{not}
+use Rattle.machine.proofs.steps.fence.Goals as goal
+
+pub returns-then-not-thread_fits : goal.returns-then-not-thread_fits
+returns-then-not-thread_fits c =
+    turned_away_lem _ _ _ _ _ _ _ _ _ _ _ _
+    c.thread_fits.ensures.value (ap not c.if-not-thread_fits.true)
+    c.place_refusal.ensures c.refuse.ensures
+
+pub thread_of-own-requires : goal.thread_of-own-requires
+thread_of-own-requires c =
+    let bounds = c.thread_fits.ensures.row_bound (c.if-not-thread_fits.false) in
+    omega arith
+
+pub returns-then-k-ne0 : goal.returns-then-k-ne0
+returns-then-k-ne0 c =
+    let own = rw c.thread_of-own.ensures at c.fence_rule-k.ensures in
+    stopped _ _ _ _ _ _ _ _ _
+    (behind _ _ _ _ c.thread_fits.ensures.value (ap not c.if-not-thread_fits.false) ∙ sym own)
+    c.if-k-ne0.true
+    c.refuse-then-k-ne0.ensures
+
+pub no_store-requires : goal.no_store-requires
+no_store-requires c =
+    row_inside _ _ _ c.requires (c.thread_fits.ensures.row_bound (c.if-not-thread_fits.false)).0
+
+pub returns : goal.returns
+unfolding pass_w
+returns c =
+    let own = rw c.thread_of-own.ensures at c.fence_rule-k.ensures in
+    passes _ _ _ _ _ _ _ _ _
+    (behind _ _ _ _ c.thread_fits.ensures.value (ap not c.if-not-thread_fits.false) ∙ sym own
+    ∙ omega (arith, c.if-k-ne0.false))
+    (rw c.no_store.ensures refl)
+    c.pass.ensures
