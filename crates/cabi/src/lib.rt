@@ -1,6 +1,8 @@
 // The calls for programs in C and Rust: numbers and lent slices go in, and answers come back as numbers in small lent
 // arrays. A slice is a pointer and a length; `include/gorbuzte.h` says the same to a C compiler. No call has a
 // `requires`; each says its answer, and every number and byte that it was lent, for all inputs.
+#![tactic(auto)]
+
 ghost use Rattle.std.specs.Prelude.{◌≡◌, ℕ, ◌≤◌, true, length, slice_set};
 ghost use Rattle.record.specs.Parts.{place_of};
 ghost use Rattle.record.specs.Reading.{read_at};

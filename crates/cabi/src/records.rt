@@ -45,7 +45,7 @@ pub(crate) fn past(r: Read) -> usize
 }
 
 // What writing did: a refusal's number or 0, and the number of bytes written.
-#[derive(Drop)]
+#[derive(Clone, Copy)]
 pub struct Outcome {
     pub refusal: u16,
     pub size: usize,

@@ -1,6 +1,8 @@
 // The calls about a whole trace. `judge` says whether a choice of crash points explains its counted loads, `order` how
 // two stores of it stand by happens-before. No public call has a `requires`; each says its answer, and every number
 // that it was lent, for all inputs.
+#![tactic(auto)]
+
 ghost use Rattle.std.specs.Prelude.{◌≡◌, true, ℕ, ◌≤◌, length, replicate};
 ghost use Rattle.model.specs.Answers.{verdict_answer, order_answer};
 ghost use Rattle.model.specs.Reading.{events, reading_of, begun_reading, AcceptedWith};

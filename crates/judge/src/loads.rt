@@ -14,7 +14,7 @@ use marks::{Flags, Marks, evidence, held, judged};
 use record::Fields;
 
 // The load that breaks the trace, with the missing and the observed store.
-#[derive(Drop)]
+#[derive(Clone, Copy)]
 pub struct Evidence {
     pub load: u16,
     pub missing: u16,

@@ -15,7 +15,7 @@ use model::Verdict;
 use record::{Read, Scanned};
 
 // What the begin says, the position past it, and refusal 0. Or the refusal's number.
-#[derive(Drop)]
+#[derive(Clone, Copy)]
 pub struct Begun {
     pub version: u16,
     pub threads: u16,
@@ -39,7 +39,7 @@ impl Begun {
 }
 
 // Between two records: the stretch, where the row of the next event begins, and the position of the next record.
-#[derive(Drop)]
+#[derive(Clone, Copy)]
 pub struct Cursor {
     pub stretch: u16,
     pub row: usize,
@@ -60,7 +60,7 @@ impl Cursor {
 }
 
 // After a record: what the next one meets; or the number of what ends the run, which is 1 where no record is left.
-#[derive(Drop)]
+#[derive(Clone, Copy)]
 pub enum Next {
     On(Cursor),
     Ended(u16),

@@ -11,7 +11,7 @@ use model::{Kind, Verdict};
 
 // The end of a run: what ended it, 1 where no record was left, or the number of what turned a record away; and the
 // number of the event that would have been next.
-#[derive(Drop)]
+#[derive(Clone, Copy)]
 pub struct End {
     pub number: u16,
     pub event: u16,

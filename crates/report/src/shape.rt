@@ -7,7 +7,7 @@ use record::Read;
 
 const CRASH: u16 = 9;
 
-#[derive(Drop)]
+#[derive(Clone, Copy)]
 pub struct Shape {
     pub threads: u16,
     pub finished: u16,

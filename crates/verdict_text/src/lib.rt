@@ -1,4 +1,6 @@
 // What the program `verdict` prints for its whole input, whatever the input is.
+#![tactic(auto)]
+
 ghost use Rattle.std.specs.Prelude.{◌≡◌, length};
 ghost use Rattle.report.specs.Lines.{printed, Front};
 ghost use Rattle.verdict_text.specs.Text.{text_of};
