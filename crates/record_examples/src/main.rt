@@ -1,5 +1,7 @@
 // Calls the record crate on document 01's record-level examples and on the edges of each rule, and prints what each
 // call answers. The file `stdout` beside src/ was worked out from document 01 by hand.
+#![tactic(auto)]
+
 mod round_trips;
 mod show;
 
@@ -7,209 +9,247 @@ use record::{Event, Fields};
 use show::{
     again, back, later, name, parts_of, read, read_from, scan, scan_from, title, write, write_short,
 };
+use std::io::Result;
 
 // Refusals 1 to 4 and the begin record B, each alone and with other bytes behind it.
-fn examples() {
-    title(b"examples");
-    read(b"");
-    read(b"\x08\x00\x01");
-    read(b"\x02\x00\x63\x00");
-    read(b"\x04\x00\x09\x00\x00\x00");
-    read(b"\x08\x00\x01\x00\x01\x00\x01\x00\x02\x00");
-    read(b"\x08\x00\x01\x00\x01\x00\x01\x00\x02\x00\x07");
+fn examples(rt: &impl Print) -> Result<()> {
+    title(rt, b"examples")?;
+    read(rt, b"")?;
+    read(rt, b"\x08\x00\x01")?;
+    read(rt, b"\x02\x00\x63\x00")?;
+    read(rt, b"\x04\x00\x09\x00\x00\x00")?;
+    read(rt, b"\x08\x00\x01\x00\x01\x00\x01\x00\x02\x00")?;
+    read(rt, b"\x08\x00\x01\x00\x01\x00\x01\x00\x02\x00\x07")?;
+    Ok(())
 }
 
 // Lengths 0, 1 and 2, a single byte left over, and every way to be cut short.
-fn lengths() {
-    title(b"lengths");
-    read(b"\x00");
-    read(b"\x01");
-    read(b"\x08");
-    read(b"\x00\x00");
-    read(b"\x01\x00");
-    read(b"\x00\x00\x09\x00");
-    read(b"\x01\x00\x09");
-    read(b"\x02\x00");
-    read(b"\x02\x00\x09");
-    read(b"\x02\x00\x09\x00");
-    read(b"\x04\x00\x03\x00\x05");
-    read(b"\x04\x00\x03\x00\x05\x00");
-    read(b"\xff\xff\x09\x00");
+fn lengths(rt: &impl Print) -> Result<()> {
+    title(rt, b"lengths")?;
+    read(rt, b"\x00")?;
+    read(rt, b"\x01")?;
+    read(rt, b"\x08")?;
+    read(rt, b"\x00\x00")?;
+    read(rt, b"\x01\x00")?;
+    read(rt, b"\x00\x00\x09\x00")?;
+    read(rt, b"\x01\x00\x09")?;
+    read(rt, b"\x02\x00")?;
+    read(rt, b"\x02\x00\x09")?;
+    read(rt, b"\x02\x00\x09\x00")?;
+    read(rt, b"\x04\x00\x03\x00\x05")?;
+    read(rt, b"\x04\x00\x03\x00\x05\x00")?;
+    read(rt, b"\xff\xff\x09\x00")?;
+    Ok(())
 }
 
 // A record of length 65,535 with all its bytes: an unknown kind, then a kind of another length.
-fn longest() {
-    title(b"longest");
+fn longest(rt: &impl Print) -> Result<()> {
+    title(rt, b"longest")?;
     let mut bytes = [1u8; 65537];
     bytes[0] = 255;
     bytes[1] = 255;
-    read_from(&bytes, 0);
+    read_from(rt, &bytes, 0)?;
     bytes[2] = 9;
     bytes[3] = 0;
-    read_from(&bytes, 0);
+    read_from(rt, &bytes, 0)?;
+    Ok(())
 }
 
 // Kinds that are not in the table, and known kinds of a wrong length; the order of the tests between them.
-fn kinds() {
-    title(b"kinds");
-    read(b"\x02\x00\x00\x00");
-    read(b"\x02\x00\x0c\x00");
-    read(b"\x02\x00\x0d\x00");
-    read(b"\x04\x00\x0e\x00\x00\x00");
-    read(b"\x02\x00\x0f\x00");
-    read(b"\x04\x00\x10\x00\x00\x00");
-    read(b"\x02\x00\x11\x00");
-    read(b"\x02\x00\x09\x01");
-    read(b"\x04\x00\x63\x00\x00");
-    read(b"\x09\x00\x01\x00\x01\x00\x01\x00\x02\x00\x00");
-    read(b"\x06\x00\x04\x00\x00\x00\x00\x00");
-    read(b"\x02\x00\x02\x00");
+fn kinds(rt: &impl Print) -> Result<()> {
+    title(rt, b"kinds")?;
+    read(rt, b"\x02\x00\x00\x00")?;
+    read(rt, b"\x02\x00\x0c\x00")?;
+    read(rt, b"\x02\x00\x0d\x00")?;
+    read(rt, b"\x04\x00\x0e\x00\x00\x00")?;
+    read(rt, b"\x02\x00\x0f\x00")?;
+    read(rt, b"\x04\x00\x10\x00\x00\x00")?;
+    read(rt, b"\x02\x00\x11\x00")?;
+    read(rt, b"\x02\x00\x09\x01")?;
+    read(rt, b"\x04\x00\x63\x00\x00")?;
+    read(rt, b"\x09\x00\x01\x00\x01\x00\x01\x00\x02\x00\x00")?;
+    read(rt, b"\x06\x00\x04\x00\x00\x00\x00\x00")?;
+    read(rt, b"\x02\x00\x02\x00")?;
+    Ok(())
 }
 
 // Every kind, written and framed, and both round trips, with field values from 0 to 65,535.
-fn every_kind() {
-    title(b"every kind");
-    kinds_to_fences();
-    kinds_from_crash();
+fn every_kind(rt: &impl Print) -> Result<()> {
+    title(rt, b"every kind")?;
+    kinds_to_fences(rt)?;
+    kinds_from_crash(rt)?;
+    Ok(())
 }
 
-fn kinds_to_fences() {
-    write(Event::Begin {
-        version: 1,
-        threads: 1,
-        locations: 2,
-    });
-    write(Event::Issue {
-        thread: 0,
-        location: 65535,
-    });
-    write(Event::Commit { thread: 258 });
-    write(Event::Load {
-        thread: 1,
-        location: 2,
-        source: 259,
-    });
-    write(Event::Clflush {
-        thread: 7,
-        location: 255,
-    });
-    write(Event::Clwb {
-        thread: 7,
-        location: 256,
-    });
-    write(Event::Sfence { thread: 65535 });
-    write(Event::Mfence { thread: 0 });
+fn kinds_to_fences(rt: &impl Print) -> Result<()> {
+    write(
+        rt,
+        Event::Begin {
+            version: 1,
+            threads: 1,
+            locations: 2,
+        },
+    )?;
+    write(
+        rt,
+        Event::Issue {
+            thread: 0,
+            location: 65535,
+        },
+    )?;
+    write(rt, Event::Commit { thread: 258 })?;
+    write(
+        rt,
+        Event::Load {
+            thread: 1,
+            location: 2,
+            source: 259,
+        },
+    )?;
+    write(
+        rt,
+        Event::Clflush {
+            thread: 7,
+            location: 255,
+        },
+    )?;
+    write(
+        rt,
+        Event::Clwb {
+            thread: 7,
+            location: 256,
+        },
+    )?;
+    write(rt, Event::Sfence { thread: 65535 })?;
+    write(rt, Event::Mfence { thread: 0 })?;
+    Ok(())
 }
 
-fn kinds_from_crash() {
-    write(Event::Crash);
-    write(Event::SkipOn { thread: 4660 });
-    write(Event::SkipOff { thread: 1 });
-    write(Event::Locked {
-        thread: 3,
-        location: 4,
-        source: 260,
-    });
-    write(Event::Signal { thread: 5 });
-    write(Event::Wait {
-        thread: 6,
-        source: 261,
-    });
-    write(Event::Open { thread: 7 });
-    write(Event::Close {
-        thread: 8,
-        outcome: 65534,
-    });
+fn kinds_from_crash(rt: &impl Print) -> Result<()> {
+    write(rt, Event::Crash)?;
+    write(rt, Event::SkipOn { thread: 4660 })?;
+    write(rt, Event::SkipOff { thread: 1 })?;
+    write(
+        rt,
+        Event::Locked {
+            thread: 3,
+            location: 4,
+            source: 260,
+        },
+    )?;
+    write(rt, Event::Signal { thread: 5 })?;
+    write(
+        rt,
+        Event::Wait {
+            thread: 6,
+            source: 261,
+        },
+    )?;
+    write(rt, Event::Open { thread: 7 })?;
+    write(
+        rt,
+        Event::Close {
+            thread: 8,
+            outcome: 65534,
+        },
+    )?;
+    Ok(())
 }
 
 // Outputs that are too short, and one that just fits.
-fn short_outputs() {
-    title(b"short outputs");
-    write_short(Event::Crash, 3);
-    write_short(Event::Crash, 0);
-    write_short(Event::Crash, 4);
+fn short_outputs(rt: &impl Print) -> Result<()> {
+    title(rt, b"short outputs")?;
+    write_short(rt, Event::Crash, 3)?;
+    write_short(rt, Event::Crash, 0)?;
+    write_short(rt, Event::Crash, 4)?;
     write_short(
+        rt,
         Event::Begin {
             version: 1,
             threads: 1,
             locations: 2,
         },
         9,
-    );
+    )?;
     write_short(
+        rt,
         Event::Begin {
             version: 1,
             threads: 1,
             locations: 2,
         },
         10,
-    );
+    )?;
+    Ok(())
 }
 
 // Round trips with too short an output, and with one that just fits; refusals 1 to 4; other bytes behind a record.
-fn refused_trips() {
-    title(b"refused trips");
+fn refused_trips(rt: &impl Print) -> Result<()> {
+    title(rt, b"refused trips")?;
     let mut three = [238u8; 3];
     let mut four = [238u8; 4];
     let mut twelve = [238u8; 12];
-    back(Event::Crash, &mut three);
-    back(Event::Crash, &mut four);
-    again(b"\x02\x00\x09\x00", &mut three);
-    again(b"\x02\x00\x09\x00", &mut four);
-    again(b"", &mut twelve);
-    again(b"\x08\x00\x01", &mut twelve);
-    again(b"\x02\x00\x63\x00", &mut twelve);
-    again(b"\x04\x00\x09\x00\x00\x00", &mut twelve);
-    again(b"\x04\x00\x03\x00\x05\x00\x07\x07", &mut twelve);
+    back(rt, Event::Crash, &mut three)?;
+    back(rt, Event::Crash, &mut four)?;
+    again(rt, b"\x02\x00\x09\x00", &mut three)?;
+    again(rt, b"\x02\x00\x09\x00", &mut four)?;
+    again(rt, b"", &mut twelve)?;
+    again(rt, b"\x08\x00\x01", &mut twelve)?;
+    again(rt, b"\x02\x00\x63\x00", &mut twelve)?;
+    again(rt, b"\x04\x00\x09\x00\x00\x00", &mut twelve)?;
+    again(rt, b"\x04\x00\x03\x00\x05\x00\x07\x07", &mut twelve)?;
+    Ok(())
 }
 
 // Record by record through B, an issue and a crash; then at the end, past it, and inside a record.
-fn positions() {
-    title(b"positions");
+fn positions(rt: &impl Print) -> Result<()> {
+    title(rt, b"positions")?;
     let trace =
         b"\x08\x00\x01\x00\x01\x00\x01\x00\x02\x00\x06\x00\x02\x00\x00\x00\x01\x00\x02\x00\x09\x00";
-    read_from(trace, 0);
-    read_from(trace, 10);
-    read_from(trace, 18);
-    read_from(trace, 22);
-    read_from(trace, 23);
-    read_from(trace, 18446744073709551615);
-    read_from(trace, 2);
-    read_from(trace, 21);
+    read_from(rt, trace, 0)?;
+    read_from(rt, trace, 10)?;
+    read_from(rt, trace, 18)?;
+    read_from(rt, trace, 22)?;
+    read_from(rt, trace, 23)?;
+    read_from(rt, trace, 18446744073709551615)?;
+    read_from(rt, trace, 2)?;
+    read_from(rt, trace, 21)?;
+    Ok(())
 }
 
 // Records as plain numbers: through B, a load and a crash, then at the end and inside records; a locked operation; a
 // wait; an open and a close, with their lengths and with others; then refusals 2, 3 and 4 with ten bytes and with
 // fewer.
-fn scans() {
-    title(b"scans");
+fn scans(rt: &impl Print) -> Result<()> {
+    title(rt, b"scans")?;
     let trace =
         b"\x08\x00\x01\x00\x01\x00\x01\x00\x02\x00\x08\x00\x04\x00\x01\x00\x02\x00\x03\x01\x02\x00\x09\x00";
-    scan_from(trace, 0);
-    scan_from(trace, 10);
-    scan_from(trace, 20);
-    scan_from(trace, 24);
-    scan_from(trace, 18446744073709551615);
-    scan_from(trace, 2);
-    scan_from(trace, 22);
-    scan(b"\x08\x00\x0c\x00\x03\x00\x04\x00\x04\x01");
-    scan(b"\x06\x00\x0e\x00\x06\x00\x05\x01");
-    scan(b"\x04\x00\x0f\x00\x07\x00");
-    scan(b"\x06\x00\x10\x00\x08\x00\xfe\xff");
-    scan(b"\x06\x00\x0f\x00\x07\x00\x00\x00");
-    scan(b"\x04\x00\x10\x00\x08\x00\x02\x00\x09\x00");
-    scan(b"");
-    scan(b"\x09\x00\x01\x00\x01\x00\x01\x00\x02\x00");
-    scan(b"\x08\x00\x01");
-    scan(b"\x02\x00\x11\x00\x02\x00\x09\x00\x02\x00\x09\x00");
-    scan(b"\x02\x00\x63\x00");
-    scan(b"\x04\x00\x09\x00\x00\x00\x02\x00\x09\x00");
-    scan(b"\x04\x00\x09\x00\x00\x00");
+    scan_from(rt, trace, 0)?;
+    scan_from(rt, trace, 10)?;
+    scan_from(rt, trace, 20)?;
+    scan_from(rt, trace, 24)?;
+    scan_from(rt, trace, 18446744073709551615)?;
+    scan_from(rt, trace, 2)?;
+    scan_from(rt, trace, 22)?;
+    scan(rt, b"\x08\x00\x0c\x00\x03\x00\x04\x00\x04\x01")?;
+    scan(rt, b"\x06\x00\x0e\x00\x06\x00\x05\x01")?;
+    scan(rt, b"\x04\x00\x0f\x00\x07\x00")?;
+    scan(rt, b"\x06\x00\x10\x00\x08\x00\xfe\xff")?;
+    scan(rt, b"\x06\x00\x0f\x00\x07\x00\x00\x00")?;
+    scan(rt, b"\x04\x00\x10\x00\x08\x00\x02\x00\x09\x00")?;
+    scan(rt, b"")?;
+    scan(rt, b"\x09\x00\x01\x00\x01\x00\x01\x00\x02\x00")?;
+    scan(rt, b"\x08\x00\x01")?;
+    scan(rt, b"\x02\x00\x11\x00\x02\x00\x09\x00\x02\x00\x09\x00")?;
+    scan(rt, b"\x02\x00\x63\x00")?;
+    scan(rt, b"\x04\x00\x09\x00\x00\x00\x02\x00\x09\x00")?;
+    scan(rt, b"\x04\x00\x09\x00\x00\x00")?;
+    Ok(())
 }
 
 // Kinds of the table by number, and numbers that are none.
-fn names() {
-    title(b"names");
+fn names(rt: &impl Print) -> Result<()> {
+    title(rt, b"names")?;
     let f = Fields {
         thread: 4,
         location: 5,
@@ -219,58 +259,63 @@ fn names() {
         locations: 3,
         outcome: 7,
     };
-    name(0, f);
-    name(1, f);
-    name(4, f);
-    name(9, f);
-    name(11, f);
-    name(12, f);
-    name(13, f);
-    name(14, f);
-    name(15, f);
-    name(16, f);
-    name(17, f);
-    name(65535, f);
+    name(rt, 0, f)?;
+    name(rt, 1, f)?;
+    name(rt, 4, f)?;
+    name(rt, 9, f)?;
+    name(rt, 11, f)?;
+    name(rt, 12, f)?;
+    name(rt, 13, f)?;
+    name(rt, 14, f)?;
+    name(rt, 15, f)?;
+    name(rt, 16, f)?;
+    name(rt, 17, f)?;
+    name(rt, 65535, f)?;
+    Ok(())
 }
 
 // Parts of a whole trace, of one with an unknown kind, of one with a length under 2, and of one that is cut short.
-fn parts() {
-    title(b"parts");
-    parts_of(b"");
+fn parts(rt: &impl Print) -> Result<()> {
+    title(rt, b"parts")?;
+    parts_of(rt, b"")?;
     parts_of(
+        rt,
         b"\x08\x00\x01\x00\x01\x00\x01\x00\x02\x00\x06\x00\x02\x00\x00\x00\x01\x00\x02\x00\x09\x00",
-    );
-    parts_of(b"\x02\x00\x63\x00\x03\x00\x09\x00\x07");
-    parts_of(b"\x02\x00\x09\x00\x01\x00\x02\x00\x09\x00");
-    parts_of(b"\x02\x00\x09\x00\x02\x00\x09");
+    )?;
+    parts_of(rt, b"\x02\x00\x63\x00\x03\x00\x09\x00\x07")?;
+    parts_of(rt, b"\x02\x00\x09\x00\x01\x00\x02\x00\x09\x00")?;
+    parts_of(rt, b"\x02\x00\x09\x00\x02\x00\x09")?;
+    Ok(())
 }
 
 // What refuses the record at a position behind the first, by the trace's version, where a number refuses it read alone:
 // an open of a wrong length behind B, a crash of one, a close whose bytes are missing, and the end.
-fn versions() {
-    title(b"versions");
+fn versions(rt: &impl Print) -> Result<()> {
+    title(rt, b"versions")?;
     let trace =
         b"\x08\x00\x01\x00\x01\x00\x01\x00\x02\x00\x02\x00\x0f\x00\x03\x00\x09\x00\x00\x06\x00\x10\x00";
-    later(trace, 1, 10, 4);
-    later(trace, 2, 10, 4);
-    later(trace, 1, 10, 3);
-    later(trace, 1, 14, 4);
-    later(trace, 1, 19, 2);
-    later(trace, 1, 23, 1);
-    later(trace, 1, 18446744073709551615, 4);
+    later(rt, trace, 1, 10, 4)?;
+    later(rt, trace, 2, 10, 4)?;
+    later(rt, trace, 1, 10, 3)?;
+    later(rt, trace, 1, 14, 4)?;
+    later(rt, trace, 1, 19, 2)?;
+    later(rt, trace, 1, 23, 1)?;
+    later(rt, trace, 1, 18446744073709551615, 4)?;
+    Ok(())
 }
 
-fn main() {
-    examples();
-    lengths();
-    longest();
-    kinds();
-    every_kind();
-    short_outputs();
-    refused_trips();
-    positions();
-    scans();
-    names();
-    versions();
-    parts();
+fn main(rt: HostRuntime) -> Result<()> {
+    examples(&rt)?;
+    lengths(&rt)?;
+    longest(&rt)?;
+    kinds(&rt)?;
+    every_kind(&rt)?;
+    short_outputs(&rt)?;
+    refused_trips(&rt)?;
+    positions(&rt)?;
+    scans(&rt)?;
+    names(&rt)?;
+    versions(&rt)?;
+    parts(&rt)?;
+    Ok(())
 }

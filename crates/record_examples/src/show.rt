@@ -1,295 +1,318 @@
 // Prints what a call of the record crate, or a round trip over its calls, answers, a line a call.
 use crate::round_trips::{read_back, write_again};
-use libc::STDOUT_FILENO;
 use record::{Event, Fields, Named, Read, Scanned, Written};
+use std::io::Result;
 
-fn say(text: &[u8]) {
-    io::write_all(STDOUT_FILENO, text);
+fn say(rt: &impl Print, text: &[u8]) -> Result<()> {
+    rt.write_all(text)
 }
 
 fn wide(x: u16) -> u64 {
     x as u64
 }
 
-fn hex_byte(x: u8) {
-    say(b" ");
-    io::print_hex(STDOUT_FILENO, x as u64, 2);
+fn hex_byte(rt: &impl Print, x: u8) -> Result<()> {
+    say(rt, b" ")?;
+    print!(rt; "{x:02x}")
 }
 
-fn number(n: u64) {
-    say(b" ");
-    io::print_decimal(STDOUT_FILENO, n);
+fn number(rt: &impl Print, n: u64) -> Result<()> {
+    say(rt, b" ")?;
+    print!(rt; "{n}")
 }
 
-fn value(x: u16) {
-    number(wide(x));
+fn value(rt: &impl Print, x: u16) -> Result<()> {
+    number(rt, wide(x))?;
+    Ok(())
 }
 
 // The bytes in hexadecimal, each behind a space.
-fn hex(s: &[u8]) {
-    let mut i = 0;
-    while i < s.len() {
-        hex_byte(s[i]);
-        i += 1;
+fn hex(rt: &impl Print, s: &[u8]) -> Result<()> {
+    for x in s {
+        hex_byte(rt, *x)?;
     }
+    Ok(())
 }
 
-pub fn title(text: &[u8]) {
-    say(b"-- ");
-    say(text);
-    say(b"\n");
+pub fn title(rt: &impl Print, text: &[u8]) -> Result<()> {
+    say(rt, b"-- ")?;
+    say(rt, text)?;
+    say(rt, b"\n")?;
+    Ok(())
 }
 
-fn event(e: Event) {
+fn event(rt: &impl Print, e: Event) -> Result<()> {
     match e {
         Event::Begin {
             version,
             threads,
             locations,
         } => {
-            say(b" begin");
-            value(version);
-            value(threads);
-            value(locations);
+            say(rt, b" begin")?;
+            value(rt, version)?;
+            value(rt, threads)?;
+            value(rt, locations)?;
         }
-        Event::Issue { thread, location } => of_location(b" issue", thread, location),
-        Event::Commit { thread } => of_thread(b" commit", thread),
+        Event::Issue { thread, location } => of_location(rt, b" issue", thread, location)?,
+        Event::Commit { thread } => of_thread(rt, b" commit", thread)?,
         Event::Load {
             thread,
             location,
             source,
-        } => of_source(b" load", thread, location, source),
-        Event::Clflush { thread, location } => of_location(b" clflush", thread, location),
-        Event::Clwb { thread, location } => of_location(b" clwb", thread, location),
-        Event::Sfence { thread } => of_thread(b" sfence", thread),
-        Event::Mfence { thread } => of_thread(b" mfence", thread),
-        Event::Crash => say(b" crash"),
-        Event::SkipOn { thread } => of_thread(b" skip-on", thread),
-        Event::SkipOff { thread } => of_thread(b" skip-off", thread),
+        } => of_source(rt, b" load", thread, location, source)?,
+        Event::Clflush { thread, location } => of_location(rt, b" clflush", thread, location)?,
+        Event::Clwb { thread, location } => of_location(rt, b" clwb", thread, location)?,
+        Event::Sfence { thread } => of_thread(rt, b" sfence", thread)?,
+        Event::Mfence { thread } => of_thread(rt, b" mfence", thread)?,
+        Event::Crash => say(rt, b" crash")?,
+        Event::SkipOn { thread } => of_thread(rt, b" skip-on", thread)?,
+        Event::SkipOff { thread } => of_thread(rt, b" skip-off", thread)?,
         Event::Locked {
             thread,
             location,
             source,
-        } => of_source(b" locked", thread, location, source),
-        Event::Signal { thread } => of_thread(b" signal", thread),
+        } => of_source(rt, b" locked", thread, location, source)?,
+        Event::Signal { thread } => of_thread(rt, b" signal", thread)?,
         Event::Wait { thread, source } => {
-            of_thread(b" wait", thread);
-            value(source);
+            of_thread(rt, b" wait", thread)?;
+            value(rt, source)?;
         }
-        Event::Open { thread } => of_thread(b" open", thread),
+        Event::Open { thread } => of_thread(rt, b" open", thread)?,
         Event::Close { thread, outcome } => {
-            of_thread(b" close", thread);
-            value(outcome);
+            of_thread(rt, b" close", thread)?;
+            value(rt, outcome)?;
         }
     }
+    Ok(())
 }
 
-fn of_thread(name: &[u8], thread: u16) {
-    say(name);
-    value(thread);
+fn of_thread(rt: &impl Print, name: &[u8], thread: u16) -> Result<()> {
+    say(rt, name)?;
+    value(rt, thread)?;
+    Ok(())
 }
 
-fn of_location(name: &[u8], thread: u16, location: u16) {
-    of_thread(name, thread);
-    value(location);
+fn of_location(rt: &impl Print, name: &[u8], thread: u16, location: u16) -> Result<()> {
+    of_thread(rt, name, thread)?;
+    value(rt, location)?;
+    Ok(())
 }
 
-fn of_source(name: &[u8], thread: u16, location: u16, source: u16) {
-    of_location(name, thread, location);
-    value(source);
+fn of_source(rt: &impl Print, name: &[u8], thread: u16, location: u16, source: u16) -> Result<()> {
+    of_location(rt, name, thread, location)?;
+    value(rt, source)?;
+    Ok(())
 }
 
-fn found(r: Read) {
+fn found(rt: &impl Print, r: Read) -> Result<()> {
     match r {
         Read::Record(e, n) => {
-            event(e);
-            say(b", next");
-            number(n as u64);
+            event(rt, e)?;
+            say(rt, b", next")?;
+            number(rt, n as u64)?;
         }
         Read::Refused(k) => {
-            say(b" refused");
-            value(k);
+            say(rt, b" refused")?;
+            value(rt, k)?;
         }
     }
+    Ok(())
 }
 
-fn answer(r: Read) {
-    found(r);
-    say(b"\n");
+fn answer(rt: &impl Print, r: Read) -> Result<()> {
+    found(rt, r)?;
+    say(rt, b"\n")?;
+    Ok(())
 }
 
-fn answer_and_output(r: Read, out: &[u8]) {
-    found(r);
-    say(b", output");
-    hex(out);
-    say(b"\n");
+fn answer_and_output(rt: &impl Print, r: Read, out: &[u8]) -> Result<()> {
+    found(rt, r)?;
+    say(rt, b", output")?;
+    hex(rt, out)?;
+    say(rt, b"\n")?;
+    Ok(())
 }
 
 // The bytes, and the first record's event and size or the refusal.
-pub fn read(s: &[u8]) {
-    say(b"read");
-    hex(s);
-    say(b":");
-    answer(record::read_first(s));
+pub fn read(rt: &impl Print, s: &[u8]) -> Result<()> {
+    say(rt, b"read")?;
+    hex(rt, s)?;
+    say(rt, b":")?;
+    answer(rt, record::read_first(s))?;
+    Ok(())
 }
 
 // The record at a position.
-pub fn read_from(s: &[u8], at: usize) {
-    say(b"read at");
-    number(at as u64);
-    say(b":");
-    answer(record::read_at(s, at));
+pub fn read_from(rt: &impl Print, s: &[u8], at: usize) -> Result<()> {
+    say(rt, b"read at")?;
+    number(rt, at as u64)?;
+    say(rt, b":")?;
+    answer(rt, record::read_at(s, at))?;
+    Ok(())
 }
 
-fn fields(f: Fields) {
-    value(f.thread);
-    value(f.location);
-    value(f.source);
-    value(f.version);
-    value(f.threads);
-    value(f.locations);
-    value(f.outcome);
+fn fields(rt: &impl Print, f: Fields) -> Result<()> {
+    value(rt, f.thread)?;
+    value(rt, f.location)?;
+    value(rt, f.source)?;
+    value(rt, f.version)?;
+    value(rt, f.threads)?;
+    value(rt, f.locations)?;
+    value(rt, f.outcome)?;
+    Ok(())
 }
 
-fn numbers(s: Scanned) {
+fn numbers(rt: &impl Print, s: Scanned) -> Result<()> {
     match s {
         Scanned::Record(r) => {
-            say(b" kind");
-            value(r.kind);
-            say(b", fields");
-            fields(r.fields);
-            say(b", next");
-            number(r.next as u64);
+            say(rt, b" kind")?;
+            value(rt, r.kind)?;
+            say(rt, b", fields")?;
+            fields(rt, r.fields)?;
+            say(rt, b", next")?;
+            number(rt, r.next as u64)?;
         }
         Scanned::Refused(k) => {
-            say(b" refused");
-            value(k);
+            say(rt, b" refused")?;
+            value(rt, k)?;
         }
     }
-    say(b"\n");
+    say(rt, b"\n")?;
+    Ok(())
 }
 
 // The bytes, and the first record's numbers or the refusal.
-pub fn scan(s: &[u8]) {
-    say(b"scan");
-    hex(s);
-    say(b":");
-    numbers(record::scan_at(s, 0));
+pub fn scan(rt: &impl Print, s: &[u8]) -> Result<()> {
+    say(rt, b"scan")?;
+    hex(rt, s)?;
+    say(rt, b":")?;
+    numbers(rt, record::scan_at(s, 0))?;
+    Ok(())
 }
 
 // The numbers of the record at a position: its kind, its fields (thread, location, source, version, threads, locations
 // and outcome) and the position past it.
-pub fn scan_from(s: &[u8], at: usize) {
-    say(b"scan at");
-    number(at as u64);
-    say(b":");
-    numbers(record::scan_at(s, at));
+pub fn scan_from(rt: &impl Print, s: &[u8], at: usize) -> Result<()> {
+    say(rt, b"scan at")?;
+    number(rt, at as u64)?;
+    say(rt, b":")?;
+    numbers(rt, record::scan_at(s, at))?;
+    Ok(())
 }
 
 // What refuses the record at a position of a trace of that version, where number k refuses it read alone.
-pub fn later(s: &[u8], version: u16, at: usize, k: u16) {
-    say(b"in version");
-    value(version);
-    say(b" at");
-    number(at as u64);
-    say(b", alone");
-    value(k);
-    say(b":");
-    value(record::later_refusal(version, s, at, k));
-    say(b"\n");
+pub fn later(rt: &impl Print, s: &[u8], version: u16, at: usize, k: u16) -> Result<()> {
+    say(rt, b"in version")?;
+    value(rt, version)?;
+    say(rt, b" at")?;
+    number(rt, at as u64)?;
+    say(rt, b", alone")?;
+    value(rt, k)?;
+    say(rt, b":")?;
+    value(rt, record::later_refusal(version, s, at, k))?;
+    say(rt, b"\n")?;
+    Ok(())
 }
 
 // The event of a kind with these fields.
-pub fn name(kind: u16, f: Fields) {
-    say(b"event of kind");
-    value(kind);
-    say(b":");
+pub fn name(rt: &impl Print, kind: u16, f: Fields) -> Result<()> {
+    say(rt, b"event of kind")?;
+    value(rt, kind)?;
+    say(rt, b":")?;
     let n = record::event_of(kind, f);
     match n {
-        Named::Known(e) => event(e),
-        Named::NoKind => say(b" no kind"),
+        Named::Known(e) => event(rt, e)?,
+        Named::NoKind => say(rt, b" no kind")?,
     }
-    say(b"\n");
+    say(rt, b"\n")?;
+    Ok(())
 }
 
 // An event written into the output: the answer, and what the output holds afterwards.
-fn write_into(e: Event, out: &mut [u8]) {
-    say(b"write");
-    event(e);
-    say(b" into");
-    number(out.len() as u64);
-    say(b":");
+fn write_into(rt: &impl Print, e: Event, out: &mut [u8]) -> Result<()> {
+    say(rt, b"write")?;
+    event(rt, e)?;
+    say(rt, b" into")?;
+    number(rt, out.len() as u64)?;
+    say(rt, b":")?;
     let w = record::write(e, out);
     match w {
-        Written::Done(n) => number(n as u64),
-        Written::NoRoom => say(b" refused 17"),
+        Written::Done(n) => number(rt, n as u64)?,
+        Written::NoRoom => say(rt, b" refused 17")?,
     }
-    say(b", output");
-    hex(out);
-    say(b"\n");
+    say(rt, b", output")?;
+    hex(rt, out)?;
+    say(rt, b"\n")?;
+    Ok(())
 }
 
 // An event written into an output of so many bytes, at most twelve.
-pub fn write_short(e: Event, room: usize) {
+pub fn write_short(rt: &impl Print, e: Event, room: usize) -> Result<()> {
     let mut out = [238u8; 12];
     if room <= 12 {
-        write_into(e, &mut out[..room]);
+        write_into(rt, e, &mut out[..room])?;
     }
+    Ok(())
 }
 
 // An event written into the output and read back, and what the output holds afterwards.
-pub fn back(e: Event, out: &mut [u8]) {
-    say(b"back");
-    event(e);
-    say(b" into");
-    number(out.len() as u64);
-    say(b":");
+pub fn back(rt: &impl Print, e: Event, out: &mut [u8]) -> Result<()> {
+    say(rt, b"back")?;
+    event(rt, e)?;
+    say(rt, b" into")?;
+    number(rt, out.len() as u64)?;
+    say(rt, b":")?;
     let r = read_back(e, out);
-    answer_and_output(r, out);
+    answer_and_output(rt, r, out)?;
+    Ok(())
 }
 
 // The first record of some bytes read and written again into the output, and what the output holds afterwards.
-pub fn again(s: &[u8], out: &mut [u8]) {
-    say(b"again");
-    hex(s);
-    say(b" into");
-    number(out.len() as u64);
-    say(b":");
+pub fn again(rt: &impl Print, s: &[u8], out: &mut [u8]) -> Result<()> {
+    say(rt, b"again")?;
+    hex(rt, s)?;
+    say(rt, b" into")?;
+    number(rt, out.len() as u64)?;
+    say(rt, b":")?;
     let r = write_again(s, out);
-    answer_and_output(r, out);
+    answer_and_output(rt, r, out)?;
+    Ok(())
 }
 
 // An event written into twelve bytes and framed; then written and read back, and its record written again.
-pub fn write(e: Event) {
+pub fn write(rt: &impl Print, e: Event) -> Result<()> {
     let mut out = [238u8; 12];
-    write_into(e, &mut out);
-    say(b"  part 0:");
-    hex(record::part(&out, 0));
-    say(b"\n");
+    write_into(rt, e, &mut out)?;
+    say(rt, b"  part 0:")?;
+    hex(rt, record::part(&out, 0))?;
+    say(rt, b"\n")?;
     let mut trip = [238u8; 12];
-    say(b"  ");
-    back(e, &mut trip);
+    say(rt, b"  ")?;
+    back(rt, e, &mut trip)?;
     let mut copy = [238u8; 12];
-    say(b"  ");
-    again(&trip, &mut copy);
+    say(rt, b"  ")?;
+    again(rt, &trip, &mut copy)?;
+    Ok(())
 }
 
-fn part(s: &[u8], e: usize) {
-    say(b"  part");
-    number(e as u64);
-    say(b":");
-    hex(record::part(s, e));
-    say(b"\n");
+fn part(rt: &impl Print, s: &[u8], e: usize) -> Result<()> {
+    say(rt, b"  part")?;
+    number(rt, e as u64)?;
+    say(rt, b":")?;
+    hex(rt, record::part(s, e))?;
+    say(rt, b"\n")?;
+    Ok(())
 }
 
 // Parts 0 to 3 of a trace, and one far past its end.
-pub fn parts_of(s: &[u8]) {
-    say(b"trace");
-    hex(s);
-    say(b"\n");
-    part(s, 0);
-    part(s, 1);
-    part(s, 2);
-    part(s, 3);
-    part(s, 18446744073709551615);
+pub fn parts_of(rt: &impl Print, s: &[u8]) -> Result<()> {
+    say(rt, b"trace")?;
+    hex(rt, s)?;
+    say(rt, b"\n")?;
+    part(rt, s, 0)?;
+    part(rt, s, 1)?;
+    part(rt, s, 2)?;
+    part(rt, s, 3)?;
+    part(rt, s, 18446744073709551615)?;
+    Ok(())
 }

@@ -1,23 +1,45 @@
 // Prints the reports of cases 1, 2, 7, 8 and 9 of document 01, of case 1 with its locations on two cache lines, of the
 // longest text and of numbers past the bounds, and then the threads and finished stretches of a few byte strings.
 // `stdout` is worked by hand from documents 01 and 02.
-use libc::STDOUT_FILENO;
+#![tactic(auto)]
+
 use model::{Kind, Verdict, Window, Windows};
+use std::io::Result;
 
 // Prints the report of a verdict.
-fn print(v: Verdict, threads: u16, finished: u16, cut: &[u16]) {
+fn print(rt: &impl Print, v: Verdict, threads: u16, finished: u16, cut: &[u16]) -> Result<()> {
     let mut out = [0u8; 1024];
     let n = report::report(v, threads, finished, cut, &mut out);
-    io::write_all(STDOUT_FILENO, &out[..n]);
+    rt.write_all(&out[..n])
 }
 
 // Prints the report of a robust trace.
-fn print_robust(events: u16, share: u16, threads: u16, finished: u16, cut: &[u16]) {
-    print(Verdict::Robust { events, share }, threads, finished, cut);
+fn print_robust(
+    rt: &impl Print,
+    events: u16,
+    share: u16,
+    threads: u16,
+    finished: u16,
+    cut: &[u16],
+) -> Result<()> {
+    print(
+        rt,
+        Verdict::Robust { events, share },
+        threads,
+        finished,
+        cut,
+    )
 }
 
 // Prints the report of a broken trace.
-fn print_broken(events: u16, load: u16, missing: u16, observed: u16, kind: Kind) {
+fn print_broken(
+    rt: &impl Print,
+    events: u16,
+    load: u16,
+    missing: u16,
+    observed: u16,
+    kind: Kind,
+) -> Result<()> {
     let v = Verdict::Broken {
         events,
         load,
@@ -25,7 +47,7 @@ fn print_broken(events: u16, load: u16, missing: u16, observed: u16, kind: Kind)
         observed,
         kind,
     };
-    print(v, 1, 1, &[0]);
+    print(rt, v, 1, 1, &[0])
 }
 
 // The windows of case 1 on two lines: thread 0 may flush in front of records 6 and 7, the others in front of none.
@@ -45,41 +67,44 @@ fn windows() -> Windows {
 }
 
 // Prints the report of a refusal.
-fn print_refused(number: u16, event: u16) {
-    print(Verdict::Refused { number, event }, 1, 1, &[0]);
+fn print_refused(rt: &impl Print, number: u16, event: u16) -> Result<()> {
+    print(rt, Verdict::Refused { number, event }, 1, 1, &[0])
 }
 
 // Prints a trace's threads and finished stretches.
-fn print_shape(trace: &[u8]) {
+fn print_shape(rt: &impl Print, trace: &[u8]) -> Result<()> {
     let s = report::shape_of(trace);
-    io::print_decimal(STDOUT_FILENO, s.threads as u64);
-    io::write_all(STDOUT_FILENO, b" ");
-    io::print_decimal(STDOUT_FILENO, s.finished as u64);
-    io::write_all(STDOUT_FILENO, b"\n");
+    let (threads, finished) = (s.threads, s.finished);
+    println!(rt; "{threads} {finished}")
 }
 
-fn main() {
+fn main(rt: HostRuntime) -> Result<()> {
     // case 1, on one line and on two; cases 2, 7, 8 and 9
-    print_broken(11, 11, 5, 7, Kind::Impossible);
-    print_broken(11, 11, 5, 7, Kind::Flush(windows()));
-    print_robust(7, 50, 2, 1, &[0, 1]);
-    print_broken(5, 5, 1, 1, Kind::Contradiction);
-    print_refused(9, 3);
-    print_robust(0, 100, 1, 0, &[0]);
+    print_broken(&rt, 11, 11, 5, 7, Kind::Impossible)?;
+    print_broken(&rt, 11, 11, 5, 7, Kind::Flush(windows()))?;
+    print_robust(&rt, 7, 50, 2, 1, &[0, 1])?;
+    print_broken(&rt, 5, 5, 1, 1, Kind::Contradiction)?;
+    print_refused(&rt, 9, 3)?;
+    print_robust(&rt, 0, 100, 1, 0, &[0])?;
     // two stretches of two threads, and the longest text
-    print_robust(90, 9, 2, 2, &[1, 20, 0, 0, 0, 0, 0, 0, 300, 4000]);
-    print_robust(65535, 65535, 8, 7, &[65535; 56]);
+    print_robust(&rt, 90, 9, 2, 2, &[1, 20, 0, 0, 0, 0, 0, 0, 300, 4000])?;
+    print_robust(&rt, 65535, 65535, 8, 7, &[65535; 56])?;
     // more threads and stretches than a trace can have, and a cut that ends early
-    print_robust(10, 0, 9, 8, &[1, 20, 300, 4000, 50000]);
+    print_robust(&rt, 10, 0, 9, 8, &[1, 20, 300, 4000, 50000])?;
     // no bytes; a begin with 2 threads; the same with a crash, then with bytes that end inside a record; with kind 99
     // before a crash; a crash alone; eight crashes
-    print_shape(b"");
-    print_shape(b"\x08\0\x01\0\x01\0\x02\0\x02\0");
-    print_shape(b"\x08\0\x01\0\x01\0\x02\0\x02\0\x02\0\x09\0");
-    print_shape(b"\x08\0\x01\0\x01\0\x02\0\x02\0\x02\0\x09\0\x08\0\x01");
-    print_shape(b"\x08\0\x01\0\x01\0\x02\0\x02\0\x02\0\x63\0\x02\0\x09\0");
-    print_shape(b"\x02\0\x09\0");
+    print_shape(&rt, b"")?;
+    print_shape(&rt, b"\x08\0\x01\0\x01\0\x02\0\x02\0")?;
+    print_shape(&rt, b"\x08\0\x01\0\x01\0\x02\0\x02\0\x02\0\x09\0")?;
+    print_shape(&rt, b"\x08\0\x01\0\x01\0\x02\0\x02\0\x02\0\x09\0\x08\0\x01")?;
     print_shape(
+        &rt,
+        b"\x08\0\x01\0\x01\0\x02\0\x02\0\x02\0\x63\0\x02\0\x09\0",
+    )?;
+    print_shape(&rt, b"\x02\0\x09\0")?;
+    print_shape(
+        &rt,
         b"\x02\0\x09\0\x02\0\x09\0\x02\0\x09\0\x02\0\x09\0\x02\0\x09\0\x02\0\x09\0\x02\0\x09\0\x02\0\x09\0",
-    );
+    )?;
+    Ok(())
 }

@@ -1,36 +1,38 @@
 // The answer to each line.
-ghost use Rattle.std.specs.Prelude.{◌≡◌, ◌≤◌, ◌<◌, length};
+ghost use Rattle.std.specs.Prelude.{◌≡◌, ◌≤◌, ◌<◌, length, IfOk};
 
-use crate::{lines, windows};
-use libc::STDOUT_FILENO;
+use crate::{lines, window_lines};
 use model::{Order, Verdict};
+use std::io::Result;
 
-fn print(text: &[u8]) {
-    io::write_all(STDOUT_FILENO, text);
-}
-
-fn print_verdict(v: Verdict, threads: u16, finished: u16, cut: &[u16]) {
+fn print_verdict(
+    rt: &impl Print,
+    v: Verdict,
+    threads: u16,
+    finished: u16,
+    cut: &[u16],
+) -> Result<()> {
     let mut out = [0u8; 1024];
     let n = report::report(v, threads, finished, cut, &mut out);
-    io::write_all(STDOUT_FILENO, &out[..n]);
+    rt.write_all(&out[..n])
 }
 
 // ---- judging
 
-fn judge(trace: &[u8]) {
+fn judge(rt: &impl Print, trace: &[u8]) -> Result<()> {
     let mut out = [0u8; 1024];
     let n = verdict_text::text_of(trace, &mut out);
-    io::write_all(STDOUT_FILENO, &out[..n]);
+    rt.write_all(&out[..n])
 }
 
 // Judges a trace, and prints behind the lines of its verdict those of its windows.
-fn judge_windows(trace: &[u8]) {
+fn judge_windows(rt: &impl Print, trace: &[u8]) -> Result<()> {
     let mut work = [0u16; 32768];
     let mut cut = [0u16; 56];
     let v = judge::judge(trace, &mut work, &mut cut);
     let s = report::shape_of(trace);
-    print_verdict(v, s.threads, s.finished, &cut);
-    windows::print_windows_of(v);
+    print_verdict(rt, v, s.threads, s.finished, &cut)?;
+    window_lines::print_windows_of(rt, v)
 }
 
 fn one_if_zero(x: u16) -> usize
@@ -50,10 +52,9 @@ fn zeros(numbers: &[u16]) -> usize {
     n
 }
 
-fn print_zeros(name: &[u8], numbers: &[u16]) {
-    print(name);
-    io::print_decimal(STDOUT_FILENO, zeros(numbers) as u64);
-    print(b"\n");
+fn print_zeros(rt: &impl Print, name: &str, numbers: &[u16]) -> Result<()> {
+    let n = zeros(numbers);
+    println!(rt; "zeros of the {name} {n}")
 }
 
 fn least(a: usize, b: usize) -> usize
@@ -63,7 +64,7 @@ fn least(a: usize, b: usize) -> usize
 }
 
 // Judges with buffers that hold no 0; then says how many numbers of each are 0.
-fn judge_with(trace: &[u8], work_size: usize, cut_size: usize) {
+fn judge_with(rt: &impl Print, trace: &[u8], work_size: usize, cut_size: usize) -> Result<()> {
     let mut work_space = [7u16; 32770];
     let mut cut_space = [9u16; 57];
     let work: &mut [u16] = &mut work_space;
@@ -72,22 +73,23 @@ fn judge_with(trace: &[u8], work_size: usize, cut_size: usize) {
     let c = least(cut_size, cut.len());
     let v = judge::judge(trace, &mut work[..w], &mut cut[..c]);
     let s = report::shape_of(trace);
-    print_verdict(v, s.threads, s.finished, cut);
-    print_zeros(b"zeros of the work area ", work);
-    print_zeros(b"zeros of the cut buffer ", cut);
+    print_verdict(rt, v, s.threads, s.finished, cut)?;
+    print_zeros(rt, "work area", work)?;
+    print_zeros(rt, "cut buffer", cut)
 }
 
 // ---- the order query
 
-fn order(trace: &[u8], first: u16, second: u16) {
+fn order(rt: &impl Print, trace: &[u8], first: u16, second: u16) -> Result<()> {
     let mut work = [0u16; 32768];
     let r = judge::order(trace, &mut work, first, second);
     match r {
-        Order::Before => print(b"before\n"),
-        Order::After => print(b"after\n"),
-        Order::Same => print(b"same\n"),
-        Order::Neither => print(b"neither\n"),
+        Order::Before => rt.println("before"),
+        Order::After => rt.println("after"),
+        Order::Same => rt.println("same"),
+        Order::Neither => rt.println("neither"),
         Order::Refused { number, event } => print_verdict(
+            rt,
             Verdict::Refused { number, event },
             0,
             0,
@@ -99,48 +101,47 @@ fn order(trace: &[u8], first: u16, second: u16) {
 // ---- a line
 
 // A session by its letter: j or w, or with two numbers before the trace o or b.
-fn answer(letter: u8, bytes: &[u8]) {
+fn answer(rt: &impl Print, letter: u8, bytes: &[u8]) -> Result<()> {
     if letter == b'j' {
-        judge(bytes);
-        return;
+        return judge(rt, bytes);
     }
     if letter == b'w' {
-        judge_windows(bytes);
-        return;
+        return judge_windows(rt, bytes);
     }
     if bytes.len() < 4 {
-        return;
+        return Ok(());
     }
     let first = lines::number(lines::byte_at(bytes, 0), lines::byte_at(bytes, 1));
     let second = lines::number(lines::byte_at(bytes, 2), lines::byte_at(bytes, 3));
     let start: usize = 4;
     if letter == b'o' {
-        order(&bytes[start..], first, second);
+        order(rt, &bytes[start..], first, second)
     } else {
-        judge_with(&bytes[start..], first as usize, second as usize);
+        judge_with(rt, &bytes[start..], first as usize, second as usize)
     }
 }
 
 // Answers the line that starts at `at`, and says where the next one starts.
-fn answer_line(input: &[u8], at: usize) -> usize
+fn answer_line(rt: &impl Print, input: &[u8], at: usize) -> Result<usize>
     requires { at < length input.now }
-    ensures { at < result }
+    ensures { IfOk result (λ next. at < next) }
 {
     let end = lines::line_end(input, at);
     if input[at] == b'#' {
-        print(&input[at..end]);
-        print(b"\n");
+        rt.write_all(&input[at..end])?;
+        rt.write_all(b"\n")?;
     } else {
         let mut bytes = [0u8; 32768];
         let n = lines::decode(&input[at..end], &mut bytes);
-        answer(input[at], &bytes[..n]);
+        answer(rt, input[at], &bytes[..n])?;
     }
-    end + 1
+    Ok(end + 1)
 }
 
-pub(crate) fn answer_all(input: &[u8]) {
+pub(crate) fn answer_all(rt: &impl Print, input: &[u8]) -> Result<()> {
     let mut at: usize = 0;
     while at < input.len() {
-        at = answer_line(input, at);
+        at = answer_line(rt, input, at)?;
     }
+    Ok(())
 }

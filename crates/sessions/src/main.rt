@@ -5,13 +5,15 @@
 //   wTRACE               judge the trace and print its windows behind the lines
 //   oFIRSTSECONDTRACE    four digits each: the order query
 //   bWORKCUTTRACE        four digits each: judge with a work area of 7s and a cut buffer of 9s of these lengths
-ghost use Rattle.std.specs.Prelude.{◌≡◌, length};
+#![tactic(auto)]
+
+ghost use Rattle.std.specs.Prelude.{◌≡◌, ◌≤◌, length, IfOk};
 
 mod answers;
 mod lines;
-mod windows;
+mod window_lines;
 
-use libc::STDIN_FILENO;
+use std::io::{Read, Result};
 
 // A megabyte of zeros, for the input.
 fn space() -> [u8; 1048576]
@@ -20,8 +22,24 @@ fn space() -> [u8; 1048576]
     [0; 1048576]
 }
 
-fn main() {
+// Reads until the buffer is full or the input ends; answers how many bytes stand at the buffer's start.
+fn fill<R: Read>(from: &mut R, buf: &mut [u8]) -> Result<usize>
+    ensures { IfOk result (λ n. n ≤ length buf.new) }
+{
+    let mut done = 0;
+    while done < buf.len() {
+        let n = from.read(&mut buf[done..])?;
+        if n == 0 {
+            return Ok(done);
+        }
+        done += n;
+    }
+    Ok(done)
+}
+
+fn main(rt: HostRuntime) -> Result<()> {
     let mut input = space();
-    let n = io::read_full(STDIN_FILENO, &mut input);
-    answers::answer_all(&input[..n]);
+    let mut reader = rt.reader();
+    let n = fill(&mut reader, &mut input)?;
+    answers::answer_all(&rt, &input[..n])
 }

@@ -1,20 +1,39 @@
 // Reads a trace from standard input and prints its verdict. If a read fails it prints none, since a part of a trace may
 // be judged otherwise than the whole, and says so on standard error. It says there too that a write failed.
+#![tactic(auto)]
+
 mod input;
 
 use input::Input;
-use libc::{STDIN_FILENO, STDOUT_FILENO};
+use std::io;
+use std::io::Error;
 
-fn main() {
-    let mut buffer = io::large_buffer();
-    let read = input::read_all(STDIN_FILENO, &mut buffer);
-    let Input::Bytes(n) = read else {
-        os::fail(b"verdict: cannot read standard input");
-        return;
+// The text of an error without the number that the system gives it.
+fn reason(text: &str) -> &str {
+    match text.split_once(" (os error ") {
+        Some((front, _)) => front,
+        None => text,
+    }
+}
+
+// Says on standard error what failed, and why, in one line.
+fn complain(rt: &(impl Eprint + AllocGlobal), what: &str, e: Error) -> io::Result<()> {
+    let text = format!(in rt.alloc(); "{e}")?;
+    let why = reason(text.as_str());
+    eprintln!(rt; "verdict: {what}: {why}")
+}
+
+fn main(rt: HostRuntime) -> io::Result<()> {
+    let mut buffer = [0u8; 65536];
+    let mut reader = rt.reader();
+    let n = match input::read_all(&mut reader, &mut buffer) {
+        Input::Bytes(n) => n,
+        Input::Failed(e) => return complain(&rt, "cannot read standard input", e),
     };
     let mut out = [0u8; 1024];
     let size = verdict_text::text_of(&buffer[..n], &mut out);
-    if !io::write_all(STDOUT_FILENO, &out[..size]) {
-        os::fail(b"verdict: cannot write standard output");
+    match rt.write_all(&out[..size]) {
+        Ok(()) => Ok(()),
+        Err(e) => complain(&rt, "cannot write standard output", e),
     }
 }

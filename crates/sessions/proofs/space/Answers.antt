@@ -2,11 +2,7 @@
 use mathlib.Core.Path.{sym}
 use Prim.Native.Nat.{ℕ}
 use lib.ListN.{length-replicate}
-use Rattle.sessions.proofs.space.Statement.{statement}
-use Rattle.sessions.proofs.space.Tie as tie
+use Rattle.sessions.proofs.space.Goals as goal
 
-returns : tie.Need-returns
+pub returns : goal.returns
 returns c = sym (length-replicate {A = ℕ} 1048576 0)
-
-pub space_spec : {M : Type 1} → statement M
-space_spec = tie.close (tie.spec returns)
