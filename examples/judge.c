@@ -4,8 +4,8 @@
  * loads that its thread held count. An empty file, as that of a recorder that never started, is a trace with no events,
  * which is robust.
  *
- *     rt staticlib cabi
- *     cc -Iinclude examples/judge.c target/staticlib/libcabi.a -o target/judge
+ *     (cd crates/cabi && rt lib) && mkdir -p target
+ *     cc -Iinclude examples/judge.c crates/cabi/out/libcabi.a -o target/judge
  *     target/judge examples/flush.trace
  */
 #include <stdio.h>

@@ -1,7 +1,7 @@
 /*
  * Gorbuzte: a judge of store order across crashes, for C.
  *
- * Link target/staticlib/libcabi.a, which `rt staticlib cabi` proves and builds (x86-64 Linux). Every call takes any
+ * Link crates/cabi/out/libcabi.a, which `rt lib` in crates/cabi proves and builds (x86-64 Linux). Every call takes any
  * input, always returns, keeps nothing and calls nothing outside the library. A trace is a pointer and a length in
  * bytes, a work area or a cut buffer a pointer and a length in two-byte numbers; no two of them may overlap. A pointer
  * must not be NULL, even where its length is 0. Answers are two-byte numbers in lent arrays of fixed size.
