@@ -35,9 +35,9 @@ CONSTRUCTORS = {oracle.BEGIN: "Begin", oracle.ISSUE: "Issue", oracle.COMMIT: "Co
 
 LISTS = {"cases": CASES, "trade": ERRORS, "windows": WINDOWS, "locked": LOCKED, "handed": HANDED,
          "one_line": ONE_LINE, "no_bytes": NO_BYTES, "checksums": CHECKSUMS}
-THEOREMS = {"cases": "cases-1-to-11", "trade": "errors-of-the-trade", "windows": "windows-as-worked",
-            "locked": "locked-as-worked", "handed": "handed-as-worked", "one_line": "one-line-as-worked",
-            "no_bytes": "no-bytes-as-worked", "checksums": "checksums-as-worked", "random": "random-sessions"}
+THEOREMS = {"cases": "cases_1_to_11", "trade": "errors_of_the_trade", "windows": "windows_as_worked",
+            "locked": "locked_as_worked", "handed": "handed_as_worked", "one_line": "one_line_as_worked",
+            "no_bytes": "no_bytes_as_worked", "checksums": "checksums_as_worked", "random": "random_sessions"}
 
 # What stands on top of the file, and behind it how it is shown and made.
 HEADERS = {
@@ -72,70 +72,70 @@ SHOWN = "Shown together as one list, by computation."
 SHOWN_TWICE = "Each list is shown together, by computation."
 MADE = "Made by tools/oracle/proof_file.py."
 
-IMPORTS = """use mathlib.Core.Path.{_≡_, refl, sym, ap, _∙_}
-use mathlib.Core.List.{List, [], _∷_, map}
+IMPORTS = """use mathlib.Core.Path.{◌≡◌, refl, sym, ap, ◌∙◌}
+use mathlib.Core.List.{List, [], ◌∷◌, map}
 use Prim.Native.Nat.{ℕ}
-use Rattle·record.specs.declared.events.Event.{Event}
+use Rattle.record.specs.declared.events.Event.{Event}
 %s
-use Rattle·record.specs.Events.{recordOf}
-use Rattle·record.specs.Table.{rowOf}
-use Rattle·model·specs.specs.Search.{some, any, last, first, firstFrom, most}
-use Rattle·model·specs.specs.Trace.{stretch, count}
-use Rattle·model·specs.specs.Machine.{committed, commitOf, waiting, current, sourceFits, switched}
-use Rattle·model·specs.specs.Machine.{countable, held, counting}
-use Rattle·model·specs.specs.Rules.{answer, rules}
-use Rattle·model·specs.specs.Choice.{finished}
-use Rattle·model·specs.specs.Clocks.{seen, clock, vc}
-use Rattle·model·specs.specs.Verdict.{forbids?, observes?, forbidden?, observed?, pair?, missing?, bad?, closure}
-use Rattle·model·specs.specs.Verdict.{loadOf, missingOf, observedOf, rulingOf}
-use Rattle·model·specs.specs.Windows.{%s}
-use Rattle·model·specs.specs.Answers.{%s}
-use Rattle·model·specs.specs.Answers.{tabulate, cutOf, sum, shareOf, faultOf}
-use Rattle·model·specs.specs.Reading.{encode}
-use Rattle·model·proofs.proofs.Encoding.{readingEvents}
-use Rattle·model·proofs.proofs.Sessions.{%s, Outcome, outcomeOf, outcomeOfEvents, outcome-all}"""
+use Rattle.record.specs.Events.{record_of}
+use Rattle.record.specs.Table.{row_of}
+use Rattle.model.specs.Search.{some, any, last, first, first_from, most}
+use Rattle.model.specs.Trace.{stretch, count}
+use Rattle.model.specs.Machine.{committed, commit_of, waiting, current, source_fits, switched}
+use Rattle.model.specs.Machine.{countable, held, counting}
+use Rattle.model.specs.Rules.{answer, rules}
+use Rattle.model.specs.Choice.{finished}
+use Rattle.model.specs.Clocks.{seen, clock, vc}
+use Rattle.model.specs.Verdict.{forbids?, observes?, forbidden?, observed?, pair?, missing?, bad?, closure}
+use Rattle.model.specs.Verdict.{load_of, missing_of, observed_of, ruling_of}
+use Rattle.model.specs.Windows.{%s}
+use Rattle.model.specs.Answers.{%s}
+use Rattle.model.specs.Answers.{tabulate, cut_of, sum, share_of, fault_of}
+use Rattle.model.specs.Reading.{encode}
+use Rattle.model.proofs.Encoding.{reading_events}
+use Rattle.model.proofs.Sessions.{%s, Outcome, outcome_of, outcome_of_events, outcome_all}"""
 
 THEOREM = """encoded : map encode traces ≡ sessions
-unfolding traces sessions encode recordOf rowOf
+unfolding traces sessions encode record_of row_of
 encoded = refl
 
-computed : map outcomeOfEvents traces ≡ answers
-unfolding traces answers readingEvents some last first firstFrom most stretch count committed commitOf waiting current
-    sourceFits switched countable held counting any answer rules finished seen clock vc forbids? observes? forbidden?
-    observed? pair? missing? bad? closure loadOf missingOf observedOf rulingOf behind lastCovered windowOf faultOf
-    tabulate cutOf sum shareOf rowOf
+computed : map outcome_of_events traces ≡ answers
+unfolding traces answers reading_events some last first first_from most stretch count committed commit_of waiting current
+    source_fits switched countable held counting any answer rules finished seen clock vc forbids? observes? forbidden?
+    observed? pair? missing? bad? closure load_of missing_of observed_of ruling_of behind last_covered window_of fault_of
+    tabulate cut_of sum share_of row_of
 computed = refl
 
-pub %s : map outcomeOf sessions ≡ answers
+pub %s : map outcome_of sessions ≡ answers
 unfolding traces
-%s = ap (map outcomeOf) (sym encoded) ∙ (outcome-all traces refl ∙ computed)"""
+%s = ap (map outcome_of) (sym encoded) ∙ (outcome_all traces refl ∙ computed)"""
 
 
 # The same for bytes that need not be records.
-BYTES_IMPORTS = """use mathlib.Core.Path.{_≡_, refl}
-use mathlib.Core.List.{List, [], _∷_, map}
+BYTES_IMPORTS = """use mathlib.Core.Path.{◌≡◌, refl}
+use mathlib.Core.List.{List, [], ◌∷◌, map}
 use Prim.Native.Nat.{ℕ}
-use Rattle·record.specs.Reading.{readAt, readFirst, readFramed, frame}
-use Rattle·record.specs.Parts.{start, sizeAt}
-use Rattle·record.specs.Table.{rowOf}
-use Rattle·record.specs.Fields.{eventOf}
-use Rattle·record.specs.Versions.{laterRefusal}
-use Rattle·model·specs.specs.Search.{some, any, first, firstFrom, most}
-use Rattle·model·specs.specs.Trace.{stretch, count}
-use Rattle·model·specs.specs.Machine.{countable, held, counting}
-use Rattle·model·specs.specs.Rules.{answer, rules}
-use Rattle·model·specs.specs.Choice.{finished}
-use Rattle·model·specs.specs.Verdict.{forbidden?, observed?, pair?, missing?, bad?, closure, rulingOf}
-use Rattle·model·specs.specs.Answers.{%s}
-use Rattle·model·specs.specs.Answers.{tabulate, cutOf, sum, shareOf}
-use Rattle·model·specs.specs.Reading.{events, recordAt, stop, readingOf}
-use Rattle·model·specs.specs.Judge.{judgeOf, cutAfter}
-use Rattle·model·proofs.proofs.Sessions.{%s, Outcome, outcomeOf}"""
+use Rattle.record.specs.Reading.{read_at, read_first, read_framed, frame}
+use Rattle.record.specs.Parts.{start, size_at}
+use Rattle.record.specs.Table.{row_of}
+use Rattle.record.specs.Fields.{event_of}
+use Rattle.record.specs.Versions.{later_refusal}
+use Rattle.model.specs.Search.{some, any, first, first_from, most}
+use Rattle.model.specs.Trace.{stretch, count}
+use Rattle.model.specs.Machine.{countable, held, counting}
+use Rattle.model.specs.Rules.{answer, rules}
+use Rattle.model.specs.Choice.{finished}
+use Rattle.model.specs.Verdict.{forbidden?, observed?, pair?, missing?, bad?, closure, ruling_of}
+use Rattle.model.specs.Answers.{%s}
+use Rattle.model.specs.Answers.{tabulate, cut_of, sum, share_of}
+use Rattle.model.specs.Reading.{events, record_at, stop, reading_of}
+use Rattle.model.specs.Judge.{judge_of, cut_after}
+use Rattle.model.proofs.Sessions.{%s, Outcome, outcome_of}"""
 
-BYTES_THEOREM = """pub {theorem} : map outcomeOf {sessions} ≡ {answers}
-unfolding {both} judgeOf cutAfter readingOf stop recordAt events some any first firstFrom most answer rules
-    readAt readFirst readFramed frame start sizeAt rowOf eventOf laterRefusal stretch count countable held counting
-    finished forbidden? observed? pair? missing? bad? closure rulingOf tabulate cutOf sum shareOf
+BYTES_THEOREM = """pub {theorem} : map outcome_of {sessions} ≡ {answers}
+unfolding {both} judge_of cut_after reading_of stop record_at events some any first first_from most answer rules
+    read_at read_first read_framed frame start size_at row_of event_of later_refusal stretch count countable held counting
+    finished forbidden? observed? pair? missing? bad? closure ruling_of tabulate cut_of sum share_of
 {theorem} = refl"""
 
 
@@ -160,7 +160,7 @@ def header(which: str) -> str:
 def imported(names: list[str]) -> list[str]:
     """The lines that bring in constructors of `Event`, six to a line."""
     groups = [names[first:first + 6] for first in range(0, len(names), 6)]
-    return [f"use Rattle·record.specs.declared.events.Event.the-variants.{{{', '.join(group)}}}" for group in groups]
+    return [f"use Rattle.record.specs.declared.events.Event.TheVariants.{{{', '.join(group)}}}" for group in groups]
 
 
 def named(names: str, answers: Iterable[str], more: str = "") -> str:
@@ -240,7 +240,7 @@ def events_imports(listed: Listed) -> str:
     kinds = {event.kind for _, data, _ in listed for event in events_of(data)}
     used = "\n".join(imported([CONSTRUCTORS[kind] for kind in sorted(kinds)]))
     entries = [shown_answer(lines) for _, _, lines in listed]
-    windows = named("none between", entries, "behind lastCovered windowOf")
+    windows = named("none between", entries, "behind last_covered window_of")
     faults = named("refused robust broken contradiction impossible flush", entries)
     return IMPORTS % (used, windows, faults, named("lent zeros padded", entries))
 
@@ -295,7 +295,7 @@ def proof_file(which: str, listed: Listed) -> str:
     if which == "checksums":
         more = split_lines(CHECKSUM_BYTES)
         return whole(which, with_more(events_imports(listed), bytes_imports(more)), events_parts(which, listed)
-                     + bytes_parts("checksum-bytes-as-worked", more, "bytes", "outcomes"))
+                     + bytes_parts("checksum_bytes_as_worked", more, "bytes", "outcomes"))
     return whole(which, events_imports(listed), events_parts(which, listed))
 
 
