@@ -176,9 +176,9 @@ module _ (bytes : List ℕ) where
 
       robust_with_cut : load ≡ 0 → AnsweredWithCut (verdict_after bytes end_at tables m work) cut cut'
       unfolding verdict_after cut_from
-      robust_with_cut None-found =
-          let none = eq-eqb load 0 None-found in
-          let end = unbroken_robust (events bytes) N m whole (all.loads.none_yet None-found) in
+      robust_with_cut none_found =
+          let none = eq-eqb load 0 none_found in
+          let end = unbroken_robust (events bytes) N m whole (all.loads.none_yet none_found) in
           let total = committed_is (events bytes) N w all.state in (
             rw (none, is_accepted, end.ruling, end.stores_in_lem, total, end.share) refl,
             rw (none, is_accepted, end.ruling, end.cut cut right_size) refl,
@@ -189,7 +189,7 @@ module _ (bytes : List ℕ) where
       all_with_cut = by_load (same? load 0)
         where
           by_load : (load ≡ 0) ⊎ (load ≢ 0) → AnsweredWithCut (verdict_after bytes end_at tables m work) cut cut'
-          by_load (inl None-found) = robust_with_cut None-found
+          by_load (inl none_found) = robust_with_cut none_found
           by_load (inr some_load) = broken_with_cut some_load
 
       all_answers : AnswersAsDefined bytes (verdict_after bytes end_at tables m work) work
@@ -218,7 +218,7 @@ module _ (bytes : List ℕ) where
             all_answers version threads locations n tables m work all cut right_size,
           )
       over (inr not_1) =
-          let away = begun_away bytes k n (stopped.turned_away_lem not_1) in
+          let away = begun_away bytes k n (stopped.is_turned_away not_1) in
           rw (ne_eqb k 1 not_1) (refused_with_cut k n away cut, refused_answers k n away work)
 
       pub stopped_with_cut :

@@ -32,8 +32,8 @@ use Rattle.model.specs.Rules.{refusal}
 use Rattle.model.specs.Reading.{event_in, refusal_in, events, in_trace, passing, record_at, turned_away, begun_reading}
 use Rattle.model.specs.Reading.{TurnedAwayWith}
 use Rattle.model.proofs.Searching.{same?, test}
-use Rattle.model.proofs.TurnedAway.{passed→, ends_there, in_trace_other, in_trace_one, unread_there}
-use Rattle.model.proofs.TurnedAway.{forbidden_there, passing_there}
+use Rattle.model.proofs.TurnedAway.{passed→, ends_there, in_trace_1, in_trace_one, unread_there, forbidden_there}
+use Rattle.model.proofs.TurnedAway.{passing_there}
 use Rattle.model.proofs.NoBytes.{begun_none, begun_away, no_begin_first}
 use Rattle.area.specs.Cells.{event_at}
 use Rattle.area.specs.Rows.{HeldLinked}
@@ -99,8 +99,8 @@ module _ (bytes : List ℕ) where
       forbidden_away :
           (k : ℕ) (x : Event) (past : ℕ) → read_at bytes (start bytes n) ≡ event x past
           → refusal (events bytes) n ≡ k → k ≢ 0 → TurnedAwayWith bytes k n
-      forbidden_away k x past is_read is Some-number =
-          record { earlier_pass = all_pass; number = forbidden_there bytes n x past is_read k is Some-number }
+      forbidden_away k x past is_read is some_number =
+          record { earlier_pass = all_pass; number = forbidden_there bytes n x past is_read k is some_number }
 
     -- ---- a record that passes
 
@@ -121,7 +121,7 @@ module _ (bytes : List ℕ) where
   none_earlier e inside = absurd (not-suc-le-zero inside)
 
   began_ended : (k : ℕ) → k ≢ 0 → begun_reading bytes ≡ turned_away k 0 → Began bytes (begin_ended k)
-  began_ended k Some-number away = record { passes = λ none. absurd (Some-number none); turned_away_lem = λ _. away }
+  began_ended k some_number away = record { passes = λ none. absurd (some_number none); is_turned_away = λ _. away }
 
   pub first_unread : (k : ℕ) → read_at bytes 0 ≡ refused k 0 → Began bytes (begin_ended k)
   unfolding start
@@ -138,11 +138,11 @@ module _ (bytes : List ℕ) where
       (k : ℕ) (x : Event) (past : ℕ) → read_at bytes 0 ≡ event x past → begin_refusal x ≡ k → k ≢ 0
       → Began bytes (begin_ended k)
   unfolding start
-  first_forbidden k x past is_read is Some-number =
-      began_ended k Some-number
+  first_forbidden k x past is_read is some_number =
+      began_ended k some_number
       (begun_away bytes k 0
       (forbidden_away 0 none_earlier k x past is_read
-      (sym (begin_refusals (events bytes)) ∙ (ap begin_refusal (event_is 0 x past is_read) ∙ is)) Some-number))
+      (sym (begin_refusals (events bytes)) ∙ (ap begin_refusal (event_is 0 x past is_read) ∙ is)) some_number))
 
   -- what an accepted begin says
   abbrev begun_by : Fields → ℕ → Begun
@@ -162,7 +162,7 @@ module _ (bytes : List ℕ) where
           state = state;
           loads = match_start (events bytes) state.limits.accepted;
         };
-    turned_away_lem = λ Some-number. absurd (Some-number refl);
+    is_turned_away = λ some_number. absurd (some_number refl);
   }
     where
       event_0 : events bytes 0 ≡ x
@@ -227,7 +227,7 @@ module _ (bytes : List ℕ) where
       all_read = λ is_1.
           let alone : k ≡ 1 = in_trace_one bytes n k (sym (in_trace_is k) ∙ is_1) in
           all_read (one_past_end bytes at 0 (is ∙ ap (λ (i : ℕ). refused i 0) alone));
-      turned_away_lem = λ not_1.
+      is_turned_away = λ not_1.
           rw (in_trace_is k)
           (unread_away n reached.all_pass k 0
           (still_inside (λ ended. not_1 (rw (ap refusal_in (sym is ∙ ended)) (in_trace_is 1 ∙ one_stays))))
@@ -235,19 +235,19 @@ module _ (bytes : List ℕ) where
     }
       where
         one_stays : in_trace bytes n 1 ≡ 1
-        one_stays = in_trace_other bytes n 1 (λ is_4. omega arith)
+        one_stays = in_trace_1 bytes n
 
     later_forbidden :
         (k : ℕ) (tables' : List ℕ) (m' : Marks) (work' : List ℕ) (x : Event) (past : ℕ)
         → read_at bytes at ≡ event x past → refusal_w w x ≡ k → k ≢ 0
         → Stopped bytes version threads locations n k tables' m' work'
-    later_forbidden k tables' m' work' x past is_read is Some-number = record {
+    later_forbidden k tables' m' work' x past is_read is some_number = record {
       all_read = λ is_1.
           let first = (no_begin_first (events bytes) n (rule_is x past is_read ∙ (is ∙ is_1))).0 in
           absurd (omega (arith, reached.state.limits.begun));
-      turned_away_lem = λ _.
+      is_turned_away = λ _.
           forbidden_away n reached.all_pass k x past (read_there (event x past) is_read)
-          (rule_is x past is_read ∙ is) Some-number;
+          (rule_is x past is_read ∙ is) some_number;
     }
 
     -- judging event n, of kind k and with the fields f, behind the machine's step takes the marks on, to m'

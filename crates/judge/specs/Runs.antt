@@ -66,7 +66,7 @@ module _ (bytes : List ℕ) where
     -- the run is over before record n: number 1 where no record is left, else that of what turns the record away
     pub record Stopped (n k : ℕ) (tables : List ℕ) (m : Marks) (work : List ℕ) : Type 0 where
       pub all_read : k ≡ 1 → AllRead n tables m work
-      pub turned_away_lem : k ≢ 1 → TurnedAwayWith bytes k n
+      pub is_turned_away : k ≢ 1 → TurnedAwayWith bytes k n
 
     -- after record n, or where there is none
     abbrev pub After : ℕ → Next → List ℕ → Marks → List ℕ → Type 0
@@ -78,7 +78,7 @@ module _ (bytes : List ℕ) where
     pub passes :
         b.refusal ≡ 0 → (work : List ℕ) → 32768 ≤ length work
         → Reached b.version b.threads b.locations 1 (started_at b.at) no_tables no_marks work
-    pub turned_away_lem : b.refusal ≢ 0 → begun_reading bytes ≡ turned_away b.refusal 0
+    pub is_turned_away : b.refusal ≢ 0 → begun_reading bytes ≡ turned_away b.refusal 0
 
   -- at the end: the verdict is the definitions', empty bytes being turned away, and of an accepted trace the work area
   -- has the rows of its stores

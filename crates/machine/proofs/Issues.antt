@@ -304,7 +304,7 @@ module _ (ev : ℕ → Event) (n : ℕ) (w : World) (sim : Sim ev n w) (passes :
         let tables' = issued_tables tables row t x in
         let replaced = issued_replaced tables t few sim.size row x small in
         let beyond = issued_beyond tables t few sim.size row x small in
-        let Seen-next = seen_keep ev n tables tables no_crash no_load no_wait (λ _ _ _ _ _. refl) sim.seen_are in
+        let seen_next = seen_keep ev n tables tables no_crash no_load no_wait (λ _ _ _ _ _. refl) sim.seen_are in
         record {
           numbers = numbers_next ev n w.state sim.numbers no_crash;
           limits = limits_next ev n sim.limits passes;
@@ -327,8 +327,8 @@ module _ (ev : ℕ → Event) (n : ℕ) (w : World) (sim : Sim ev n w) (passes :
               (λ q k _ _. written_beside row n begins n_small tables t _ few x _ _ l q k)
               (λ i low high. beyond i low (λ same. omega arith))
               (λ i low high. beyond i (omega arith) (λ same. omega (arith, few, small))) sim.chains;
-          rows = rows_next (λ u. of_thread tables t u) (λ u. Seen-next t u few) _ (stored tables l refl refl);
-          links = links_next (λ u. of_thread tables t u) (λ u. Seen-next t u few) _ (stored tables l refl refl);
+          rows = rows_next (λ u. of_thread tables t u) (λ u. seen_next t u few) _ (stored tables l refl refl);
+          links = links_next (λ u. of_thread tables t u) (λ u. seen_next t u few) _ (stored tables l refl refl);
           regions =
               regions_keep ev n tables tables' l _ sim.limits no_crash no_load (rw kind_is refl) (rw kind_is refl)
               replaced.regions_same

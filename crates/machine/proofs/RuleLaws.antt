@@ -66,12 +66,12 @@ module _ (m : Machine) (row : ℕ) (tables l : List ℕ) (r : Step) (counted : B
   stopped rule k is some answer = rw (answer, is, ne_eqb k 0 some) refl
 
   -- a test of the place fails
-  pub turned_away_lem :
+  pub is_turned_away :
       (fits asked : Bool) (t k later : ℕ) → asked ≡ fits → not asked ≡ true → k ≡ place_refusal m.threads row t
       → r ≡ refused m k
       → outcome m row r tables l
       ≡ by_rule (fits gives later else place_refusal m.threads row t) (world (state_of m row) tables l) counted after
-  turned_away_lem fits asked t k later is off number answer =
+  is_turned_away fits asked t k later is off number answer =
       stopped (fits gives later else place_refusal m.threads row t) k
       (rw (sym is ∙ not-true asked off) (sym number))
       (λ none. refusal_is_some m.threads row t (sym number ∙ none))

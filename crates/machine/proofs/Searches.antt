@@ -242,16 +242,16 @@ module _ (ev : ℕ → Event) (n : ℕ) (w : World) (sim : Sim ev n w) where
       sim.commits_are j u from_one (omega (arith, sim.limits.few_crashes)) few
       ∙ rw (lt-ltb j (stretch ev n) earlier) refl
 
-  past_of-store :
+  past_of_store :
       (p : ℕ) → p < n → Issue ev p → StoreRow ev l p
       → (stretch ev p < stretch ev n) ⊎ (stretch ev n ≤ stretch ev p)
       → (location ev p ≡ x) ⊎ (location ev p ≢ x)
       → past_in_lem p (stretch ev p) (thread ev p) (location ev p) ≡ past ev n p
   unfolding past_in_lem
-  past_of-store p early store row (inr late) either =
+  past_of_store p early store row (inr late) either =
       rw (ne_eqb (stretch ev p) 0 (λ is_0. omega (arith, stretch_some ev p)), le-leb _ _ late)
       (sym (third_fails (issue? ev p) (eqb (location ev p) x) _ _ (le-ltb _ _ late)))
-  past_of-store p early store row (inl earlier) (inr elsewhere) =
+  past_of_store p early store row (inl earlier) (inr elsewhere) =
       rw (
         ne_eqb (stretch ev p) 0 (λ is_0. omega (arith, stretch_some ev p)),
         lt-leb _ _ earlier,
@@ -259,7 +259,7 @@ module _ (ev : ℕ → Event) (n : ℕ) (w : World) (sim : Sim ev n w) where
         store.test,
       )
       refl
-  past_of-store p early store row (inl earlier) (inl here) =
+  past_of_store p early store row (inl earlier) (inl here) =
       let few = thread_bound ev n sim.limits.accepted p early (issue_has_thread ev store) in
       rw (
         ne_eqb (stretch ev p) 0 (λ is_0. omega (arith, stretch_some ev p)),
@@ -275,8 +275,8 @@ module _ (ev : ℕ → Event) (n : ℕ) (w : World) (sim : Sim ev n w) where
       refl
 
   -- no event of an earlier stretch is at or past n, and only stores are committed
-  past_of-other : (p : ℕ) → (p < n → Issue ev p → ⊥) → past ev n p ≡ false
-  past_of-other p is_no_store =
+  past_of_other : (p : ℕ) → (p < n → Issue ev p → ⊥) → past ev n p ≡ false
+  past_of_other p is_no_store =
       fails _
       (λ passes.
       let from = past_is ev n p passes in
@@ -293,7 +293,7 @@ module _ (ev : ℕ → Event) (n : ℕ) (w : World) (sim : Sim ev n w) where
       by_role (inl store) =
           let row = sim.rows.stores p early store in
           rw (row.stretch_is, row.thread_is, row.location_is, sim.numbers.stretch_is)
-          (past_of-store p early store row (less? (stretch ev p) (stretch ev n)) (same? (location ev p) x))
+          (past_of_store p early store row (less? (stretch ev p) (stretch ev n)) (same? (location ev p) x))
 
   -- ---- the rule
 
@@ -316,7 +316,7 @@ module _ (ev : ℕ → Event) (n : ℕ) (w : World) (sim : Sim ev n w) where
           rw (
             ne_eqb s 0 some,
             lt-ltb w.state.row (16 * s) (omega (arith, sim.numbers.row_is)),
-            past_of-other s (λ early _. omega arith),
+            past_of_other s (λ early _. omega arith),
           )
           refl
 

@@ -51,7 +51,7 @@ module _ (s : List ℕ) (all_bytes : AllBytes s) where
   fields_two_byte [] = tt
   fields_two_byte (at ∷ offsets) = (field_two_byte at, fields_two_byte offsets)
 
-  -- the event that is read has two_byte fields
+  -- the event that is read has two-byte fields
   read_two_byte : (e : Event) (n : ℕ) → read_first s ≡ event e n → TwoByte (fields_of e)
   read_two_byte e n is_read =
       let is = read→ s e n is_read in

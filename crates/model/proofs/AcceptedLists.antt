@@ -1,6 +1,6 @@
 -- A list of events that is an accepted trace: what its rules say of the events in the list holds of all numbers, since
 -- past its end there are crashes, which neither commit nor load nor wait.
--- In order: what commits, loads and waits find; sources are two_byte numbers.
+-- In order: what commits, loads and waits find; sources are two-byte numbers.
 use Prim.Native.Nat.{ℕ, ◌≤◌, ◌<◌}
 use native.Mathlib.Omega.{arith}
 use mathlib.Core.Path.{◌≡◌}

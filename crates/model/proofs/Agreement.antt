@@ -88,12 +88,12 @@ module _ {N : ℕ} {ev other : ℕ → Event} (agree : Agree N ev other) where
 
   -- ---- queues
 
-  commitsBefore-same : (n : ℕ) → n < N → commits_before ev n ≡ commits_before other n
-  commitsBefore-same n inside =
+  commits_before_same : (n : ℕ) → n < N → commits_before ev n ≡ commits_before other n
+  commits_before_same n inside =
       rw (stretch_same n (omega arith), thread_same n inside) (commits_same n _ _ (omega arith))
 
   queued_same : (n : ℕ) → n < N → queued ev n ≡ queued other n
-  queued_same n inside = rw (place_same n inside, commitsBefore-same n inside)
+  queued_same n inside = rw (place_same n inside, commits_before_same n inside)
 
   beside_same : (p n : ℕ) → p < N → n < N → beside ev p n ≡ beside other p n
   beside_same p n p_inside n_inside =
@@ -111,16 +111,16 @@ module _ {N : ℕ} {ev other : ℕ → Event} (agree : Agree N ev other) where
     where
       oldest_same : (p : ℕ) → p < suc c → oldest ev c p ≡ oldest other c p
       oldest_same p earlier =
-          rw (beside_same p c (omega arith) inside, place_same p (omega arith), commitsBefore-same c inside)
+          rw (beside_same p c (omega arith) inside, place_same p (omega arith), commits_before_same c inside)
 
-  pub commitOf-same : (n p : ℕ) → n ≤ N → p < N → commit_of ev n p ≡ commit_of other n p
+  pub commit_of_same : (n p : ℕ) → n ≤ N → p < N → commit_of ev n p ≡ commit_of other n p
   unfolding commit_of
-  commitOf-same n p within inside = last_same n (commits_it ev p) (commits_it other p) commits_it_same
+  commit_of_same n p within inside = last_same n (commits_it ev p) (commits_it other p) commits_it_same
     where
       commits_it_same : (c : ℕ) → c < n → commits_it ev p c ≡ commits_it other p c
       commits_it_same c earlier =
           rw (
-            commitsBefore-same c (omega arith),
+            commits_before_same c (omega arith),
             place_same p inside,
             stretch_same c (omega arith),
             stretch_same p (omega arith),
@@ -140,7 +140,7 @@ module _ {N : ℕ} {ev other : ℕ → Event} (agree : Agree N ev other) where
           rw (
             beside_same p n (omega arith) inside,
             place_same p (omega arith),
-            commitsBefore-same n inside,
+            commits_before_same n inside,
             location_same p (omega arith),
             location_same n inside,
           )
@@ -179,9 +179,9 @@ module _ {N : ℕ} {ev other : ℕ → Event} (agree : Agree N ev other) where
           )
       by_order (inr later) = past_later ev n s later ∙ sym (past_later other n s later)
 
-  sourceFits-same : (n : ℕ) → n < N → source_fits ev n ≡ source_fits other n
+  source_fits_same : (n : ℕ) → n < N → source_fits ev n ≡ source_fits other n
   unfolding source_fits
-  sourceFits-same n inside =
+  source_fits_same n inside =
       rw (waiting_same n inside, current_same n inside, past_same n (source ev n) inside, source_same n inside)
 
   -- ---- which loads count
@@ -259,8 +259,8 @@ module _ {N : ℕ} {ev other : ℕ → Event} (agree : Agree N ev other) where
 
   -- ---- the rules
 
-  beginFits-same : (n : ℕ) → n < N → begin_fits ev n ≡ begin_fits other n
-  beginFits-same n inside =
+  begin_fits_same : (n : ℕ) → n < N → begin_fits ev n ≡ begin_fits other n
+  begin_fits_same n inside =
       rw (
         field_same n inside (λ f. f.version),
         field_same n inside (λ f. f.threads),
@@ -271,7 +271,7 @@ module _ {N : ℕ} {ev other : ℕ → Event} (agree : Agree N ev other) where
   unfolding rules
   refusal_same n inside =
       rw (
-        sourceFits-same n inside,
+        source_fits_same n inside,
         signalled_same n inside,
         queued_same n inside,
         skipping_same n (thread ev n) (omega arith),
@@ -279,7 +279,7 @@ module _ {N : ℕ} {ev other : ℕ → Event} (agree : Agree N ev other) where
         stretch_same n (omega arith),
         thread_same n inside,
         location_same n inside,
-        beginFits-same n inside,
+        begin_fits_same n inside,
         field_same n inside (λ f. f.outcome),
         field_same 0 (omega arith) (λ f. f.version),
         field_same 0 (omega arith) (λ f. f.threads),

@@ -228,12 +228,12 @@ module _ (ev : ℕ → Event) where
       brought : seen ev (suc l) (thread ev n) u ≡ max (seen ev l (thread ev n) u) (vc ev p u)
       brought = rw from at (seen_join ev l (thread ev n) u (→joins ev l (thread ev n) joined))
   clocks_grow here
-      (handed {p} {n} s w signal s-in-stretch before waits from by_thread w-in-stretch after early) u =
+      (handed {p} {n} s w signal s_in_stretch before waits from by_thread w_in_stretch after early) u =
       omega (
         arith,
         clocks_grow (signal_no_crash ev signal) before u,
         brought,
-        seen_in_clock w n u (wait_no_crash ev waits) here early w-in-stretch,
+        seen_in_clock w n u (wait_no_crash ev waits) here early w_in_stretch,
       )
     where
       joined : Joined ev w (thread ev n)
@@ -242,7 +242,7 @@ module _ (ev : ℕ → Event) where
             meets = waits_signal waits (rw from signal);
             by_t = by_thread;
             early = rw from after;
-            in_stretch = rw from (s-in-stretch ∙ sym w-in-stretch);
+            in_stretch = rw from (s_in_stretch ∙ sym w_in_stretch);
           }
 
       brought : seen ev (suc w) (thread ev n) u ≡ max (seen ev w (thread ev n) u) (vc ev s u)

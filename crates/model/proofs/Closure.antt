@@ -87,7 +87,7 @@ module _ (ev : ℕ → Event) where
   explained_in N c explains p q (l, inside, it) = by_order
     where
       q_in : In ev c q
-      q_in = (explains.loads l inside).observed_in_lem q it
+      q_in = (explains.loads l inside).observed_are_in q it
 
       by_order : AtOrBefore ev p q → In ev c p
       by_order (inl same) = rw same q_in
@@ -227,13 +227,13 @@ module _ (ev : ℕ → Event) where
       fits = closure_fits;
       closed = closure_closed;
       loads = λ l inside. record {
-        observed_in_lem = λ s it. observed_in_lem s (l, inside, it);
+        observed_are_in = λ s it. observed_are_in s (l, inside, it);
         forbidden_out = λ p it. forbidden_out p (l, inside, it);
       };
     }
       where
-        observed_in_lem : (s : ℕ) → Observed ev N s → In ev (closure ev N) s
-        observed_in_lem s observed =
+        observed_are_in : (s : ℕ) → Observed ev N s → In ev (closure ev N) s
+        observed_are_in s observed =
             reached_is_in s (observed_is_committed N accepted s observed).store
             (record { q = s; observed = observed; order = inl refl })
 

@@ -93,9 +93,9 @@ module _
         at_load :
             (l : ℕ) → load? part l ≡ true → ExplainsLoad whole c (via.loads.number l) → ExplainsLoad part d l
         at_load l loads at_l = record {
-          observed_in_lem = λ s observes.
+          observed_are_in = λ s observes.
               (in_at via c s (observed_store apart.finds l s loads observes)).0
-              (at_l.observed_in_lem _ (observes_at_lem via apart l loads s observes));
+              (at_l.observed_are_in _ (observes_at_lem via apart l loads s observes));
           forbidden_out = λ p forbids p_in.
               at_l.forbidden_out _ (forbids_at_lem via apart l loads p forbids)
               ((in_at via c p forbids.store).1 p_in);
@@ -124,17 +124,17 @@ module _
 
     load_side :
         Apart via → (l : ℕ) → Counted part (via.loads.kept N) l → ExplainsLoad whole c (via.loads.number l)
-    load_side apart l counts = record { observed_in_lem = observed_in_lem; forbidden_out = forbidden_out }
+    load_side apart l counts = record { observed_are_in = observed_are_in; forbidden_out = forbidden_out }
       where
         loads : load? part l ≡ true
         loads = counted_is_load part counts
 
-        observed_in_lem : (s : ℕ) → Observes whole (via.loads.number l) s → In whole c s
-        observed_in_lem s observes =
+        observed_are_in : (s : ℕ) → Observes whole (via.loads.number l) s → In whole c s
+        observed_are_in s observes =
             let in_part = observes_kept via apart l loads s observes in
             let store = observed_store apart.finds l _ loads in_part.holds in
             rw (via.stores.number_kept s in_part.stays) at
-            ((in_at via c _ store).1 ((explains.loads l counts).observed_in_lem _ in_part.holds))
+            ((in_at via c _ store).1 ((explains.loads l counts).observed_are_in _ in_part.holds))
 
         forbidden_out : (p : ℕ) → Forbids whole (via.loads.number l) p → In whole c p → ⊥
         forbidden_out p forbids p_in =

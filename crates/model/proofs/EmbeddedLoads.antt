@@ -18,7 +18,7 @@ use Rattle.model.proofs.CountedLoads.{counted_is_load}
 use Rattle.model.proofs.Numberings.{into_injective, number_zero, kept_mono, kept_lt, number_below, number_mono}
 use Rattle.model.proofs.Numberings.{number_lt, number_le, number_injective}
 use Rattle.model.proofs.EmbeddedTrace.{stretch_kept, stretch_store, stretch_loads, stretch_load, place_at}
-use Rattle.model.proofs.EmbeddedMachine.{commitOf-at, counted_at}
+use Rattle.model.proofs.EmbeddedMachine.{commit_of_at, counted_at}
 
 module _
     {threads_by locations_by : Naming} {part whole : ℕ → Event} (via : Embedding threads_by locations_by part whole) where
@@ -298,8 +298,8 @@ module _
               via.source_same l loads,
               stretch_store via (source part l),
               stretch_store via p,
-              commitOf-at via l (source part l) (apart.finds.source_store l loads some),
-              commitOf-at via l p store,
+              commit_of_at via l (source part l) (apart.finds.source_store l loads some),
+              commit_of_at via l p store,
             ) (to_part, to_whole)
 
     pub forbids_at_lem : (p : ℕ) → Forbids part l p → Forbids whole here (via.stores.number p)

@@ -44,11 +44,11 @@ module _
       (via.stores_at_commit e)
 
   -- the commit of a store, among those before a load
-  pub commitOf-at :
+  pub commit_of_at :
       (l p : ℕ) → issue? part p ≡ true
       → commit_of whole (via.loads.number l) (via.stores.number p) ≡ via.commits.number (commit_of part l p)
   unfolding commit_of
-  commitOf-at l p store =
+  commit_of_at l p store =
       search_kept via via.committing (via.issuing.thread_same p store) (via.issuing.thread_own p store)
       (stretch_commit via) (stretch_store via p)
       (λ b c. b && eqb (commits_before whole c) (place whole (via.stores.number p)))
@@ -158,9 +158,9 @@ module _
 
     -- ---- the load rule
 
-    pub sourceFits-at : source_fits whole here ≡ source_fits part l
+    pub source_fits_at : source_fits whole here ≡ source_fits part l
     unfolding source_fits
-    sourceFits-at =
+    source_fits_at =
         let s = source part l in
         rw (
           waiting_at via l loads,

@@ -20,7 +20,7 @@ use Rattle.model.proofs.Ranges.{open_has_thread, close_has_thread}
 use Rattle.model.proofs.Numberings.{number_zero, kept_le, number_below, number_eqb_zero, number_ltb}
 use Rattle.model.proofs.EmbeddedTrace.{by_role, stretch_kept, stretch_store, issues_at, commits_before_at}
 use Rattle.model.proofs.EmbeddedTrace.{skipping_kept, opened_kept}
-use Rattle.model.proofs.EmbeddedMachine.{sourceFits-at}
+use Rattle.model.proofs.EmbeddedMachine.{source_fits_at}
 
 module _
     {threads_by locations_by : Naming} {part whole : ℕ → Event} (via : Embedding threads_by locations_by part whole)
@@ -44,7 +44,7 @@ module _
     thread_rule_lem =
         by_role (has_thread? part e)
         (λ has.
-        rw (same.kind_same, same.thread_same has, begins.thread_fits_lem (thread part e) (same.thread_own has)))
+        rw (same.kind_same, same.thread_same has, begins.thread_still_fits (thread part e) (same.thread_own has)))
         (λ has_none. rw (same.kind_same, has_none))
 
     location_rule :
@@ -60,7 +60,7 @@ module _
     load_rule_lem =
         by_role (load? part e)
         (λ loads.
-        let fits : source_fits whole n ≡ source_fits part e = rw same.as_load at (sourceFits-at via apart e loads) in
+        let fits : source_fits whole n ≡ source_fits part e = rw same.as_load at (source_fits_at via apart e loads) in
         rw (same.kind_same, fits))
         (λ other. rw (same.kind_same, other))
 
@@ -148,7 +148,7 @@ module _
 
     begin_rule_lem : (begin? whole n && not (begin_fits whole n)) ≡ (begin? part e && not (begin_fits part e))
     begin_rule_lem =
-        by_role (begin? part e) (λ begin. rw (same.begin_fits_lem begin, same.kind_same))
+        by_role (begin? part e) (λ begin. rw (same.begin_still_fits begin, same.kind_same))
         (λ other. rw (same.kind_same, other))
 
     -- an event that is not past the limit meets the same refusal in both traces

@@ -228,8 +228,8 @@ module _
           in_order = number_mono via.stores e to (omega arith);
         })
 
-    windowOf-at : (t : ℕ) → window_of whole (there p) (there q) t ≡ shifted_places there (window_of part p q t)
-    windowOf-at t =
+    window_of_at : (t : ℕ) → window_of whole (there p) (there q) t ≡ shifted_places there (window_of part p q t)
+    window_of_at t =
         window_unique whole (there p) (there q) t _ _
         (window_is whole (there p) (there q) t (store_at_lem via p_store) (store_at_lem via q_store))
         (window_at t (window_of part p q t) (window_is part p q t p_store q_store))
@@ -254,5 +254,5 @@ module _
 
         each_thread : tabulate 8 (window_of whole (there p) (there q)) ≡ map (shifted_places there) here
         each_thread =
-            tabulate_same 8 _ _ (λ t below. windowOf-at t)
+            tabulate_same 8 _ _ (λ t below. window_of_at t)
             ∙ sym (tabulate_map (shifted_places there) 8 (window_of part p q))

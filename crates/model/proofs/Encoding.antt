@@ -35,7 +35,7 @@ use Rattle.model.proofs.TurnedAway.{accepted_exactly, turned_away_exactly}
 
 -- ---- the definitions of a trace as a list of events
 
--- each field of each event is a two_byte number
+-- each field of each event is a two-byte number
 pub record AllTwoByte (xs : List Event) : Type 0 where
   pub two_byte : (e : ℕ) → e < length xs → TwoByte (fields_of (trace_of xs e))
 

@@ -121,7 +121,7 @@ module _ (bytes : List ℕ) (all_bytes : AllBytes bytes) (N : ℕ) (accepted : A
 -- ---- the bytes of two traces that agree but for flush records
 
 module _
-    (bytes other : List ℕ) (all_bytes : AllBytes bytes) (All-others : AllBytes other)
+    (bytes other : List ℕ) (all_bytes : AllBytes bytes) (all_others : AllBytes other)
     (N M : ℕ) (accepted : AcceptedWith bytes N) (other_accepted : AcceptedWith other M) where
   -- the events of the one, and of the other
   abbrev ones : List Event
@@ -141,7 +141,7 @@ module _
         × SameVerdict (number (flushes others) others) (taken (flushes others) others) other plain
     agreeing_verdicts = (
       flushes_move_no_verdict bytes all_bytes N accepted,
-      rw (ap encode (sym agree)) at (flushes_move_no_verdict other All-others M other_accepted),
+      rw (ap encode (sym agree)) at (flushes_move_no_verdict other all_others M other_accepted),
     )
 
     pub agreeing_cuts : (work : ℕ) (cut : List ℕ) → cut_after bytes work cut ≡ cut_after other work cut

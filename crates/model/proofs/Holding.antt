@@ -2,7 +2,7 @@
 -- (`held_exactly`). A thread that is not open holds none.
 use Prim.Native.Nat.{ℕ, zero, suc, ◌≤◌, ◌<◌}
 use native.Mathlib.Omega.{arith}
-use mathlib.Core.Path.{◌≡◌, refl, sym, ◌∙◌}
+use mathlib.Core.Path.{◌≡◌, refl}
 use mathlib.Core.Bool.{Bool, true, false, cond, ◌&&◌}
 use mathlib.Core.Logic.{◌⊎◌, inl, inr, ◌≢◌, ◌↔◌}
 use mathlib.Core.List.{[], ◌∷◌}
@@ -14,9 +14,6 @@ use Rattle.model.specs.Search.{any, member}
 use Rattle.model.specs.Trace.{thread}
 use Rattle.model.specs.Machine.{opened, countable, held}
 use Rattle.model.proofs.Searching.{false_true, test, same?, both, parts, or_cases, or_left, or_right}
-use Rattle.model.proofs.Roles.{load_no_crash, load_no_open, load_no_close}
-use Rattle.model.proofs.Acceptance.{countable_crosses}
-use Rattle.model.proofs.Unchanged.{opened_away}
 
 module _ (ev : ℕ → Event) where
   pub held_closed : (n t : ℕ) → opened ev n t ≡ false → held ev n t ≡ []
@@ -95,18 +92,19 @@ module _ (ev : ℕ → Event) where
       by_open (inl is_open) (inl holds) earlier here =
           by_first holds (or_cases (eqb l n) _ (rw (is_open, holds) at here)) earlier
 
-  -- as a relation: a crossing load in no skip of the thread, which is open before it and has been ever since. An open
-  -- when open is turned away, so that is since one open
+  -- as a relation: a crossing load in no skip of the thread, which has been open from then on. An open when open is
+  -- turned away, so that is since one open
   pub record HeldSince (n t l : ℕ) : Type 0 where
-    pub is_held : Held n t l
-    pub stays : (k : ℕ) → l ≤ k → k ≤ n → opened ev k t ≡ true
+    pub early : l < n
+    pub is_countable : countable ev l ≡ true
+    pub by_t : thread ev l ≡ t
+    pub stays : (k : ℕ) → l < k → k ≤ n → opened ev k t ≡ true
 
   →held : (n t l : ℕ) → HeldSince n t l → member l (held ev n t) ≡ true
   unfolding held any
-  →held zero t l it = absurd (omega (arith, it.is_held.early))
+  →held zero t l it = absurd (omega (arith, it.early))
   →held (suc n) t l it =
-      rw (it.stays (suc n) (omega (arith, it.is_held.early)) (omega arith))
-      (by_last (same? l n) (→held n t l) (test holds))
+      rw (it.stays (suc n) it.early (omega arith)) (by_last (same? l n) (→held n t l) (test holds))
     where
       holds : Bool
       holds = countable ev n && eqb (thread ev n) t
@@ -116,7 +114,7 @@ module _ (ev : ℕ → Event) where
           → member l (cond (countable ev n && eqb (thread ev n) t) (n ∷ held ev n t) (held ev n t)) ≡ true
       by_last (inl is_n) earlier tested =
           let here : (countable ev n && eqb (thread ev n) t) ≡ true =
-          both _ _ (rw is_n at it.is_held.is_countable) (eq-eqb _ _ (rw is_n at it.is_held.by_t))
+          both _ _ (rw is_n at it.is_countable) (eq-eqb _ _ (rw is_n at it.by_t))
           in
           rw here (or_left (eqb l n) _ (eq-eqb l n is_n))
       by_last (inr differs) earlier tested = by_test tested
@@ -125,11 +123,9 @@ module _ (ev : ℕ → Event) where
           before =
               earlier
               (record {
-                is_held = record {
-                  early = omega (arith, it.is_held.early);
-                  is_countable = it.is_held.is_countable;
-                  by_t = it.is_held.by_t;
-                };
+                early = omega (arith, it.early);
+                is_countable = it.is_countable;
+                by_t = it.by_t;
                 stays = λ k after within. it.stays k after (omega arith);
               })
 
@@ -165,22 +161,10 @@ module _ (ev : ℕ → Event) where
           let here = rw is_open at there in
           earlier (by_member (countable ev n && eqb (thread ev n) t) refl here differs) (omega arith)
 
-  -- a load changes no open state, so its thread is open before it too
-  open_before : (n t l : ℕ) → member l (held ev n t) ≡ true → opened ev l t ≡ true
-  open_before n t l there =
-      let it = held_is n t l there in
-      let loads = (countable_crosses ev l it.is_countable).loads in
-      sym
-      (opened_away ev l t (load_no_crash ev loads) (λ opens _. false_true (sym (load_no_open ev loads) ∙ opens))
-      (λ closes _. false_true (sym (load_no_close ev loads) ∙ closes)))
-      ∙ still_open n t l there (suc l) (omega arith) (omega (arith, it.early))
-
   pub held_exactly : (n t l : ℕ) → (member l (held ev n t) ≡ true) ↔ HeldSince n t l
-  held_exactly n t l = (λ there. record { is_held = held_is n t l there; stays = since there }, →held n t l)
-    where
-      since : member l (held ev n t) ≡ true → (k : ℕ) → l ≤ k → k ≤ n → opened ev k t ≡ true
-      since there k after within = by_place (same? k l)
-        where
-          by_place : (k ≡ l) ⊎ (k ≢ l) → opened ev k t ≡ true
-          by_place (inl is_l) = rw is_l (open_before n t l there)
-          by_place (inr differs) = still_open n t l there k (omega arith) within
+  held_exactly n t l = (
+    λ there.
+        let it = held_is n t l there in
+        record { early = it.early; is_countable = it.is_countable; by_t = it.by_t; stays = still_open n t l there },
+    →held n t l,
+  )

@@ -25,8 +25,8 @@ module _ (ev : ℕ → Event) where
       fits = λ j t. omega (arith, by_c.fits j t);
       closed = closed;
       loads = λ l inside. record {
-        observed_in_lem = λ s it.
-            omega (arith, (by_c.loads l inside).observed_in_lem s it, (by_d.loads l inside).observed_in_lem s it);
+        observed_are_in = λ s it.
+            omega (arith, (by_c.loads l inside).observed_are_in s it, (by_d.loads l inside).observed_are_in s it);
         forbidden_out = λ p it p_in. (by_c.loads l inside).forbidden_out p it (omega arith);
       };
     }
@@ -42,7 +42,7 @@ module _ (ev : ℕ → Event) where
       fits = λ j t. omega (arith, by_c.fits j t, by_d.fits j t);
       closed = λ p q before q_in. closed p q before (in_one q q_in);
       loads = λ l inside. record {
-        observed_in_lem = λ s it. omega (arith, (by_c.loads l inside).observed_in_lem s it);
+        observed_are_in = λ s it. omega (arith, (by_c.loads l inside).observed_are_in s it);
         forbidden_out = λ p it p_in. forbidden_out l inside p it (in_one p p_in);
       };
     }

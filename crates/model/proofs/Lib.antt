@@ -2,7 +2,7 @@
 -- (Clocks), `window_is`, `window_unique`, `window_places`, `observed_has_window` (WindowPlaces), `some_window`
 -- (FlushPlaces), `before_committed` (Committed), `committed_first`, `no_memory` (CacheLines), `exact`, `unique`,
 -- `broken_stays`, `named_load_counts`, `nothing_least`, `only_nothing` (Exactness), `min_explains`, `max_explains`
--- (Lattice), `held_exactly` (Holding), `counts_by` (CountedLoads), `Exact-same` (Prefixes), `fault_same`
+-- (Lattice), `held_exactly` (Holding), `counts_by` (CountedLoads), `exact_same` (Prefixes), `fault_same`
 -- (WindowPrefixes), `explains_is_replay` (Replay), `accepted_exactly`, `turned_away_exactly`, `new_gets_3`
 -- (TurnedAway), `no_records_exactly`, `no_bytes_judged`, `no_bytes_filled`, `begun_away_exactly`,
 -- `begun_accepted_exactly`, `judged_1_exactly` (NoBytes), `ordered_as_demanded`, `no_bytes_refused` (Queries),

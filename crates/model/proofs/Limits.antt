@@ -38,19 +38,19 @@ module _ (ev : ℕ → Event) where
     -- ---- the begin's fields, if there is any event
 
     module _ (some_event : 0 < N) where
-      begin_fits_lem : begin_fits ev 0 ≡ true
-      begin_fits_lem =
+      begin_still_fits : begin_fits ev 0 ≡ true
+      begin_still_fits =
           let past = passed ev N accepted 0 some_event in
           not_without (is ev 1 0) (begin_fits ev 0) past.no_6 (begins ev N accepted some_event)
 
       threads_fit : within 1 8 (threads ev) ≡ true
       threads_fit =
-          let both_ranges = parts (within 1 2 (version ev) && within 1 8 (threads ev)) _ begin_fits_lem in
+          let both_ranges = parts (within 1 2 (version ev) && within 1 8 (threads ev)) _ begin_still_fits in
           (parts (within 1 2 (version ev)) _ both_ranges.0).1
 
       pub some_version : 1 ≤ version ev
       some_version =
-          let both_ranges = parts (within 1 2 (version ev) && within 1 8 (threads ev)) _ begin_fits_lem in
+          let both_ranges = parts (within 1 2 (version ev) && within 1 8 (threads ev)) _ begin_still_fits in
           leb-true 1 (version ev)
           (parts (leb 1 (version ev)) _ (parts (within 1 2 (version ev)) _ both_ranges.0).0).0
 
@@ -62,7 +62,7 @@ module _ (ev : ℕ → Event) where
 
       pub few_locations : locations ev ≤ 256
       few_locations =
-          let both_ranges = parts (within 1 2 (version ev) && within 1 8 (threads ev)) _ begin_fits_lem in
+          let both_ranges = parts (within 1 2 (version ev) && within 1 8 (threads ev)) _ begin_still_fits in
           leb-true (locations ev) 256 (parts (leb 1 (locations ev)) _ both_ranges.1).1
 
     -- ---- an event's thread and location

@@ -1,6 +1,6 @@
 -- Events with their sources renumbered (`moved` of specs/Flushes.antt): kind and other fields stay, since an event that
 -- neither loads nor waits has no source, and 0, which is no event's source, stays 0.
--- In order: what a renumbered event is; a list of them; two_byte fields.
+-- In order: what a renumbered event is; a list of them; two-byte fields.
 use Prim.Native.Nat.{ℕ, ◌<◌}
 use native.Mathlib.Omega.{arith}
 use mathlib.Core.Path.{◌≡◌, refl, sym, ◌∙◌, ap}
@@ -108,14 +108,14 @@ moved_crash f = refl
 pub moved_there : (f : ℕ → ℕ) (es : List Event) (n : ℕ) → trace_of (map (moved f) es) n ≡ moved f (trace_of es n)
 moved_there f es n = rw (moved_crash f) at (get_or-map (moved f) es n Crash)
 
--- ---- two_byte fields
+-- ---- two-byte fields
 
 pub fields_two_byte : {t x s : ℕ} → t < 65536 → x < 65536 → s < 65536 → TwoByte (thread_fields t x s)
 fields_two_byte thread location source =
     let none : 0 < 65536 = omega arith in
     record { small = (thread, (location, (source, (none, (none, (none, (none, tt))))))) }
 
--- a renumbered event has two_byte fields, if its source is a two_byte number
+-- a renumbered event has two-byte fields, if its source is a two-byte number
 pub moved_two_byte :
     {f : ℕ → ℕ} {e d : Event} → Renumbered f e d → (fields_of d).source < 65536 → TwoByte (fields_of e)
     → TwoByte (fields_of d)

@@ -216,8 +216,8 @@ module _ (bytes : List ℕ) where
 
           by_rules : (refusal (events bytes) e ≡ 0) ⊎ (refusal (events bytes) e ≢ 0) → BeginsOtherwise bytes × (e ≡ 0)
           by_rules (inl passes) = let there = passing_there bytes e x next is passes in absurd (clash cc)
-          by_rules (inr Some-number) =
-              let there = forbidden_there bytes e x next is (refusal (events bytes) e) refl Some-number in
+          by_rules (inr some_number) =
+              let there = forbidden_there bytes e x next is (refusal (events bytes) e) refl some_number in
               let number : refusal (events bytes) e ≡ 1 = cc in
               first_record (no_begin_first (events bytes) e number)
 

@@ -20,7 +20,7 @@ use Rattle.model.proofs.Counting.{earlier_stretch}
 use Rattle.model.proofs.Ordering.{before_lt, same_stretch}
 use Rattle.model.proofs.CountedLoads.{counted_early}
 use Rattle.model.proofs.Agreement.{Agree, reversed, fewer, thread_same, location_same, source_same}
-use Rattle.model.proofs.Agreement.{stretch_same, stretches_same, commits_same, place_same, commitOf-same}
+use Rattle.model.proofs.Agreement.{stretch_same, stretches_same, commits_same, place_same, commit_of_same}
 use Rattle.model.proofs.Agreement.{counting_same, issue_same, before_same, at_or_before_same}
 
 -- ---- stores that are in
@@ -88,8 +88,8 @@ module _ {N : ℕ} {ev other : ℕ → Event} (agree : Agree N ev other) where
             stretches_same agree s p (omega arith) (omega arith) same,
             omega (
               arith,
-              commitOf-same agree l s (omega arith) (omega arith),
-              commitOf-same agree l p (omega arith) (omega arith),
+              commit_of_same agree l s (omega arith) (omega arith),
+              commit_of_same agree l p (omega arith) (omega arith),
             ),
           ))
 
@@ -124,8 +124,8 @@ module _ {N : ℕ} {ev other : ℕ → Event} (agree : Agree N ev other) where
 
       at_load : (l : ℕ) → l < N → ExplainsLoad ev c l → ExplainsLoad other c l
       at_load l inside explained = record {
-        observed_in_lem = λ s observes.
-            let is_in = explained.observed_in_lem s (observes_same (reversed agree) inside observes) in
+        observed_are_in = λ s observes.
+            let is_in = explained.observed_are_in s (observes_same (reversed agree) inside observes) in
             in_same agree c s (in_early ev N c explains.fits s is_in) is_in;
         forbidden_out = λ p forbids is_in.
             let forbidden = forbids_same (reversed agree) inside forbids in

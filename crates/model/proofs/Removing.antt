@@ -190,13 +190,13 @@ module _
     thread_own = λ has. refl;
     location_same = λ has. (there e).location_same;
     location_own = λ has. refl;
-    begin_fits_lem = λ begin. rw ((there e).version_same, (there e).threads_same, (there e).locations_same);
+    begin_still_fits = λ begin. rw ((there e).version_same, (there e).threads_same, (there e).locations_same);
   }
 
   same_begin : SameBegin everything everything short whole
   same_begin = record {
     version_same = rw (number_zero numbering) at (there 0).version_same;
-    thread_fits_lem = λ t own. rw (rw (number_zero numbering) at (there 0).threads_same);
+    thread_still_fits = λ t own. rw (rw (number_zero numbering) at (there 0).threads_same);
     location_fits = λ x own. rw (rw (number_zero numbering) at (there 0).locations_same);
   }
 

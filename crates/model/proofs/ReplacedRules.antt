@@ -1,7 +1,7 @@
 -- A locked operation replaced by its three records (specs/Locked.antt): the longer trace is accepted, while the event
 -- limit holds. An event but for record k is one event in both traces, and so meets the same refusal; the three pass as
 -- record k does: the same thread, location and source, and at the commit its store waits.
--- In order: the other events; the three; the longer trace, `replaced_accepted`; two_byte fields.
+-- In order: the other events; the three; the longer trace, `replaced_accepted`; two-byte fields.
 use Prim.Native.Nat.{ℕ, suc, ◌+◌, ◌≤◌, ◌<◌}
 use native.Mathlib.Omega.{arith}
 use mathlib.Core.Path.{◌≡◌, refl, sym, ◌∙◌, ap}
@@ -25,7 +25,7 @@ use Rattle.model.proofs.Acceptance.{fitting}
 use Rattle.model.proofs.Limits.{thread_below, location_below}
 use Rattle.model.proofs.Committed.{commits_below_issues}
 use Rattle.model.proofs.EmbeddedTrace.{stretch_commits, issues_kept, commits_kept}
-use Rattle.model.proofs.EmbeddedMachine.{sourceFits-at}
+use Rattle.model.proofs.EmbeddedMachine.{source_fits_at}
 use Rattle.model.proofs.EmbeddedRules.{refusal_same}
 use Rattle.model.proofs.Spreading.{kept_at, kept_low, kept_high, spread_low, spread_here, spread_alike}
 use Rattle.model.proofs.Spreading.{spread_below, Place, other, at_load, at_store, at_commit, place}
@@ -61,7 +61,7 @@ module _
         thread_own = λ has. refl;
         location_same = λ has. sym is.location_same;
         location_own = λ has. refl;
-        begin_fits_lem = λ begin. rw (is.version_same, is.threads_same, is.locations_same);
+        begin_still_fits = λ begin. rw (is.version_same, is.threads_same, is.locations_same);
       }
 
   -- the begin is one of them
@@ -73,7 +73,7 @@ module _
   same_begin : SameBegin everything everything part whole
   same_begin = record {
     version_same = sym begin_there.version_same;
-    thread_fits_lem = λ t own. rw begin_there.threads_same;
+    thread_still_fits = λ t own. rw begin_there.threads_same;
     location_fits = λ x own. rw begin_there.locations_same;
   }
 
@@ -90,9 +90,9 @@ module _
   is_12 : kind part k ≡ 12
   is_12 = of_kind es accepted k inside locked
 
-  thread_fits_lem : leb (threads whole) (thread part k) ≡ false
+  thread_still_fits : leb (threads whole) (thread part k) ≡ false
   unfolding row_of
-  thread_fits_lem =
+  thread_still_fits =
       rw (← begin_there.threads_same)
       (lt-leb (threads part) (thread part k) (thread_below part (length es) accepted k inside (rw is_12 refl)))
 
@@ -105,7 +105,7 @@ module _
   source_fits_lem : source_fits whole (k + 0) ≡ true
   source_fits_lem =
       let loads : load? part k ≡ true = rw is_12 in
-      (rw (spread_here 0 k) at (sourceFits-at via (apart es accepted k inside locked) k loads))
+      (rw (spread_here 0 k) at (source_fits_at via (apart es accepted k inside locked) k loads))
       ∙ fitting part (length es) accepted k inside (record { test = loads })
 
   module _ (room : length es + 2 ≤ 2049) where
@@ -121,7 +121,7 @@ module _
           ne_eqb (k + 0) 0 (λ is_0. omega arith),
           lt-ltb 0 (k + 0) (omega arith),
           le-ltb 2048 (k + 0) (omega arith),
-          thread_fits_lem,
+          thread_still_fits,
           location_fits,
         )
 
@@ -135,7 +135,7 @@ module _
           ne_eqb (k + 1) 0 (λ is_0. omega arith),
           lt-ltb 0 (k + 1) (omega arith),
           le-ltb 2048 (k + 1) (omega arith),
-          thread_fits_lem,
+          thread_still_fits,
           location_fits,
         )
 
@@ -180,7 +180,7 @@ module _
           ne_eqb (k + 2) 0 (λ is_0. omega arith),
           lt-ltb 0 (k + 2) (omega arith),
           le-ltb 2048 (k + 2) (omega arith),
-          thread_fits_lem,
+          thread_still_fits,
         )
 
     -- ---- the longer trace
@@ -197,7 +197,7 @@ module _
     replaced_accepted =
         rw (length_replaced es k inside) (record { passes = λ n. passes (place k n) })
 
-    -- ---- two_byte fields
+    -- ---- two-byte fields
 
     -- the fields are those of the shorter trace, but for the sources, and those of an accepted trace are below 2,049
     pub replaced_two_byte : AllTwoByte es → AllTwoByte (replaced k es)

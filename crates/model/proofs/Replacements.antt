@@ -30,7 +30,7 @@ use Rattle.model.proofs.ReplacedRules.{replaced_accepted, replaced_two_byte}
 -- ---- what is carried over
 
 -- what answers rest on: the ruling, and of the stores, which go by g, that they are there, of the same threads and at
--- the same locations, and differ; and that the fields are two_byte numbers
+-- the same locations, and differ; and that the fields are two-byte numbers
 pub record Replacement (f g : ℕ → ℕ) (short long : List Event) : Type 0 where
   pub same : SameRuling f g short long
   pub store_there : {p : ℕ} → Issue (trace_of short) p → Issue (trace_of long) (g p)

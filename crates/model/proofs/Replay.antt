@@ -180,7 +180,7 @@ module _ (ev : ℕ → Event) where
     observed_put s is_source some explains =
         let past = rw is_source at (countable_source ev N accepted l inside counts (rw is_source some)) in
         →puts s past.store past.to_it past.earlier
-        (explains.observed_in_lem s (record { from = is_source; some_store = some }))
+        (explains.observed_are_in s (record { from = is_source; some_store = some }))
 
     -- a store that was put later than the source is forbidden
     later_is_forbidden :
@@ -281,7 +281,7 @@ module _ (ev : ℕ → Event) where
     unfolding j x
     explains_is_replay = (
       explains_then_holds,
-      λ holds. record { observed_in_lem = held_is_in holds; forbidden_out = held_not_forbidden holds },
+      λ holds. record { observed_are_in = held_is_in holds; forbidden_out = held_not_forbidden holds },
     )
 
   -- the choice is a run of a memory that keeps stores in order: each counted load read what the memory holds

@@ -148,7 +148,7 @@ any→ f (x ∷ xs) passes = by_first (or_cases (f x) (any f xs) passes) (any→
         (f x ≡ true) ⊎ (any f xs ≡ true)
         → (any f xs ≡ true → (y : ℕ) × (member y xs ≡ true) × (f y ≡ true))
         → (y : ℕ) × (member y (x ∷ xs) ≡ true) × (f y ≡ true)
-    by_first (inl IsFirst-passes) later = (x, or_left (eqb x x) _ (eqb_same x), IsFirst-passes)
+    by_first (inl is_first_passes) later = (x, or_left (eqb x x) _ (eqb_same x), is_first_passes)
     by_first (inr rest) later =
         let (y, there, it) = later rest in (y, or_right (eqb y x) _ there, it)
 

@@ -47,7 +47,7 @@ outcome_of_events xs =
 
 -- ---- a list of sessions
 
--- each event has two_byte fields
+-- each event has two-byte fields
 abbrev pub writable : List Event → Bool
 writable xs = every two_byte? xs
 
@@ -55,7 +55,7 @@ abbrev pub all_writable : List (List Event) → Bool
 all_writable [] = true
 all_writable (xs ∷ xss) = writable xs && all_writable xss
 
--- an event that passes the test has two_byte fields
+-- an event that passes the test has two-byte fields
 two_byte : (x : Event) → two_byte? x ≡ true → TwoByte (fields_of x)
 two_byte x passes =
     record {

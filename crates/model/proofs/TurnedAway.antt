@@ -89,7 +89,7 @@ module _ (bytes : List ℕ) where
         by_number (inl same) = some (sym same ∙ none)
         by_number (inr (is_4, is_3)) = omega (arith, sym is_3 ∙ none)
 
-    pub in_trace_other : (k : ℕ) → k ≢ 4 → in_trace bytes n k ≡ k
+    in_trace_other : (k : ℕ) → k ≢ 4 → in_trace bytes n k ≡ k
     in_trace_other k differs = by_number (stays_or_becomes_3 k)
       where
         by_number : (in_trace bytes n k ≡ k) ⊎ ((k ≡ 4) × (in_trace bytes n k ≡ 3)) → in_trace bytes n k ≡ k
@@ -103,6 +103,9 @@ module _ (bytes : List ℕ) where
         by_number (inl same) = sym same ∙ is
         by_number (inr (is_4, is_3)) = absurd (omega (arith, sym is_3 ∙ is))
 
+    pub in_trace_1 : in_trace bytes n 1 ≡ 1
+    in_trace_1 = in_trace_other 1 (λ is_4. omega arith)
+
     in_trace_none : in_trace bytes n 0 ≡ 0
     in_trace_none = in_trace_other 0 (λ is_4. omega arith)
 
@@ -110,8 +113,8 @@ module _ (bytes : List ℕ) where
         (k e : ℕ) → start bytes n ≢ length bytes → read_at bytes (start bytes n) ≡ refused k e → k ≢ 0
         → record_at bytes n ≡ refused_by (in_trace bytes n k)
     unfolding record_at
-    unread_there k e inside is Some-number =
-        rw (not_ended inside, is, ne_eqb (in_trace bytes n k) 0 (in_trace_some k Some-number))
+    unread_there k e inside is some_number =
+        rw (not_ended inside, is, ne_eqb (in_trace bytes n k) 0 (in_trace_some k some_number))
 
     module _ (x : Event) (next : ℕ) (is : read_at bytes (start bytes n) ≡ event x next) where
       -- a record that is read is there
@@ -121,8 +124,8 @@ module _ (bytes : List ℕ) where
       pub forbidden_there :
           (k : ℕ) → refusal (events bytes) n ≡ k → k ≢ 0 → record_at bytes n ≡ refused_by k
       unfolding record_at
-      forbidden_there k forbids Some-number =
-          rw (not_ended read_inside, is, in_trace_none, forbids, ne_eqb k 0 Some-number)
+      forbidden_there k forbids some_number =
+          rw (not_ended read_inside, is, in_trace_none, forbids, ne_eqb k 0 some_number)
 
       pub passing_there : refusal (events bytes) n ≡ 0 → record_at bytes n ≡ passing
       unfolding record_at

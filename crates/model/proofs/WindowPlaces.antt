@@ -217,7 +217,7 @@ module _ (ev : ℕ → Event) where
             (behind ev p q t < last_covered ev q t) ⊎ (last_covered ev q t ≤ behind ev p q t)
             → WindowIs ev p q t (window_of ev p q t)
         by_order (inl order) =
-            let ends = last_place q t q_store (λ None-found. omega arith) in
+            let ends = last_place q t q_store (λ none_found. omega arith) in
             let early = at_or_before_le ev (last_covered ev q t) q ends.order in
             rw (lt-ltb (behind ev p q t) (last_covered ev q t) order)
             (record { starts = first_place p t p_store q (omega arith); ends = ends; in_order = order })

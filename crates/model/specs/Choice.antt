@@ -57,7 +57,7 @@ module _ (ev : ℕ → Event) where
 
   -- "The choice explains the load if the observed store is in and no forbidden one is."
   pub record ExplainsLoad (c : Choice) (l : ℕ) : Type 0 where
-    pub observed_in_lem : (s : ℕ) → Observes l s → In c s
+    pub observed_are_in : (s : ℕ) → Observes l s → In c s
     pub forbidden_out : (p : ℕ) → Forbids l p → In c p → ⊥
 
   -- the choice, "at most its commits there", is closed and explains all counted loads of the first N events; "One

@@ -137,12 +137,12 @@ module _
     pub thread_own : has_thread? part e ≡ true → threads_by.own? (threads_by.into (thread part e)) ≡ true
     pub location_same : has_location? part e ≡ true → location whole n ≡ locations_by.into (location part e)
     pub location_own : has_location? part e ≡ true → locations_by.own? (locations_by.into (location part e)) ≡ true
-    pub begin_fits_lem : begin? part e ≡ true → begin_fits whole n ≡ begin_fits part e
+    pub begin_still_fits : begin? part e ≡ true → begin_fits whole n ≡ begin_fits part e
 
 -- by the begins, the version is the same, and the same of the part's threads and locations are there
 pub record SameBegin (threads_by locations_by : Naming) (part whole : ℕ → Event) : Type 0 where
   pub version_same : version whole ≡ version part
-  pub thread_fits_lem :
+  pub thread_still_fits :
       (t : ℕ) → threads_by.own? (threads_by.into t) ≡ true
       → leb (threads whole) (threads_by.into t) ≡ leb (threads part) t
   pub location_fits :

@@ -11,7 +11,7 @@ use Rattle.model.specs.Reading.{events, Reading, accepted, turned_away, reading_
 use Rattle.model.specs.Answers.{cut_of, share_of, fault_of}
 use Rattle.model.specs.Answers as answers
 
--- 14, "work area too small": "The work area is at least 32,768 two_byte numbers."
+-- 14, "work area too small": "The work area is at least 32,768 two-byte numbers."
 abbrev pub small_work : ℕ → Bool
 small_work size = ltb size 32768
 

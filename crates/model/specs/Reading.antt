@@ -15,7 +15,7 @@ use Rattle.model.specs.Rules.{refusal}
 use Rattle.model.specs.Answers.{tabulate}
 
 -- the event that the record layer answers. Where it answers none, a crash: the trace ends there or is turned away, and
--- no ruling depends on what stands behind a trace's last event (`Exact-same` of proofs/Prefixes.antt)
+-- no ruling depends on what stands behind a trace's last event (`exact_same` of proofs/Prefixes.antt)
 abbrev pub event_in : Answer → Event
 event_in (event e n) = e
 event_in (refused k e) = Crash

@@ -14,7 +14,7 @@ use Rattle.record.specs.Versions.{known_in}
 use Rattle.model.specs.Search.{bit}
 
 -- a list of events as a trace. What it gives past the list's end is in no trace of the list's length, and no ruling
--- depends on it: `Exact-same` of proofs/Prefixes.antt
+-- depends on it: `exact_same` of proofs/Prefixes.antt
 abbrev pub trace_of : List Event → ℕ → Event
 trace_of es e = get_or es e Crash
 

@@ -45,6 +45,6 @@ values_of (Wait t s) = t ∷ s ∷ []
 values_of (Open t) = t ∷ []
 values_of (Close t o) = t ∷ o ∷ []
 
--- "A record is a two_byte length (of all that follows it), a two_byte kind, and two_byte fields."
+-- "A record is a two-byte length (of all that follows it), a two-byte kind, and two-byte fields."
 unfoldable pub record_of : Event → List ℕ
 record_of e = bytes (length_of (kind_of e) ∷ kind_of e ∷ values_of e)

@@ -36,7 +36,7 @@ abbrev pub Each : (ℕ → Type 0) → List ℕ → Type 0
 Each P [] = Unit {0}
 Each P (x ∷ xs) = P x × Each P xs
 
--- each value is a two_byte number, as in every event of the code
+-- each value is a two-byte number, as in every event of the code
 pub record TwoByte (f : Fields) : Type 0 where
   pub small : Each (λ (v : ℕ). v < 65536) (columns f)
 

@@ -1,4 +1,4 @@
--- What the types of parameters say, as the round-trip theorems ask for it: the fields of an `Event` are two_byte
+-- What the types of parameters say, as the round-trip theorems ask for it: the fields of an `Event` are two-byte
 -- numbers, the elements of a `&[u8]` are bytes.
 use mathlib.Core.List.{List}
 use Prim.Native.Nat.{ℕ}

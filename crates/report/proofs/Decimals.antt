@@ -1,4 +1,4 @@
--- Numbers in decimal: the last digit stands behind those of n / 10, as the code has it, and a two_byte number has at
+-- Numbers in decimal: the last digit stands behind those of n / 10, as the code has it, and a two-byte number has at
 -- most five digits.
 use Prim.Native.Nat.{ℕ, zero, suc, ◌+◌, ◌*◌, ◌/◌, ◌%◌, ◌≤◌, ◌<◌}
 use native.Mathlib.Omega.{arith}

@@ -55,7 +55,7 @@ stored found size k T v t inside = by_thread (same? T t)
 
 module _
     (ev : ℕ → Event) (p q : ℕ) {n m : ℕ} {found : List ℕ} (shown : Shown ev p q n m found)
-    (T v : ℕ) (T-below : T < 8) where
+    (T v : ℕ) (t_below : T < 8) where
   -- the first places after one event more, where v is noted for thread T or nothing is
   first_noted :
       (opens : Bool)
@@ -171,12 +171,12 @@ module _
             (t : ℕ) → Issue ev n ⊎ (issue? ev n ≡ false)
             → last_shown ev p q (suc n) t ≡ cond (ends_w work q found n i && eqb i t) n (last_shown ev p q n t)
         comes t (inl store) =
-            let T-below = thread_bound ev N accepted n (omega arith) (issue_has_thread ev store) in
+            let t_below = thread_bound ev N accepted n (omega arith) (issue_has_thread ev store) in
             rw (
               covers_is ev N accepted work rows n q (omega arith) store q_early q_store,
               (rows.stores n (omega arith) store).thread_is,
-              mod-eq_of_lt T-below,
-              shown.firsts T T-below,
+              mod-eq_of_lt t_below,
+              shown.firsts T t_below,
               shown_some ev p q p_store n T,
               store.test,
               test_in_turn T t (covers? ev n q) (has? ev p q n),
@@ -199,9 +199,9 @@ module _
       s_early (inl loads) = source_early ev N accepted n (omega arith) loads
       s_early (inr waits) = (wait_signalled ev N accepted n (omega arith) waits).early
 
-      T-has : Load ev n ⊎ Wait ev n → has_thread? ev n ≡ true
-      T-has (inl loads) = load_has_thread ev loads
-      T-has (inr waits) = wait_has_thread ev waits
+      t_has : Load ev n ⊎ Wait ev n → has_thread? ev n ≡ true
+      t_has (inl loads) = load_has_thread ev loads
+      t_has (inr waits) = wait_has_thread ev waits
 
       -- a source that is not below p is a store, or a signal
       meets_at : p ≤ s → Load ev n ⊎ Wait ev n → Meets ev n
@@ -242,15 +242,15 @@ module _
       unfolding noted_source
       shown_source {m} {found} shown =
           rw (
-            mod-eq_of_lt T-below,
+            mod-eq_of_lt t_below,
             up_is n (omega (arith, event_bound ev N accepted n (omega arith))),
-            shown.firsts T T-below,
+            shown.firsts T t_below,
           )
-          (first_noted ev p q shown T (suc n) T-below (eqb (first_shown ev p q n T) 0 && brings_w work p s)
+          (first_noted ev p q shown T (suc n) t_below (eqb (first_shown ev p q n T) 0 && brings_w work p s)
           (λ t. comes t (same? T t) (has_or_not ev p q p_store n T) (test (brings_w work p s))))
         where
-          T-below : T < 8
-          T-below = thread_bound ev N accepted n (omega arith) (T-has sourced)
+          t_below : T < 8
+          t_below = thread_bound ev N accepted n (omega arith) (t_has sourced)
 
           comes :
               (t : ℕ) → (T ≡ t) ⊎ (T ≢ t) → Has ev p T n ⊎ (¬ Has ev p T n)

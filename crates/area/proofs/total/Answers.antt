@@ -1,4 +1,4 @@
--- Invariant: the first n numbers are summed, and each is a two_byte number; measure: the numbers left.
+-- Invariant: the first n numbers are summed, and each is a two-byte number; measure: the numbers left.
 use mathlib.Core.Path.{◌≡◌, refl}
 use Prim.Native.Nat.{◌+◌}
 use native.Mathlib.Omega.{arith}

@@ -65,7 +65,7 @@ answered bytes version threads locations n k tables m work part cut₀ cut cut' 
 pub returns-then-b-ne0 : goal.returns-then-b-ne0
 returns-then-b-ne0 c =
     let bytes : List ℕ = c.args.trace.now in
-    let away = c.begin-b.ensures.turned_away_lem (λ none. omega arith) in
+    let away = c.begin-b.ensures.is_turned_away (λ none. omega arith) in
     record {
       answers_as_defined = refused_answers bytes _ 0 away _;
       cut_after = (refused_with_cut bytes _ 0 away _).1;

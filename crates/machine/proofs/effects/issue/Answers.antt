@@ -13,7 +13,7 @@ issue_keeps :
     (tables : List ℕ) (t e : ℕ) (old new : Thread) → old ≡ thread_of tables t → new ≡ issued_t old e
     → KeepsOldest tables t new.oldest
 unfolding thread_of issued_t first_of
-issue_keeps tables t e old new old-is New-is some = rw (New-is, old-is, ne_eqb (of_thread tables t 8) 0 some) refl
+issue_keeps tables t e old new old-is new_is some = rw (new_is, old-is, ne_eqb (of_thread tables t 8) 0 some) refl
 
 pub put_issued-requires : goal.put_issued-requires
 put_issued-requires c =

@@ -3,7 +3,7 @@ use mathlib.Core.Path.{refl, sym, ◌∙◌}
 use native.Mathlib.Omega.{arith}
 use borrow.Author.Tests.{lt-ltb, le-ltb}
 use Rattle.machine.specs.Effects.{close_w}
-use Rattle.machine.proofs.RuleLaws.{row_inside, behind, stopped, turned_away_lem, passes}
+use Rattle.machine.proofs.RuleLaws.{row_inside, behind, stopped, is_turned_away, passes}
 use mathlib.Core.Path.{ap}
 use mathlib.Core.Bool.{not}
 use Rattle.machine.proofs.steps.close_region.Goals as goal
@@ -15,7 +15,7 @@ returns-then-m-lt2 c =
 pub returns-then-not-thread_fits : goal.returns-then-not-thread_fits
 returns-then-not-thread_fits c =
     rw (le-ltb _ 2 c.if-m-lt2.false)
-    (turned_away_lem _ _ _ _ _ _ _ _ _ _ _ _ c.thread_fits.ensures.value (ap not c.if-not-thread_fits.true)
+    (is_turned_away _ _ _ _ _ _ _ _ _ _ _ _ c.thread_fits.ensures.value (ap not c.if-not-thread_fits.true)
     c.place_refusal.ensures
     c.refuse-then-not-thread_fits.ensures)
 

@@ -3,14 +3,14 @@ use mathlib.Core.Path.{refl, ◌∙◌}
 use native.Mathlib.Omega.{arith}
 use borrow.Author.Tests.{eq-eqb, ne_eqb}
 use Rattle.machine.specs.Effects.{commit_w}
-use Rattle.machine.proofs.RuleLaws.{row_inside, behind, stopped, turned_away_lem, passes}
+use Rattle.machine.proofs.RuleLaws.{row_inside, behind, stopped, is_turned_away, passes}
 use mathlib.Core.Path.{ap}
 use mathlib.Core.Bool.{not}
 use Rattle.machine.proofs.steps.commit.Goals as goal
 
 pub returns-then-not-thread_fits : goal.returns-then-not-thread_fits
 returns-then-not-thread_fits c =
-    turned_away_lem _ _ _ _ _ _ _ _ _ _ _ _
+    is_turned_away _ _ _ _ _ _ _ _ _ _ _ _
     c.thread_fits.ensures.value (ap not c.if-not-thread_fits.true)
     c.place_refusal.ensures c.refuse.ensures
 

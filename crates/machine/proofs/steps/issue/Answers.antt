@@ -2,14 +2,14 @@
 use mathlib.Core.Path.{refl}
 use native.Mathlib.Omega.{arith}
 use Rattle.machine.specs.Effects.{issue_w}
-use Rattle.machine.proofs.RuleLaws.{row_inside, behind, turned_away_lem, passes}
+use Rattle.machine.proofs.RuleLaws.{row_inside, behind, is_turned_away, passes}
 use mathlib.Core.Path.{ap}
 use mathlib.Core.Bool.{not}
 use Rattle.machine.proofs.steps.issue.Goals as goal
 
 pub returns-then-not-place_fits : goal.returns-then-not-place_fits
 returns-then-not-place_fits c =
-    turned_away_lem _ _ _ _ _ _ _ _ _ _ _ _
+    is_turned_away _ _ _ _ _ _ _ _ _ _ _ _
     c.place_fits.ensures.value (ap not c.if-not-place_fits.true)
     c.place_refusal.ensures c.refuse.ensures
 

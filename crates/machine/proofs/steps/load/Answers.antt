@@ -2,14 +2,14 @@
 use mathlib.Core.Path.{◌∙◌}
 use native.Mathlib.Omega.{arith}
 use borrow.Author.Tests.{eq-eqb, ne_eqb}
-use Rattle.machine.proofs.RuleLaws.{row_inside, at_once, aside, turned_away_lem, load_waits, load_here, load_crosses}
+use Rattle.machine.proofs.RuleLaws.{row_inside, at_once, aside, is_turned_away, load_waits, load_here, load_crosses}
 use mathlib.Core.Path.{ap}
 use mathlib.Core.Bool.{not}
 use Rattle.machine.proofs.steps.load.Goals as goal
 
 pub returns-then-not-place_fits : goal.returns-then-not-place_fits
 returns-then-not-place_fits c =
-    turned_away_lem _ _ _ _ _ _ _ _ _ _ _ _
+    is_turned_away _ _ _ _ _ _ _ _ _ _ _ _
     c.place_fits.ensures.value (ap not c.if-not-place_fits.true)
     c.place_refusal.ensures c.refuse.ensures
 

@@ -2,14 +2,14 @@
 use mathlib.Core.Path.{refl, sym, ◌∙◌}
 use native.Mathlib.Omega.{arith}
 use borrow.Author.Tests.{ne_eqb}
-use Rattle.machine.proofs.RuleLaws.{row_inside, behind, stopped, turned_away_lem, locked_refused, locked_passes}
+use Rattle.machine.proofs.RuleLaws.{row_inside, behind, stopped, is_turned_away, locked_refused, locked_passes}
 use mathlib.Core.Path.{ap}
 use mathlib.Core.Bool.{not}
 use Rattle.machine.proofs.steps.locked.Goals as goal
 
 pub returns-then-not-place_fits : goal.returns-then-not-place_fits
 returns-then-not-place_fits c =
-    turned_away_lem _ _ _ _ _ _ _ _ _ _ _ _
+    is_turned_away _ _ _ _ _ _ _ _ _ _ _ _
     c.place_fits.ensures.value (ap not c.if-not-place_fits.true)
     c.place_refusal.ensures c.refuse.ensures
 

@@ -2,14 +2,14 @@
 use mathlib.Core.Path.{refl, sym, ◌∙◌}
 use native.Mathlib.Omega.{arith}
 use Rattle.machine.specs.Effects.{meet_w}
-use Rattle.machine.proofs.RuleLaws.{row_inside, behind, stopped, turned_away_lem, passes}
+use Rattle.machine.proofs.RuleLaws.{row_inside, behind, stopped, is_turned_away, passes}
 use mathlib.Core.Path.{ap}
 use mathlib.Core.Bool.{not}
 use Rattle.machine.proofs.steps.wait.Goals as goal
 
 pub returns-then-not-thread_fits : goal.returns-then-not-thread_fits
 returns-then-not-thread_fits c =
-    turned_away_lem _ _ _ _ _ _ _ _ _ _ _ _
+    is_turned_away _ _ _ _ _ _ _ _ _ _ _ _
     c.thread_fits.ensures.value (ap not c.if-not-thread_fits.true)
     c.place_refusal.ensures c.refuse.ensures
 
