@@ -1,4 +1,4 @@
--- Answers as two_byte numbers in a lent array: its layout, which gorbuzte.h gives names to.
+-- Answers as two-byte numbers in a lent array: its layout, which gorbuzte.h gives names to.
 use Rattle.std.specs.Prelude.{ℕ, ◌+◌, ◌%◌, List, [], ◌∷◌, ◌++◌, replicate}
 use Rattle.model.specs.Windows.{Places, none, between}
 use Rattle.model.specs.Answers.{Fault, contradiction, flush, impossible, Answer, robust, broken, Standing}

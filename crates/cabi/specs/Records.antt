@@ -1,4 +1,4 @@
--- A record as two_byte numbers in a lent array: the refusal's number or 0, kind, version, threads, locations, thread,
+-- A record as two-byte numbers in a lent array: the refusal's number or 0, kind, version, threads, locations, thread,
 -- location, source, outcome. What its kind does not have is 0. gorbuzte.h gives names to the places.
 use Rattle.std.specs.Prelude.{ℕ, Bool, not, List, [], ◌∷◌, ◌==◌, slice_index}
 use Rattle.record.specs.declared.events.Event.{Event}

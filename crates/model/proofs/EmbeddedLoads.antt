@@ -1,7 +1,7 @@
 -- Happens-before and what loads observe and forbid, for a part of a trace and the whole (specs/Embedding.antt). What
 -- happens before a store or a signal of the part is a store of the part; so is what its loads observe and forbid.
 -- In order: what is no gap; loads among stores; happens-before; stores that are in; what loads observe and forbid. A
--- lemma -at starts from events of the part, a lemma -kept from events of the whole.
+-- lemma _at starts from events of the part, a lemma _kept from events of the whole.
 use Prim.Native.Nat.{ℕ, ◌≤◌, ◌<◌}
 use native.Mathlib.Omega.{arith}
 use mathlib.Core.Path.{◌≡◌, sym, ◌∙◌, ap}

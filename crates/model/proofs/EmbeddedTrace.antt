@@ -1,7 +1,7 @@
 -- A part of a trace and the whole (specs/Embedding.antt): the stretches are the same, and so are, for the part's
 -- threads, counts, places and switches, since a gap that plays a role is of another thread.
 -- In order: stretches; events of a role, a thread and a stretch, which are counted and searched for; counts and places;
--- switches. A lemma -kept speaks of the first n events of the whole; a lemma -at, or one that is named after a role, of
+-- switches. A lemma _kept speaks of the first n events of the whole; a lemma _at, or one that is named after a role, of
 -- an event of the part, at its number in the whole.
 use Prim.Native.Nat.{ℕ, zero, suc, ◌+◌}
 use native.Mathlib.Omega.{arith}

@@ -3,7 +3,7 @@
 -- window in both, its places shifted (specs/Flushes.antt): no store, load or wait of the whole is a gap, since that
 -- would be foreign, and numbers keep their order.
 -- In order: what is no gap; stores, loads and waits, at their numbers; what brings a store; the two places; the window;
--- the fault, `fault_at`. A lemma -at starts from events of the part, a lemma -kept from events of the whole.
+-- the fault, `fault_at`. A lemma _at starts from events of the part, a lemma _kept from events of the whole.
 use Prim.Native.Nat.{ℕ, suc, ◌-◌}
 use native.Mathlib.Omega.{arith}
 use mathlib.Core.Path.{◌≡◌, refl, sym, ◌∙◌}
