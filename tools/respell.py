@@ -64,8 +64,6 @@ def defined(path, text):
             names.update(TOKEN.findall(m.group(0)))
         for m in re.finditer(r"\(inl ([^()]+)\)|\(inr ([^()]+)\)", line):
             names.update(TOKEN.findall(m.group(1) or m.group(2)))
-        if "record {" in line or re.match(r"\s+[^\s=]+ = ", line):
-            pass
     return names
 
 
