@@ -9,10 +9,10 @@ use Rattle.machine.specs.declared.state.Machine.{Machine}
 use Rattle.machine.specs.Tables.{source_cell}
 use Rattle.machine.specs.Twin.{State, World, world, region_at, last_w, here_w, admits_w}
 use Rattle.machine.specs.Turning.{commit_rule, load_rule, locked_rule, fence_rule, crash_rule, skip_rule, signal_rule}
-use Rattle.machine.specs.Turning.{wait_rule, open_rule, close_rule, close_counts, on_thread, on_place, on_new, at_once_w}
-use Rattle.machine.specs.Turning.{counted_w}
-use Rattle.machine.specs.Effects.{issue_w, commit_w, pass_with, pass_w, meet_w, cross_w, load_w, locked_w, crash_w, skip_w}
-use Rattle.machine.specs.Effects.{signal_w}
+use Rattle.machine.specs.Turning.{wait_rule, open_rule, close_rule, close_counts, on_thread, on_place, on_new}
+use Rattle.machine.specs.Turning.{at_once_w, counted_w}
+use Rattle.machine.specs.Effects.{issue_w, commit_w, pass_with, pass_w, meet_w, cross_w, load_w, locked_w, crash_w}
+use Rattle.machine.specs.Effects.{skip_w, signal_w}
 use Rattle.machine.specs.Effects.{open_w, close_w}
 
 pub record Outcome : Type 0 where

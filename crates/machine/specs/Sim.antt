@@ -1,7 +1,8 @@
 -- What ties the machine's state, its tables and the work area, before event n, to the definitions: the numbers, what
 -- the first n events have passed, each thread's state and what it has seen, the tables of locations, and the rows of
 -- stores and signals.
-use Rattle.std.specs.Prelude.{ℕ, suc, ◌+◌, ◌-◌, ◌*◌, ◌≤◌, ◌<◌, ◌≡◌, Bool, true, false, List, [], ◌∷◌, ◌≢◌, eqb, length, get_or}
+use Rattle.std.specs.Prelude.{ℕ, suc, ◌+◌, ◌-◌, ◌*◌, ◌≤◌, ◌<◌, ◌≡◌, Bool, true, false, List, [], ◌∷◌, ◌≢◌, eqb}
+use Rattle.std.specs.Prelude.{length, get_or}
 use Rattle.record.specs.declared.events.Event.{Event}
 use Rattle.record.specs.Tests.{◌gives◌else◌}
 use Rattle.model.specs.Trace.{thread, location, Issue, version, threads, locations, stretch, issues, commits, place}

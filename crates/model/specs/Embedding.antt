@@ -115,7 +115,8 @@ pub record Finds (ev : ℕ → Event) : Type 0 where
   pub wait_signal : (e : ℕ) → wait? ev e ≡ true → signal? ev (source ev e) ≡ true
 
 module _
-    {threads_by locations_by : Naming} {part whole : ℕ → Event} (via : Embedding threads_by locations_by part whole) where
+    {threads_by locations_by : Naming} {part whole : ℕ → Event}
+    (via : Embedding threads_by locations_by part whole) where
   -- no store of a gap, and none that a gap commits, is at the part's locations
   pub record Apart : Type 0 where
     pub store_apart :

@@ -1,6 +1,7 @@
 -- The lines that the program `verdict` prints for an answer: document 01, "The program `verdict`". Bytes in ASCII; 32
 -- is a space, 10 a newline.
-use Rattle.std.specs.Prelude.{ℕ, zero, suc, ◌+◌, ◌-◌, ◌*◌, ◌≤◌, min, ◌≡◌, List, [], ◌∷◌, ◌++◌, length, take, drop, get_or}
+use Rattle.std.specs.Prelude.{ℕ, zero, suc, ◌+◌, ◌-◌, ◌*◌, ◌≤◌, min, ◌≡◌, List, [], ◌∷◌, ◌++◌, length, take, drop}
+use Rattle.std.specs.Prelude.{get_or}
 use Prim.Native.Char.{code}
 use Prim.Native.String.{String, len, char_at}
 use Rattle.model.specs.Answers.{Answer, refused, robust, broken, Fault, contradiction, flush, impossible}

@@ -11,7 +11,8 @@ zeroed n l = replicate n 0 ++ drop n l
 
 abbrev pub invariant-loop-i : goal.invariant-loop-i
 invariant-loop-i l =
-    (l.i ≤ length l.numbers) × (length l.numbers ≡ length l.initial.numbers) × (l.numbers ≡ zeroed l.i l.initial.numbers)
+    (l.i ≤ length l.numbers)
+    × (length l.numbers ≡ length l.initial.numbers) × (l.numbers ≡ zeroed l.i l.initial.numbers)
 
 abbrev pub decreases-loop-i : goal.decreases-loop-i
 decreases-loop-i l = length l.numbers - l.i

@@ -44,7 +44,9 @@ returns c =
     let p : ℕ = c.args.first in
     let q : ℕ = c.args.second in
     let enough = le-ltb (length work) 32768 (omega arith) in
-    let answer : order_answer called.result ≡ order_of bytes (length work) p q = rw enough called.ensures.result_value in
+    let answer : order_answer called.result ≡ order_of bytes (length work) p q =
+    rw enough called.ensures.result_value
+    in
     record {
       answer = answer;
       work = rw (enough, called.ensures.area_after) refl;

@@ -28,7 +28,8 @@ pub returns-then-k-ne0 : goal.returns-then-k-ne0
 returns-then-k-ne0 c =
     let own = rw c.region_of-old.ensures at c.close_rule-k.ensures in
     rw (le-ltb _ 2 c.if-m-lt2.false)
-    (stopped _ _ _ _ _ _ _ _ _ (behind _ _ _ _ c.thread_fits.ensures.value (ap not c.if-not-thread_fits.false) ∙ sym own)
+    (stopped _ _ _ _ _ _ _ _ _
+    (behind _ _ _ _ c.thread_fits.ensures.value (ap not c.if-not-thread_fits.false) ∙ sym own)
     c.if-k-ne0.true
     c.refuse-then-k-ne0.ensures)
 

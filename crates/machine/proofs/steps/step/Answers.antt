@@ -6,7 +6,8 @@ use Rattle.machine.specs.Arms.{by_kind}
 use Rattle.machine.specs.Outcomes.{step_o}
 use Rattle.machine.proofs.ArmLaws.{behind_load, behind_crash, flush_arm, fence_arm, skip_arm, other_arm}
 use Rattle.machine.proofs.steps.step.Goals as goal
-use Rattle.machine.proofs.steps.step.Goals.{in_default-via-then-kind-lt2, in_default-via-else-kind-lt2+else-kind-lt7+else-kind-lt9+else-kind-lt12}
+use Rattle.machine.proofs.steps.step.Goals.{in_default-via-then-kind-lt2}
+use Rattle.machine.proofs.steps.step.Goals.{in_default-via-else-kind-lt2+else-kind-lt7+else-kind-lt9+else-kind-lt12}
 
 pub returns-in-2 : goal.returns-in-2
 unfolding step_o by_kind
@@ -64,7 +65,8 @@ pub returns-in-7-to-8 : goal.returns-in-7-to-8
 unfolding step_o
 returns-in-7-to-8 c =
     c.fence.ensures
-    ∙ fence_arm _ _ _ _ _ _ _ _ _ _ _ _ _ _ (omega (arith, c.in-7-to-8.if-kind-lt7-own.false)) (omega (arith, c.in-7-to-8.if-kind-lt9-own.true))
+    ∙ fence_arm _ _ _ _ _ _ _ _ _ _ _ _ _ _ (omega (arith, c.in-7-to-8.if-kind-lt7-own.false))
+    (omega (arith, c.in-7-to-8.if-kind-lt9-own.true))
 
 pub returns-in-10-to-11 : goal.returns-in-10-to-11
 unfolding step_o

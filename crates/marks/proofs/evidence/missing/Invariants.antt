@@ -8,7 +8,8 @@ use Rattle.marks.proofs.evidence.missing.Given as goal
 
 abbrev pub invariant-loop-p : goal.invariant-loop-p
 invariant-loop-p l =
-    (first_from l.p (l.n - l.p) (missing_in l.rows (marks_of l.marks l.flags)) ≡ first l.n (missing_in l.rows (marks_of l.marks l.flags)))
+    (first_from l.p (l.n - l.p) (missing_in l.rows (marks_of l.marks l.flags))
+    ≡ first l.n (missing_in l.rows (marks_of l.marks l.flags)))
     × (l.p ≤ l.n)
 
 abbrev pub decreases-loop-p : goal.decreases-loop-p

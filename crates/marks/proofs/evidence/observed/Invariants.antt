@@ -7,7 +7,8 @@ use Rattle.marks.proofs.evidence.observed.Given as goal
 
 abbrev pub invariant-loop-q : goal.invariant-loop-q
 invariant-loop-q l =
-    (first_from l.q (l.n - l.q) (observed_in l.rows l.flags l.m) ≡ first l.n (observed_in l.rows l.flags l.m)) × (l.q ≤ l.n)
+    (first_from l.q (l.n - l.q) (observed_in l.rows l.flags l.m) ≡ first l.n (observed_in l.rows l.flags l.m))
+    × (l.q ≤ l.n)
 
 abbrev pub decreases-loop-q : goal.decreases-loop-q
 decreases-loop-q l = l.n - l.q

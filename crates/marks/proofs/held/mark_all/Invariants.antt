@@ -7,7 +7,8 @@ use Rattle.marks.proofs.held.mark_all.Given as goal
 
 abbrev pub invariant-loop-n : goal.invariant-loop-n
 invariant-loop-n l =
-    Next l.rows (all_held l.initial.n l.rows (marks_of l.initial.marks l.initial.flags) l.initial.k) l.n (marks_of l.marks l.flags) l.k
+    Next l.rows (all_held l.initial.n l.rows (marks_of l.initial.marks l.initial.flags) l.initial.k) l.n
+    (marks_of l.marks l.flags) l.k
 
 abbrev pub decreases-loop-n : goal.decreases-loop-n
 decreases-loop-n l = l.n

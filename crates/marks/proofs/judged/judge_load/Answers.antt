@@ -12,7 +12,8 @@ returns-then-marks-ne0 c =
 pub returns-then-breaks : goal.returns-then-breaks
 returns-then-breaks c =
     judged_breaks _ _ _ _ _ _ _ c.repeats.ensures c.if-repeats.false c.if-marks-ne0.false _ _ _
-    (c.load-breaks.ensures.value, c.load-breaks.ensures.flags_after) c.note.ensures c.if-breaks.true _ c.event_at-e.ensures
+    (c.load-breaks.ensures.value, c.load-breaks.ensures.flags_after) c.note.ensures c.if-breaks.true _
+    c.event_at-e.ensures
 
 pub returns-else-breaks : goal.returns-else-breaks
 returns-else-breaks c =

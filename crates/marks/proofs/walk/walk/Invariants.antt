@@ -8,7 +8,8 @@ use Rattle.marks.proofs.walk.walk.Given as goal
 
 abbrev pub invariant-loop-n : goal.invariant-loop-n
 invariant-loop-n l =
-    Left l.rows l.stop (walked l.initial.n l.rows (marks_of l.initial.marks l.initial.flags) l.initial.p l.stop) (walk_hits l.initial.n l.rows l.initial.marks l.initial.p l.stop)
+    Left l.rows l.stop (walked l.initial.n l.rows (marks_of l.initial.marks l.initial.flags) l.initial.p l.stop)
+    (walk_hits l.initial.n l.rows l.initial.marks l.initial.p l.stop)
     l.n (marks_of l.marks l.flags) l.p l.hit
 
 abbrev pub decreases-loop-n : goal.decreases-loop-n

@@ -8,7 +8,8 @@ use Rattle.record_examples.proofs.round_trips.write_again.Goals as goal
 pub returns-in_default : goal.returns-in_default
 returns-in_default c =
     let answered = c.read_first-r.ensures in
-    let told = again_unread _ _ _ _ (ap read_answer c.in_default.is) answered in record { answer = told.0; bytes = told.1 }
+    let told = again_unread _ _ _ _ (ap read_answer c.in_default.is) answered in
+    record { answer = told.0; bytes = told.1 }
 
 pub returns-in_default-w : goal.returns-in_default-w
 returns-in_default-w c =

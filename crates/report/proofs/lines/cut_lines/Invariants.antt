@@ -9,7 +9,9 @@ use Rattle.report.proofs.lines.cut_lines.Given as goal
 
 abbrev pub invariant-loop-j : goal.invariant-loop-j
 invariant-loop-j l =
-    (l.j ≤ l.finished) × (length l.out ≡ length l.initial.out) × Added l.initial.out l.at (cut_lines l.cut l.threads l.j) (58 * l.j) l.out l.end
+    (l.j ≤ l.finished)
+    × (length l.out ≡ length l.initial.out)
+    × Added l.initial.out l.at (cut_lines l.cut l.threads l.j) (58 * l.j) l.out l.end
 
 abbrev pub decreases-loop-j : goal.decreases-loop-j
 decreases-loop-j l = l.finished - l.j

@@ -7,7 +7,8 @@ use Rattle.windows.proofs.records.look.Given as goal
 
 abbrev pub invariant-loop-e : goal.invariant-loop-e
 invariant-loop-e l =
-    Left l.trace l.work l.p l.q (looked_from l.trace l.work l.p l.q (l.q - l.initial.e) l.initial.e l.initial.at l.initial.found) l.e l.at l.found
+    Left l.trace l.work l.p l.q
+    (looked_from l.trace l.work l.p l.q (l.q - l.initial.e) l.initial.e l.initial.at l.initial.found) l.e l.at l.found
 
 abbrev pub decreases-loop-e : goal.decreases-loop-e
 decreases-loop-e l = l.q - l.e
