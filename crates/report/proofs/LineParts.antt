@@ -1,18 +1,19 @@
 -- The parts that a line is put together from, one behind the other, are the line, and the lines of the first j
 -- stretches with one more are those of j + 1.
-use Prim.Native.Nat.{ℕ, ◌+◌, ◌-◌, ◌*◌, ◌≤◌}
+use Prim.Native.Nat.{ℕ, ◌+◌, ◌≤◌, min}
 use native.Mathlib.Omega.{arith}
 use native.Mathlib.Numerals.{add-one}
 use mathlib.Core.Path.{◌≡◌, sym, ap}
 use mathlib.Core.List.{List, [], ◌∷◌, ◌++◌, append_assoc, append-nil}
-use lib.ListN.{length, get_or, get_or-eq_default}
 use Rattle.model.specs.Answers.{tabulate, kind_answer, verdict_answer}
 use Rattle.model.specs.declared.Kind.{Kind}
 use Rattle.model.specs.declared.Verdict.{Verdict}
 use Rattle.report.specs.Decimal.{digits}
-use Rattle.report.specs.Lines.{ascii, spaced, line, count_at, counts_of, cut_line, cut_lines, kind_text, lines_of}
-use Rattle.report.specs.Page.{Added}
-use Rattle.report.proofs.Pages.{nothing_added, added_as}
+use Rattle.report.specs.Lines.{ascii, spaced, line, count_at, counts_of, cut_line, cut_lines, kind_text}
+use Rattle.report.specs.Lines.{robust_lines, lines_of}
+use Rattle.report.specs.declared.page.Page.{Page}
+use Rattle.report.specs.Page.{Puts}
+use Rattle.report.proofs.Pages.{nothing_put, put_as}
 
 -- ---- a line
 
@@ -46,9 +47,9 @@ unfolding spaced
 spaced_more [] v = simp append-nil
 spaced_more (x ∷ vs) v = simp (spaced_more vs v, append_assoc)
 
-pub no_counts : (out : List ℕ) (at : ℕ) (cut : List ℕ) (j : ℕ) → Added out at (spaced (counts_of cut 0 j)) 0 out at
+pub no_counts : (p : Page) (cut : List ℕ) (j : ℕ) → Puts p (spaced (counts_of cut 0 j)) 0 p
 unfolding tabulate spaced
-no_counts out at cut j = nothing_added out at
+no_counts p cut j = nothing_put p
 
 pub next_count :
     (cut : List ℕ) (t j : ℕ)
@@ -56,50 +57,48 @@ pub next_count :
 unfolding tabulate
 next_count cut t j = rw (add-one t) (sym (spaced_more (counts_of cut t j) (count_at cut j t)))
 
--- t is all the threads
-pub all_counts :
-    {out after : List ℕ} {at end t n : ℕ} (cut : List ℕ) (j : ℕ)
-    → Added out at (spaced (counts_of cut t j)) (6 * t) after end → t ≤ n → n ≤ t
-    → Added out at (spaced (counts_of cut n j)) (6 * n) after end
-all_counts {t} {n} cut j added below above = let same : n ≡ t = omega arith in rw same added
-
 -- ---- the cut lines
 
-pub no_cut_lines : (out : List ℕ) (at : ℕ) (cut : List ℕ) (n : ℕ) → Added out at (cut_lines cut n 0) 0 out at
+pub no_cut_lines : (p : Page) (cut : List ℕ) (n : ℕ) → Puts p (cut_lines cut n 0) 0 p
 unfolding cut_lines
-no_cut_lines out at cut n = nothing_added out at
+no_cut_lines p cut n = nothing_put p
 
 pub next_cut_line : (cut : List ℕ) (n j : ℕ) → cut_lines cut n j ++ cut_line cut n (j + 1) ≡ cut_lines cut n (j + 1)
 unfolding cut_lines
 next_cut_line cut n j = rw (add-one j)
 
--- j is all the finished stretches
-pub all_cut_lines :
-    {out after : List ℕ} {at end j f : ℕ} (cut : List ℕ) (n : ℕ)
-    → Added out at (cut_lines cut n j) (58 * j) after end → j ≤ f → f ≤ j
-    → Added out at (cut_lines cut n f) (58 * f) after end
-all_cut_lines {j} {f} cut n added below above = let same : f ≡ j = omega arith in rw same added
+-- more than 8 threads count as 8 and more than 7 stretches as 7, however often that is said
+pub bounded_once :
+    (events share n f : ℕ) {m g : ℕ} {cut counts : List ℕ} → counts ≡ cut → m ≡ min n 8 → g ≡ min f 7
+    → robust_lines events share m g counts ≡ robust_lines events share n f cut
+unfolding robust_lines
+bounded_once events share n f same threads finished =
+    let n_is : min (min n 8) 8 ≡ min n 8 = omega arith in
+    let f_is : min (min f 7) 7 ≡ min f 7 = omega arith in
+    rw (same, threads, finished, n_is, f_is)
 
--- stretch j + 1 stands at 8 j
-pub count_is : (cut : List ℕ) (j t : ℕ) → get_or cut (8 * j + t) 0 ≡ count_at cut (j + 1) t
-unfolding count_at
-count_is cut j t = let place : 8 * (j + 1 - 1) + t ≡ 8 * j + t = omega arith in rw place
-
-pub count_past_end : (cut : List ℕ) (j t : ℕ) → length cut ≤ 8 * j + t → 0 ≡ count_at cut (j + 1) t
-count_past_end cut j t past = rw (← count_is cut j t) (sym (get_or-eq_default cut 0 past))
+-- the parts of a robust trace's report, for numbers within the bounds
+pub bounded :
+    (events share n f : ℕ) (cut : List ℕ) → n ≤ 8 → f ≤ 7
+    → line (ascii "events") (events ∷ []) ++ line (ascii "verdict robust") [] ++ cut_lines cut n f
+    ++ line (ascii "share") (share ∷ [])
+    ≡ robust_lines events share n f cut
+unfolding robust_lines
+bounded events share n f cut threads finished =
+    let n_is : min n 8 ≡ n = omega arith in
+    let f_is : min f 7 ≡ f = omega arith in
+    rw (n_is, f_is)
 
 -- ---- the code's enums: what is put for a value that is known is put for the one that equals it
 
 pub kind_line_of :
-    {out after : List ℕ} {at m end : ℕ} {k q : Kind} → k ≡ q
-    → Added out at (line (ascii (kind_text (kind_answer q))) []) m after end → m ≤ 19
-    → Added out at (line (ascii (kind_text (kind_answer k))) []) 19 after end
-kind_line_of is added few =
-    added_as _ 19 added (ap (λ (k : Kind). line (ascii (kind_text (kind_answer k))) []) (sym is)) few
+    {a b : Page} {m : ℕ} {k q : Kind} → k ≡ q → Puts a (line (ascii (kind_text (kind_answer q))) []) m b → m ≤ 19
+    → Puts a (line (ascii (kind_text (kind_answer k))) []) 19 b
+kind_line_of is puts few = put_as _ 19 puts (ap (λ (k : Kind). line (ascii (kind_text (kind_answer k))) []) (sym is)) few
 
 pub lines_of_lem :
-    {out after : List ℕ} {at m end : ℕ} {v w : Verdict} (n f : ℕ) (cut : List ℕ) → v ≡ w
-    → Added out at (lines_of (verdict_answer w) n f cut) m after end → m ≤ 446
-    → Added out at (lines_of (verdict_answer v) n f cut) 446 after end
-lines_of_lem n f cut is added few =
-    added_as _ 446 added (ap (λ (v : Verdict). lines_of (verdict_answer v) n f cut) (sym is)) few
+    {a b : Page} {m : ℕ} {v w : Verdict} (n f : ℕ) (cut : List ℕ) → v ≡ w
+    → Puts a (lines_of (verdict_answer w) n f cut) m b → m ≤ 446
+    → Puts a (lines_of (verdict_answer v) n f cut) 446 b
+lines_of_lem n f cut is puts few =
+    put_as _ 446 puts (ap (λ (v : Verdict). lines_of (verdict_answer v) n f cut) (sym is)) few

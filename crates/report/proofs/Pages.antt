@@ -8,20 +8,30 @@ use mathlib.Core.List.{List, [], ◌∷◌, ◌++◌}
 use lib.ListN.{length, take, drop, get_or, set, length-append, length-set}
 use lib.Seq.{sets, sets-eq, length-sets, length-take-le, take-suc}
 use borrow.Author.Tests.{lt-ltb, le-ltb}
+use Rattle.std.specs.Borrow.{MutBor}
 use Rattle.report.specs.Decimal.{digits}
 use Rattle.report.specs.Lines.{printed, Front}
-use Rattle.report.specs.Page.{Page, page, put_on, put_all, Added}
+use Rattle.report.specs.declared.page.Page.{Page as Lent}
+use Rattle.report.specs.Page.{Page, page, put_on, put_all, Added, Puts, IsStart}
 use Rattle.report.proofs.Decimals.{one_digit, more_digits, at_most_five}
 
 -- ---- one byte, as the code puts it
 
-pub byte_put : (out : List ℕ) (at b : ℕ) → at < length out → page (set out at b) (at + 1) ≡ put_on (page out at) b
+byte_put : (out : List ℕ) (at b : ℕ) → at < length out → page (set out at b) (at + 1) ≡ put_on (page out at) b
 unfolding put_on
 byte_put out at b room = simp (lt-ltb at (length out) room)
 
-pub byte_left_out : (out : List ℕ) (at b : ℕ) → length out ≤ at → page out at ≡ put_on (page out at) b
+byte_left_out : (out : List ℕ) (at b : ℕ) → length out ≤ at → page out at ≡ put_on (page out at) b
 unfolding put_on
 byte_left_out out at b full = simp (le-ltb at (length out) full)
+
+pub byte_added : (out : List ℕ) (at b : ℕ) → at < length out → Added out at (b ∷ []) 1 (set out at b) (at + 1)
+unfolding put_all
+byte_added out at b room = record { put = byte_put out at b room; few = omega arith }
+
+pub none_added : (out : List ℕ) (at b : ℕ) → length out ≤ at → Added out at (b ∷ []) 1 out at
+unfolding put_all
+none_added out at b full = record { put = byte_left_out out at b full; few = omega arith }
 
 -- ---- one text behind another
 
@@ -30,53 +40,51 @@ unfolding put_all
 append_put p [] ys = refl
 append_put p (x ∷ xs) ys = append_put (put_on p x) xs ys
 
-pub nothing_added : (out : List ℕ) (at : ℕ) → Added out at [] 0 out at
+pub nothing_put : (p : Lent) → Puts p [] 0 p
 unfolding put_all
-nothing_added out at = record { put = refl; few = omega arith }
+nothing_put p = record { same = refl; added = record { put = refl; few = omega arith } }
 
-pub byte_added :
-    (a : List ℕ) (i x : ℕ) (b : List ℕ) (j : ℕ) → page b j ≡ put_on (page a i) x → Added a i (x ∷ []) 1 b j
-unfolding put_all
-byte_added a i x b j is = record { put = is; few = omega arith }
-
-pub added_both :
-    {a b c xs ys : List ℕ} {i j k m n : ℕ} → Added a i xs m b j → Added b j ys n c k → Added a i (xs ++ ys) (m + n) c k
-added_both {a} {b} {c} {xs} {ys} {i} {j} {k} front back =
+pub both_put : {a b c : Lent} {xs ys : List ℕ} {m n : ℕ} → Puts a xs m b → Puts b ys n c → Puts a (xs ++ ys) (m + n) c
+both_put {a} {b} {c} {xs} {ys} front back =
     record {
-      put = rw (append_put (page a i) xs ys, ← front.put) back.put;
-      few = omega (arith, length-append xs ys, front.few, back.few);
+      same = back.same ∙ front.same;
+      added = record {
+        put = rw (append_put (page a.out.now a.at) xs ys, ← front.added.put) back.added.put;
+        few = omega (arith, length-append xs ys, front.added.few, back.added.few);
+      };
     }
 
 -- the same bytes, said in another way, and a larger bound
-pub added_as :
-    {a b xs : List ℕ} {i j m : ℕ} (ys : List ℕ) (n : ℕ) → Added a i xs m b j → xs ≡ ys → m ≤ n → Added a i ys n b j
-added_as {a} {b} {xs} {i} {j} ys n added is more =
-    record { put = rw (← is) added.put; few = rw (← is) (omega (arith, added.few)) }
+pub put_as : {a b : Lent} {xs : List ℕ} {m : ℕ} (ys : List ℕ) (n : ℕ) → Puts a xs m b → xs ≡ ys → m ≤ n → Puts a ys n b
+put_as ys n puts is more =
+    record {
+      same = puts.same;
+      added = record { put = rw (← is) puts.added.put; few = rw (← is) (omega (arith, puts.added.few)) };
+    }
 
 -- one byte more of a text
 pub next_byte :
-    {out a b : List ℕ} {at end j i : ℕ} (s : List ℕ)
-    → Added out at (take i s) i a end → i < length s → page b j ≡ put_on (page a end) (get_or s i 0)
-    → Added out at (take (i + 1) s) (i + 1) b j
-next_byte {out} {a} {b} {at} {end} {j} {i} s front inside is =
-    let both = added_both front (byte_added a end (get_or s i 0) b j is) in
-    rw (add-one i) (added_as (take (suc i) s) (suc i) both (sym (take-suc s i 0 inside)) (omega arith))
+    {a b c : Lent} {i : ℕ} (s : List ℕ) → Puts a (take i s) i b → i < length s → Puts b (get_or s i 0 ∷ []) 1 c
+    → Puts a (take (i + 1) s) (i + 1) c
+next_byte {i} s front inside next =
+    rw (add-one i) (put_as (take (suc i) s) (suc i) (both_put front next) (sym (take-suc s i 0 inside)) (omega arith))
 
 -- ---- a number
 
-pub only_digit :
-    (a : List ℕ) (i v : ℕ) (b : List ℕ) (j : ℕ) → v < 10 → page b j ≡ put_on (page a i) (48 + v)
-    → Added a i (digits v) 5 b j
-only_digit a i v b j small is =
-    added_as (digits v) 5 (byte_added a i (48 + v) b j is) (sym (one_digit v small)) (omega arith)
+pub only_digit : {a b : Lent} (v : ℕ) → v < 10 → Puts a ((48 + v % 10) ∷ []) 1 b → Puts a (digits v) 5 b
+only_digit v small puts =
+    let same : v % 10 ≡ v = omega arith in
+    put_as (digits v) 5 puts (rw (one_digit v small, same)) (omega arith)
 
 pub last_digit :
-    (a : List ℕ) (i v : ℕ) (b : List ℕ) (j : ℕ) (c : List ℕ) (k : ℕ) → 10 ≤ v → v < 65536
-    → Added a i (digits (v / 10)) 5 b j → page c k ≡ put_on (page b j) (48 + v % 10)
-    → Added a i (digits v) 5 c k
-last_digit a i v b j c k large fits front is =
-    let both = added_both front (byte_added b j (48 + v % 10) c k is) in
-    record { put = rw (more_digits v large) both.put; few = at_most_five v fits }
+    {a b c : Lent} (v : ℕ) → 10 ≤ v → v < 65536 → Puts a (digits (v / 10)) 5 b → Puts b ((48 + v % 10) ∷ []) 1 c
+    → Puts a (digits v) 5 c
+last_digit v large fits front back =
+    let both = both_put front back in
+    record {
+      same = both.same;
+      added = record { put = rw (more_digits v large) both.added.put; few = at_most_five v fits };
+    }
 
 -- ---- a text that has room
 
@@ -92,14 +100,21 @@ stored (b ∷ bs) out at room =
     rw (← byte_put out at b inside, add-one at, rest) (ap (page (sets out at (b ∷ bs))) behind)
 
 pub from_start :
-    {bytes out after : List ℕ} {most end : ℕ} → Added out 0 bytes most after end → most ≤ length out
-    → (end ≡ length bytes) × ((after ≡ printed bytes out) × Front end after)
-from_start {bytes} {out} {after} {most} {end} added room =
-    let fits : 0 + length bytes ≤ length out = omega (arith, added.few) in
-    let is : page after end ≡ page (sets out 0 bytes) (0 + length bytes) = added.put ∙ stored bytes out 0 fits in
-    let end_is : end ≡ 0 + length bytes = cc in
-    let after_is : after ≡ sets out 0 bytes = cc in
-    let same : 0 + length bytes ≡ length bytes = omega arith in
-    let inside : end ≤ length after = rw (after_is, length-sets out 0 bytes) (omega arith) in
-    let whole = after_is ∙ sets-eq bytes out 0 fits ∙ ap (λ (n : ℕ). bytes ++ drop n out) same in
-    (omega arith, (whole, (inside, sym (length-take-le end after inside))))
+    {out : MutBor (List ℕ)} {first last : Lent} {bytes : List ℕ} {most : ℕ}
+    → IsStart out first → Puts first bytes most last → most ≤ length out.now
+    → (last.at ≡ length bytes) × ((last.out.now ≡ printed bytes out.now) × Front last.at last.out.now)
+from_start {out} {first} {last} {bytes} {most} start puts room =
+    at_0 out.now last.out.now last.at (rw (start.bytes, start.empty) at puts.added) room
+  where
+    at_0 :
+        (out after : List ℕ) (end : ℕ) → Added out 0 bytes most after end → most ≤ length out
+        → (end ≡ length bytes) × ((after ≡ printed bytes out) × Front end after)
+    at_0 out after end added room =
+        let fits : 0 + length bytes ≤ length out = omega (arith, added.few) in
+        let is : page after end ≡ page (sets out 0 bytes) (0 + length bytes) = added.put ∙ stored bytes out 0 fits in
+        let end_is : end ≡ 0 + length bytes = cc in
+        let after_is : after ≡ sets out 0 bytes = cc in
+        let same : 0 + length bytes ≡ length bytes = omega arith in
+        let inside : end ≤ length after = rw (after_is, length-sets out 0 bytes) (omega arith) in
+        let whole = after_is ∙ sets-eq bytes out 0 fits ∙ ap (λ (n : ℕ). bytes ++ drop n out) same in
+        (omega arith, (whole, (inside, sym (length-take-le end after inside))))

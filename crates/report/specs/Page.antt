@@ -1,6 +1,8 @@
 -- A page: a buffer's bytes and the position up to which it is written. Bytes are put on it one after the other; where
 -- it is full they are left out and the position stays, so that putting needs no room.
 use Rattle.std.specs.Prelude.{ℕ, ◌+◌, ◌≤◌, ◌≡◌, cond, List, [], ◌∷◌, length, set, ltb}
+use Rattle.std.specs.Borrow.{MutBor}
+use Rattle.report.specs.declared.page.Page.{Page as Lent}
 
 pub data Page : Type 0 where
   page : List ℕ → ℕ → Page
@@ -19,3 +21,14 @@ put_all p (b ∷ bs) = put_all (put_on p b) bs
 pub record Added (before : List ℕ) (at : ℕ) (bytes : List ℕ) (most : ℕ) (after : List ℕ) (end : ℕ) : Type 0 where
   pub put : page after end ≡ put_all (page before at) bytes
   pub few : length bytes ≤ most
+
+-- what a method that puts these bytes on a page of the code ensures: the page keeps its buffer, and they are added
+pub record Puts (old : Lent) (bytes : List ℕ) (most : ℕ) (new : Lent) : Type 0 where
+  pub same : new.out.ghost_name ≡ old.out.ghost_name
+  pub added : Added old.out.now old.at bytes most new.out.now new.at
+
+-- a page on a buffer, with nothing written
+pub record IsStart (out : MutBor (List ℕ)) (new : Lent) : Type 0 where
+  pub same : new.out.ghost_name ≡ out.ghost_name
+  pub bytes : new.out.now ≡ out.now
+  pub empty : new.at ≡ 0

@@ -1,168 +1,160 @@
 // The lines of a report: each line from its parts, then the lines of each kind of verdict, then the public call.
-ghost use Rattle.std.specs.Prelude.{◌≡◌, [], ◌∷◌, ◌+◌, ◌*◌, ◌≤◌, ◌<◌, min, length};
+ghost use Rattle.std.specs.Prelude.{◌≡◌, [], ◌∷◌, ◌+◌, ◌*◌, ◌≤◌, ◌<◌, length, min};
 ghost use Rattle.model.specs.Answers.{verdict_answer, kind_answer};
 ghost use Rattle.report.specs.Lines.{ascii, kind_text, line, spaced, count_at, counts_of};
 ghost use Rattle.report.specs.Lines.{cut_line, cut_lines, refused_line, robust_lines, broken_lines, lines_of};
 ghost use Rattle.report.specs.Lines.{printed, Front};
-ghost use Rattle.report.specs.Page.{Added};
+ghost use Rattle.report.specs.Page.{Puts};
 
-use crate::page::{field, put, text};
+use crate::page::Page;
 use model::{Kind, Verdict};
 
-const NEWLINE: u8 = 10;
-
 // A line that is a text alone.
-fn text_line(out: &mut [u8], at: usize, s: &[u8]) -> usize
-    ensures { Added out.old at (line s.now []) (length s.now + 1) out.new result }
+fn text_line(page: &mut Page, s: &[u8])
+    ensures { Puts page.old (line s.now []) (length s.now + 1) page.new }
 {
-    let end = text(out, at, s);
-    put(out, end, NEWLINE)
+    page.text(s);
+    page.put(b'\n');
 }
 
 // A line that is a text and a number.
-fn number_line(out: &mut [u8], at: usize, s: &[u8], v: u16) -> usize
-    ensures { Added out.old at
-        (line s.now (v ∷ [])) (length s.now + 7) out.new result }
+fn number_line(page: &mut Page, s: &[u8], v: u16)
+    ensures { Puts page.old (line s.now (v ∷ [])) (length s.now + 7) page.new }
 {
-    let named = text(out, at, s);
-    let end = field(out, named, v);
-    put(out, end, NEWLINE)
+    page.text(s);
+    page.field(v);
+    page.put(b'\n');
 }
 
-// Thread t's count in stretch j + 1; 0 past the cut's end.
-fn count_at(cut: &[u16], j: u16, t: u16) -> u16
-    ensures { result ≡ count_at cut.now (j + 1) t }
-{
-    let i = 8 * (j as usize) + (t as usize);
-    if i < cut.len() { cut[i] } else { 0 }
+// The cut that a report shows: the counts of at most 8 threads in at most 7 finished stretches.
+#[derive(Clone, Copy)]
+struct Cut<'a> {
+    counts: &'a [u16],
+    threads: u16,
+    finished: u16,
+    ghost few_threads: { threads ≤ 8 },
+    ghost few_stretches: { finished ≤ 7 },
 }
 
-// Each thread's count in stretch j + 1, with a space before it.
-fn counts(out: &mut [u8], at: usize, cut: &[u16], threads: u16, j: u16) -> usize
-    ensures { Added out.old at
-        (spaced (counts_of cut.now threads (j + 1))) (6 * threads) out.new result }
-{
-    let mut end = at;
-    let mut t = 0;
-    while t < threads {
-        let count = count_at(cut, j, t);
-        end = field(out, end, count);
-        t += 1;
+impl<'a> Cut<'a> {
+    // A larger number of threads or stretches counts as 8 or 7.
+    fn new(counts: &'a [u16], threads: u16, finished: u16) -> Cut<'a>
+        ensures counts { result.counts.now ≡ counts.now }
+        ensures threads { result.threads ≡ min threads 8 }
+        ensures finished { result.finished ≡ min finished 7 }
+    {
+        Cut {
+            counts,
+            threads: threads.min(8),
+            finished: finished.min(7),
+        }
     }
-    end
-}
 
-// The cut line of stretch j + 1.
-fn cut_line(out: &mut [u8], at: usize, cut: &[u16], threads: u16, j: u16) -> usize
-    requires { (threads ≤ 8) × (j < 7) }
-    ensures { Added out.old at (cut_line cut.now threads (j + 1)) 58 out.new result }
-{
-    let named = text(out, at, b"cut");
-    let numbered = field(out, named, j + 1);
-    let end = counts(out, numbered, cut, threads, j);
-    put(out, end, NEWLINE)
-}
-
-// The cut lines of the finished stretches.
-fn cut_lines(out: &mut [u8], at: usize, cut: &[u16], threads: u16, finished: u16) -> usize
-    requires { (threads ≤ 8) × (finished ≤ 7) }
-    ensures { Added out.old at
-        (cut_lines cut.now threads finished) (58 * finished) out.new result }
-{
-    let mut end = at;
-    let mut j = 0;
-    while j < finished {
-        end = cut_line(out, end, cut, threads, j);
-        j += 1;
+    // Thread t's count in stretch j + 1; 0 past the counts' end.
+    #[tactic(auto, unfolding(crate::specs::Lines::count_at))]
+    fn count(&self, j: u16, t: u16) -> u16
+        ensures { result ≡ count_at self.now.counts.now (j + 1) t }
+    {
+        let i = 8 * usize::from(j) + usize::from(t);
+        self.counts.get(i).copied().unwrap_or(0)
     }
-    end
-}
 
-// The smaller of two numbers.
-fn least(a: u16, b: u16) -> u16
-    ensures { result ≡ min a b }
-{
-    if a < b { a } else { b }
+    // Each thread's count in stretch j + 1, with a space before it.
+    fn put_counts(&self, page: &mut Page, j: u16)
+        ensures { Puts page.old
+            (spaced (counts_of self.now.counts.now self.now.threads (j + 1)))
+            (6 * self.now.threads) page.new }
+    {
+        for t in 0..self.threads {
+            page.field(self.count(j, t));
+        }
+    }
+
+    // The cut line of stretch j + 1.
+    fn put_line(&self, page: &mut Page, j: u16)
+        requires { j < 7 }
+        ensures { Puts page.old (cut_line self.now.counts.now self.now.threads (j + 1)) 58 page.new }
+    {
+        page.text(b"cut");
+        page.field(j + 1);
+        self.put_counts(page, j);
+        page.put(b'\n');
+    }
+
+    // The cut lines of the finished stretches.
+    fn put_lines(&self, page: &mut Page)
+        ensures { Puts page.old
+            (cut_lines self.now.counts.now self.now.threads self.now.finished) 406 page.new }
+    {
+        for j in 0..self.finished {
+            self.put_line(page, j);
+        }
+    }
 }
 
 // The one line of a refusal.
-fn refused_line(out: &mut [u8], number: u16, event: u16) -> usize
-    ensures { Added out.old 0 (refused_line number event) 20 out.new result }
+fn refused_line(page: &mut Page, number: u16, event: u16)
+    ensures { Puts page.old (refused_line number event) 20 page.new }
 {
-    let named = text(out, 0, b"refused");
-    let numbered = field(out, named, number);
-    let end = field(out, numbered, event);
-    put(out, end, NEWLINE)
+    page.text(b"refused");
+    page.field(number);
+    page.field(event);
+    page.put(b'\n');
 }
 
 // The lines of a robust trace.
-fn robust_lines(
-    out: &mut [u8],
-    events: u16,
-    share: u16,
-    threads: u16,
-    finished: u16,
-    cut: &[u16],
-) -> usize
-    ensures { Added out.old 0
-        (robust_lines events share threads finished cut.now) 446 out.new result }
+fn robust_lines(page: &mut Page, events: u16, share: u16, cut: Cut)
+    ensures { Puts page.old
+        (robust_lines events share cut.entry.threads cut.entry.finished cut.entry.counts.now) 446 page.new }
 {
-    let counted = number_line(out, 0, b"events", events);
-    let ruled = text_line(out, counted, b"verdict robust");
-    let n = least(threads, 8);
-    let f = least(finished, 7);
-    let end = cut_lines(out, ruled, cut, n, f);
-    number_line(out, end, b"share", share)
+    number_line(page, b"events", events);
+    text_line(page, b"verdict robust");
+    cut.put_lines(page);
+    number_line(page, b"share", share);
 }
 
 // The line of a broken trace's kind.
-fn kind_line(out: &mut [u8], at: usize, kind: Kind) -> usize
-    ensures { Added out.old at (line (ascii (kind_text (kind_answer kind))) []) 19 out.new result }
+fn kind_line(page: &mut Page, kind: Kind)
+    ensures { Puts page.old (line (ascii (kind_text (kind_answer kind))) []) 19 page.new }
 {
     match kind {
-        Kind::Contradiction => text_line(out, at, b"kind contradiction"),
-        Kind::Flush(_) => text_line(out, at, b"kind flush"),
-        Kind::Impossible => text_line(out, at, b"kind impossible"),
+        Kind::Contradiction => text_line(page, b"kind contradiction"),
+        Kind::Flush(_) => text_line(page, b"kind flush"),
+        Kind::Impossible => text_line(page, b"kind impossible"),
     }
 }
 
 // The lines of a broken trace.
-fn broken_lines(
-    out: &mut [u8],
-    events: u16,
-    load: u16,
-    missing: u16,
-    observed: u16,
-    kind: Kind,
-) -> usize
-    ensures { Added out.old 0
-        (broken_lines events load missing observed (kind_answer kind)) 87 out.new result }
+fn broken_lines(page: &mut Page, events: u16, load: u16, missing: u16, observed: u16, kind: Kind)
+    ensures { Puts page.old
+        (broken_lines events load missing observed (kind_answer kind)) 87 page.new }
 {
-    let counted = number_line(out, 0, b"events", events);
-    let ruled = text_line(out, counted, b"verdict broken");
-    let loaded = number_line(out, ruled, b"load", load);
-    let missed = number_line(out, loaded, b"missing", missing);
-    let end = number_line(out, missed, b"observed", observed);
-    kind_line(out, end, kind)
+    number_line(page, b"events", events);
+    text_line(page, b"verdict broken");
+    number_line(page, b"load", load);
+    number_line(page, b"missing", missing);
+    number_line(page, b"observed", observed);
+    kind_line(page, kind);
 }
 
 // The lines of a verdict.
-fn lines(out: &mut [u8], v: Verdict, threads: u16, finished: u16, cut: &[u16]) -> usize
-    ensures { Added out.old 0
-        (lines_of (verdict_answer v) threads finished cut.now) 446 out.new result }
+fn lines(page: &mut Page, v: Verdict, threads: u16, finished: u16, cut: &[u16])
+    ensures { Puts page.old
+        (lines_of (verdict_answer v) threads finished cut.now) 446 page.new }
 {
     match v {
-        Verdict::Refused { number, event } => refused_line(out, number, event),
-        Verdict::Robust { events, share } => robust_lines(
-            out, events, share, threads, finished, cut,
-        ),
+        Verdict::Refused { number, event } => refused_line(page, number, event),
+        Verdict::Robust { events, share } => {
+            let cut = Cut::new(cut, threads, finished);
+            robust_lines(page, events, share, cut);
+        }
         Verdict::Broken {
             events,
             load,
             missing,
             observed,
             kind,
-        } => broken_lines(out, events, load, missing, observed, kind),
+        } => broken_lines(page, events, load, missing, observed, kind),
     }
 }
 
@@ -176,5 +168,7 @@ pub fn report(v: Verdict, threads: u16, finished: u16, cut: &[u16], out: &mut [u
         printed (lines_of (verdict_answer v) threads finished cut.now) out.old }
     ensures front { Front result out.new }
 {
-    lines(out, v, threads, finished, cut)
+    let mut page = Page::new(out);
+    lines(&mut page, v, threads, finished, cut);
+    page.len()
 }

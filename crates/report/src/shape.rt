@@ -7,7 +7,7 @@ use record::Read;
 
 const CRASH: u16 = 9;
 
-#[derive(Clone, Copy)]
+#[derive(Clone, Copy, Debug, PartialEq, Eq)]
 pub struct Shape {
     pub threads: u16,
     pub finished: u16,
@@ -29,13 +29,11 @@ fn crashed(finished: u16, kind: u16) -> u16
     requires { finished ≤ 7 }
     ensures { result ≡ min (finished + bit (eqb kind 9)) 7 }
 {
-    if kind != CRASH {
-        return finished;
-    }
-    if finished < 7 { finished + 1 } else { 7 }
+    (finished + u16::from(kind == CRASH)).min(7)
 }
 
-// The crashes before the first record that cannot be read, up to 7.
+// The crashes before the first record that cannot be read, up to 7. The walk counts no index: each record says where
+// the next one starts. An iterator over it would be used here alone, and be longer.
 fn finished_in(trace: &[u8]) -> u16
     ensures { result ≡ finished_of trace.now }
 {

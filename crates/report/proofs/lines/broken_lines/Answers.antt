@@ -2,14 +2,14 @@
 use native.Mathlib.Omega.{arith}
 use mathlib.Core.Path.{refl}
 use Rattle.report.specs.Lines.{broken_lines}
-use Rattle.report.proofs.Pages.{added_both, added_as}
+use Rattle.report.proofs.Pages.{both_put, put_as}
 use Rattle.report.proofs.lines.broken_lines.Goals as goal
 
 pub returns : goal.returns
 unfolding broken_lines
 returns c =
-    let front = added_both c.number_line-counted.ensures c.text_line-ruled.ensures in
-    let loaded = added_both front c.number_line-loaded.ensures in
-    let missed = added_both loaded c.number_line-missed.ensures in
-    let seen = added_both missed c.number_line-end.ensures in
-    added_as _ _ (added_both seen c.kind_line.ensures) refl (omega arith)
+    let front = both_put c.number_line.ensures c.text_line.ensures in
+    let loaded = both_put front c.number_line-2.ensures in
+    let missed = both_put loaded c.number_line-3.ensures in
+    let seen = both_put missed c.number_line-4.ensures in
+    put_as _ _ (both_put seen c.kind_line.ensures) refl (omega arith)

@@ -1,19 +1,12 @@
--- What the verdict is decides, as in the definition.
+-- The cut that the report shows is bounded as the definition bounds it.
 use native.Mathlib.Omega.{arith}
-use Rattle.report.proofs.LineParts.{lines_of_lem}
+use Rattle.report.proofs.Pages.{put_as}
+use Rattle.report.proofs.LineParts.{lines_of_lem, bounded_once}
 use Rattle.report.proofs.lines.lines.Goals as goal
-
-pub returns-in-Refused : goal.returns-in-Refused
-returns-in-Refused c =
-    let verdict_is = c.in-Refused.is in
-    lines_of_lem _ _ _ verdict_is c.refused_line.ensures (omega arith)
 
 pub returns-in-Robust : goal.returns-in-Robust
 returns-in-Robust c =
-    let verdict_is = c.in-Robust.is in
-    lines_of_lem _ _ _ verdict_is c.robust_lines.ensures (omega arith)
-
-pub returns-in-Broken : goal.returns-in-Broken
-returns-in-Broken c =
-    let verdict_is = c.in-Broken.is in
-    lines_of_lem _ _ _ verdict_is c.broken_lines.ensures (omega arith)
+    let cut = c.new-cut.ensures in
+    let whole = bounded_once _ _ _ _ cut.counts cut.threads cut.finished in
+    let puts = put_as _ 446 c.robust_lines.ensures whole (omega arith) in
+    lines_of_lem _ _ _ c.in-Robust.is puts (omega arith)

@@ -1,13 +1,12 @@
--- Its lines, one behind the other, for the numbers of threads and stretches as the definition bounds them.
+-- Its lines, one behind the other.
 use native.Mathlib.Omega.{arith}
-use mathlib.Core.Path.{refl}
-use Rattle.report.specs.Lines.{robust_lines}
-use Rattle.report.proofs.Pages.{added_both, added_as}
+use Rattle.report.proofs.Pages.{both_put, put_as}
+use Rattle.report.proofs.LineParts.{bounded}
 use Rattle.report.proofs.lines.robust_lines.Goals as goal
 
 pub returns : goal.returns
-unfolding robust_lines
 returns c =
-    let front = added_both c.number_line-counted.ensures c.text_line-ruled.ensures in
-    let cuts = rw (c.least-n.ensures, c.least-f.ensures) at c.cut_lines-end.ensures in
-    added_as _ _ (added_both (added_both front cuts) c.number_line.ensures) refl (omega arith)
+    let cut = c.args.cut in
+    let front = both_put c.number_line.ensures c.text_line.ensures in
+    let parts = both_put (both_put front c.put_lines.ensures) c.number_line-2.ensures in
+    put_as _ _ parts (bounded _ _ _ _ _ cut.few_threads cut.few_stretches) (omega arith)

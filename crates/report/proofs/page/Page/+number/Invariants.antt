@@ -1,5 +1,5 @@
 -- The measure is the number, which a division by 10 makes smaller.
-use Rattle.report.proofs.page.+number.Given as goal
+use Rattle.report.proofs.page.Page.+number.Given as goal
 
 abbrev pub decreases-number : goal.decreases-number
 decreases-number l = l.v
