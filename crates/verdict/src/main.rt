@@ -4,16 +4,13 @@
 
 mod input;
 
-use input::Input;
 use std::io;
 use std::io::Error;
 
 // The text of an error without the number that the system gives it.
 fn reason(text: &str) -> &str {
-    match text.split_once(" (os error ") {
-        Some((front, _)) => front,
-        None => text,
-    }
+    text.split_once(" (os error ")
+        .map_or(text, |(front, _)| front)
 }
 
 // Says on standard error what failed, and why, in one line.
@@ -25,15 +22,12 @@ fn complain(rt: &(impl Eprint + AllocGlobal), what: &str, e: Error) -> io::Resul
 
 fn main(rt: HostRuntime) -> io::Result<()> {
     let mut buffer = [0u8; 65536];
-    let mut reader = rt.reader();
-    let n = match input::read_all(&mut reader, &mut buffer) {
-        Input::Bytes(n) => n,
-        Input::Failed(e) => return complain(&rt, "cannot read standard input", e),
+    let n = match input::read_all(&mut rt.reader(), &mut buffer) {
+        Ok(n) => n,
+        Err(e) => return complain(&rt, "cannot read standard input", e),
     };
     let mut out = [0u8; 1024];
     let size = verdict_text::text_of(&buffer[..n], &mut out);
-    match rt.write_all(&out[..size]) {
-        Ok(()) => Ok(()),
-        Err(e) => complain(&rt, "cannot write standard output", e),
-    }
+    rt.write_all(&out[..size])
+        .or_else(|e| complain(&rt, "cannot write standard output", e))
 }
