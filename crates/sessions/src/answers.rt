@@ -1,6 +1,4 @@
 // The answer to each line.
-ghost use Rattle.std.specs.Prelude.{◌≡◌, ◌≤◌, ◌<◌, length, IfOk};
-
 use crate::{lines, window_lines};
 use model::{Order, Verdict};
 use std::io::Result;
@@ -35,32 +33,10 @@ fn judge_windows(rt: &impl Print, trace: &[u8]) -> Result<()> {
     window_lines::print_windows_of(rt, v)
 }
 
-fn one_if_zero(x: u16) -> usize
-    ensures { result ≤ 1 }
-{
-    if x == 0 { 1 } else { 0 }
-}
-
-// How many of the numbers are 0.
-fn zeros(numbers: &[u16]) -> usize {
-    let mut i: usize = 0;
-    let mut n: usize = 0;
-    while i < numbers.len() {
-        n += one_if_zero(numbers[i]);
-        i += 1;
-    }
-    n
-}
-
+// Prints how many of the numbers are 0.
 fn print_zeros(rt: &impl Print, name: &str, numbers: &[u16]) -> Result<()> {
-    let n = zeros(numbers);
+    let n = numbers.iter().filter(|x| **x == 0).count();
     println!(rt; "zeros of the {name} {n}")
-}
-
-fn least(a: usize, b: usize) -> usize
-    ensures { (result ≤ a) × (result ≤ b) }
-{
-    if a < b { a } else { b }
 }
 
 // Judges with buffers that hold no 0; then says how many numbers of each are 0.
@@ -69,8 +45,8 @@ fn judge_with(rt: &impl Print, trace: &[u8], work_size: usize, cut_size: usize) 
     let mut cut_space = [9u16; 57];
     let work: &mut [u16] = &mut work_space;
     let cut: &mut [u16] = &mut cut_space;
-    let w = least(work_size, work.len());
-    let c = least(cut_size, cut.len());
+    let w = work_size.min(work.len());
+    let c = cut_size.min(cut.len());
     let v = judge::judge(trace, &mut work[..w], &mut cut[..c]);
     let s = report::shape_of(trace);
     print_verdict(rt, v, s.threads, s.finished, cut)?;
@@ -102,46 +78,41 @@ fn order(rt: &impl Print, trace: &[u8], first: u16, second: u16) -> Result<()> {
 
 // A session by its letter: j or w, or with two numbers before the trace o or b.
 fn answer(rt: &impl Print, letter: u8, bytes: &[u8]) -> Result<()> {
-    if letter == b'j' {
-        return judge(rt, bytes);
-    }
-    if letter == b'w' {
-        return judge_windows(rt, bytes);
-    }
-    if bytes.len() < 4 {
-        return Ok(());
-    }
-    let first = lines::number(lines::byte_at(bytes, 0), lines::byte_at(bytes, 1));
-    let second = lines::number(lines::byte_at(bytes, 2), lines::byte_at(bytes, 3));
-    let start: usize = 4;
-    if letter == b'o' {
-        order(rt, &bytes[start..], first, second)
-    } else {
-        judge_with(rt, &bytes[start..], first as usize, second as usize)
+    match (letter, bytes) {
+        (b'j', trace) => judge(rt, trace),
+        (b'w', trace) => judge_windows(rt, trace),
+        (b'o', [a, b, c, d, trace @ ..]) => {
+            let first = u16::from_be_bytes([*a, *b]);
+            let second = u16::from_be_bytes([*c, *d]);
+            order(rt, trace, first, second)
+        }
+        (_, [a, b, c, d, trace @ ..]) => {
+            let work_size = u16::from_be_bytes([*a, *b]);
+            let cut_size = u16::from_be_bytes([*c, *d]);
+            judge_with(rt, trace, usize::from(work_size), usize::from(cut_size))
+        }
+        _ => Ok(()),
     }
 }
 
-// Answers the line that starts at `at`, and says where the next one starts.
-fn answer_line(rt: &impl Print, input: &[u8], at: usize) -> Result<usize>
-    requires { at < length input.now }
-    ensures { IfOk result (λ next. at < next) }
-{
-    let end = lines::line_end(input, at);
-    if input[at] == b'#' {
-        rt.write_all(&input[at..end])?;
-        rt.write_all(b"\n")?;
-    } else {
-        let mut bytes = [0u8; 32768];
-        let n = lines::decode(&input[at..end], &mut bytes);
-        answer(rt, input[at], &bytes[..n])?;
+// Answers a line. Nothing answers an empty one, nor a session that is too short for its numbers.
+fn answer_line(rt: &(impl Print + AllocGlobal), line: &[u8]) -> Result<()> {
+    match line {
+        [] => Ok(()),
+        [b'#', ..] => {
+            rt.write_all(line)?;
+            rt.write_all(b"\n")
+        }
+        [letter, digits @ ..] => {
+            let bytes = lines::decode(rt.alloc(), digits)?;
+            answer(rt, *letter, &bytes)
+        }
     }
-    Ok(end + 1)
 }
 
-pub(crate) fn answer_all(rt: &impl Print, input: &[u8]) -> Result<()> {
-    let mut at: usize = 0;
-    while at < input.len() {
-        at = answer_line(rt, input, at)?;
+pub(crate) fn answer_all(rt: &(impl Print + AllocGlobal), input: &[u8]) -> Result<()> {
+    for line in input.split(|b| *b == b'\n') {
+        answer_line(rt, line)?;
     }
     Ok(())
 }
