@@ -93,18 +93,17 @@ fn main(rt: HostRuntime) -> Result<()> {
     print_robust(&rt, 10, 0, 9, 8, &[1, 20, 300, 4000, 50000])?;
     // no bytes; a begin with 2 threads; the same with a crash, then with bytes that end inside a record; with kind 99
     // before a crash; a crash alone; eight crashes
-    print_shape(&rt, b"")?;
-    print_shape(&rt, b"\x08\0\x01\0\x01\0\x02\0\x02\0")?;
-    print_shape(&rt, b"\x08\0\x01\0\x01\0\x02\0\x02\0\x02\0\x09\0")?;
-    print_shape(&rt, b"\x08\0\x01\0\x01\0\x02\0\x02\0\x02\0\x09\0\x08\0\x01")?;
-    print_shape(
-        &rt,
+    let traces: [&[u8]; 7] = [
+        b"",
+        b"\x08\0\x01\0\x01\0\x02\0\x02\0",
+        b"\x08\0\x01\0\x01\0\x02\0\x02\0\x02\0\x09\0",
+        b"\x08\0\x01\0\x01\0\x02\0\x02\0\x02\0\x09\0\x08\0\x01",
         b"\x08\0\x01\0\x01\0\x02\0\x02\0\x02\0\x63\0\x02\0\x09\0",
-    )?;
-    print_shape(&rt, b"\x02\0\x09\0")?;
-    print_shape(
-        &rt,
+        b"\x02\0\x09\0",
         b"\x02\0\x09\0\x02\0\x09\0\x02\0\x09\0\x02\0\x09\0\x02\0\x09\0\x02\0\x09\0\x02\0\x09\0\x02\0\x09\0",
-    )?;
+    ];
+    for trace in traces {
+        print_shape(&rt, trace)?;
+    }
     Ok(())
 }

@@ -41,17 +41,15 @@ fn print_zeros(rt: &impl Print, name: &str, numbers: &[u16]) -> Result<()> {
 
 // Judges with buffers that hold no 0; then says how many numbers of each are 0.
 fn judge_with(rt: &impl Print, trace: &[u8], work_size: usize, cut_size: usize) -> Result<()> {
-    let mut work_space = [7u16; 32770];
-    let mut cut_space = [9u16; 57];
-    let work: &mut [u16] = &mut work_space;
-    let cut: &mut [u16] = &mut cut_space;
+    let mut work = [7u16; 32770];
+    let mut cut = [9u16; 57];
     let w = work_size.min(work.len());
     let c = cut_size.min(cut.len());
     let v = judge::judge(trace, &mut work[..w], &mut cut[..c]);
     let s = report::shape_of(trace);
-    print_verdict(rt, v, s.threads, s.finished, cut)?;
-    print_zeros(rt, "work area", work)?;
-    print_zeros(rt, "cut buffer", cut)
+    print_verdict(rt, v, s.threads, s.finished, &cut)?;
+    print_zeros(rt, "work area", &work)?;
+    print_zeros(rt, "cut buffer", &cut)
 }
 
 // ---- the order query
