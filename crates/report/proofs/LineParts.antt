@@ -3,17 +3,15 @@
 use Prim.Native.Nat.{ℕ, ◌+◌, ◌≤◌, min}
 use native.Mathlib.Omega.{arith}
 use native.Mathlib.Numerals.{add-one}
-use mathlib.Core.Path.{◌≡◌, sym, ap}
+use mathlib.Core.Path.{◌≡◌, sym}
 use mathlib.Core.List.{List, [], ◌∷◌, ◌++◌, append_assoc, append-nil}
-use Rattle.model.specs.Answers.{tabulate, kind_answer, verdict_answer}
-use Rattle.model.specs.declared.Kind.{Kind}
-use Rattle.model.specs.declared.Verdict.{Verdict}
+use Rattle.model.specs.Answers.{tabulate}
 use Rattle.report.specs.Decimal.{digits}
-use Rattle.report.specs.Lines.{ascii, spaced, line, count_at, counts_of, cut_line, cut_lines, kind_text}
-use Rattle.report.specs.Lines.{robust_lines, lines_of}
+use Rattle.report.specs.Lines.{ascii, spaced, line, count_at, counts_of, cut_line, cut_lines}
+use Rattle.report.specs.Lines.{robust_lines}
 use Rattle.report.specs.declared.page.Page.{Page}
 use Rattle.report.specs.Page.{Puts}
-use Rattle.report.proofs.Pages.{nothing_put, put_as}
+use Rattle.report.proofs.Pages.{nothing_put}
 
 -- ---- a line
 
@@ -88,17 +86,3 @@ bounded events share n f cut threads finished =
     let n_is : min n 8 ≡ n = omega arith in
     let f_is : min f 7 ≡ f = omega arith in
     rw (n_is, f_is)
-
--- ---- the code's enums: what is put for a value that is known is put for the one that equals it
-
-pub kind_line_of :
-    {a b : Page} {m : ℕ} {k q : Kind} → k ≡ q → Puts a (line (ascii (kind_text (kind_answer q))) []) m b → m ≤ 19
-    → Puts a (line (ascii (kind_text (kind_answer k))) []) 19 b
-kind_line_of is puts few = put_as _ 19 puts (ap (λ (k : Kind). line (ascii (kind_text (kind_answer k))) []) (sym is)) few
-
-pub lines_of_lem :
-    {a b : Page} {m : ℕ} {v w : Verdict} (n f : ℕ) (cut : List ℕ) → v ≡ w
-    → Puts a (lines_of (verdict_answer w) n f cut) m b → m ≤ 446
-    → Puts a (lines_of (verdict_answer v) n f cut) 446 b
-lines_of_lem n f cut is puts few =
-    put_as _ 446 puts (ap (λ (v : Verdict). lines_of (verdict_answer v) n f cut) (sym is)) few

@@ -1,12 +1,11 @@
 -- The cut that the report shows is bounded as the definition bounds it.
 use native.Mathlib.Omega.{arith}
 use Rattle.report.proofs.Pages.{put_as}
-use Rattle.report.proofs.LineParts.{lines_of_lem, bounded_once}
+use Rattle.report.proofs.LineParts.{bounded_once}
 use Rattle.report.proofs.lines.lines.Goals as goal
 
 pub returns-in-Robust : goal.returns-in-Robust
 returns-in-Robust c =
     let cut = c.new-cut.ensures in
     let whole = bounded_once _ _ _ _ cut.counts cut.threads cut.finished in
-    let puts = put_as _ 446 c.robust_lines.ensures whole (omega arith) in
-    lines_of_lem _ _ _ c.in-Robust.is puts (omega arith)
+    rw c.in-Robust.is (put_as _ _ c.robust_lines.ensures whole (omega arith))
