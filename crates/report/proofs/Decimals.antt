@@ -7,7 +7,8 @@ use mathlib.Core.List.{[], ◌∷◌, ◌++◌}
 use lib.ListN.{length}
 use borrow.Author.Tests.{lt-ltb, le-ltb}
 use Rattle.std.specs.Fmt.{decimal}
-use Rattle.std.proofs.lemmas.Fmt.{AppendsLastDigit, decimal_from_appends, decimal_digit, decimal_step, length-decimal-le, length-decimal-le_succ}
+use Rattle.std.proofs.lemmas.Fmt.{AppendsLastDigit, decimal_from_appends, decimal_digit, decimal_step}
+use Rattle.std.proofs.lemmas.Fmt.{length-decimal-le, length-decimal-le_succ}
 use Rattle.report.specs.Decimal.{digits_within, digits}
 
 last_digit_behind : AppendsLastDigit digits_within

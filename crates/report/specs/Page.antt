@@ -22,7 +22,8 @@ pub record Added (before : List ℕ) (at : ℕ) (bytes : List ℕ) (most : ℕ) 
   pub put : page after end ≡ put_all (page before at) bytes
   pub few : length bytes ≤ most
 
--- what a method that puts these bytes on a page of the code ensures: the page keeps its buffer, and they are added
+-- `Lent` is the code's page, a struct of a lent buffer and the position. What a method that puts these bytes on it
+-- ensures: it keeps its buffer, and they are added
 pub record Puts (old : Lent) (bytes : List ℕ) (most : ℕ) (new : Lent) : Type 0 where
   pub same : new.out.ghost_name ≡ old.out.ghost_name
   pub added : Added old.out.now old.at bytes most new.out.now new.at

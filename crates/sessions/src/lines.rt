@@ -3,8 +3,8 @@ ghost use Rattle.std.specs.Prelude.{◌≤◌};
 
 use std::alloc::{AllocError, Global};
 
-// A trace longer than this is judged as its front.
-const TRACE: usize = 32768;
+// Of a line that spells more bytes the rest is left out.
+const MOST: usize = 32768;
 
 // The value of a hexadecimal digit; 0 for any other byte.
 fn digit(b: u8) -> u8
@@ -22,7 +22,7 @@ pub(crate) fn decode(alloc: Global, digits: &[u8]) -> Result<Vec<u8>, AllocError
     let (pairs, _) = digits.as_chunks::<2>();
     pairs
         .iter()
-        .take(TRACE)
+        .take(MOST)
         .map(|[high, low]| 16 * digit(*high) + digit(*low))
         .collect(alloc)
 }
