@@ -20,6 +20,7 @@ fn read_some<R: Read>(from: &mut R, buf: &mut [u8]) -> io::Result<usize>
 }
 
 // Reads until the buffer is full or the input ends. A read that fails before that ends it, and its error is answered.
+// The loop counts no index: a read says how far it got. No `read_to_end`, which would need memory that can run out.
 pub fn read_all<R: Read>(from: &mut R, buf: &mut [u8]) -> io::Result<usize>
     ensures { Filled result buf.new }
 {
