@@ -122,6 +122,7 @@ pub fn no_store(work: &mut [u16], row: usize)
 }
 
 // The eight numbers from `to` on become the larger of them and of event s's clock.
+#[tactic(auto, unfolding(crate::specs::Cells::joined))]
 pub fn join(numbers: &mut [u16], to: usize, work: &[u16], s: u16)
     requires { (to + 8 ≤ length numbers.old) × (32768 ≤ length work.now) }
     ensures { numbers.new ≡ joined 8 work.now s to numbers.old }

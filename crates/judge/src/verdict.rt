@@ -82,12 +82,7 @@ pub(crate) fn verdict(
     }
     let events = preceding(t.event);
     if let Some(load) = marks.broken_at() {
-        return broken(
-            trace,
-            work,
-            events,
-            loads::evidence_at(marks, work, load),
-        );
+        return broken(trace, work, events, loads::evidence_at(marks, work, load));
     }
     marks.copy_cut(cut);
     let share = share(marks, tables);

@@ -7,7 +7,7 @@ use Prim.Native.Nat.{ℕ, zero, suc, ◌+◌, ◌/◌, ◌%◌, ◌≤◌, ◌<�
 use native.Mathlib.Omega.{arith}
 use native.Mathlib.Nat.{div-le_of_le-mul}
 use mathlib.Core.Path.{◌≡◌, refl, sym, ◌∙◌, ap}
-use mathlib.Core.List.{List, [], ◌∷◌, ◌++◌}
+use mathlib.Core.List.{List, ◌++◌, append-nil}
 use lib.ListN.{length, get_or, take, drop}
 use lib.Seq.{length-take-le, drop-cons, set_at, append_snoc, drop-length}
 use Rattle.record.specs.declared.events.Event.{Event}
@@ -37,11 +37,7 @@ module _ (counts : List ℕ) where
       ∙ sym (append_snoc (tabulate n (least_at counts)) (least_at counts n) (drop (suc n) out)))
 
   copied_all : (n : ℕ) (out : List ℕ) → length out ≡ n → copied n counts out ≡ tabulate n (least_at counts)
-  copied_all n out size = copied_front n out (omega arith) ∙ rw (← size, drop-length out) (no_rest _)
-    where
-      no_rest : (xs : List ℕ) → xs ++ [] ≡ xs
-      no_rest [] = refl
-      no_rest (x ∷ xs) = ap (λ (ys : List ℕ). x ∷ ys) (no_rest xs)
+  copied_all n out size = copied_front n out (omega arith) ∙ rw (← size, drop-length out) (append-nil _)
 
   -- as many counts as the buffer has numbers, from those of the least choice on
   pub copied_part :

@@ -3,27 +3,24 @@
 -- In order: the walk; a load that breaks the trace; the loads that a close counts; the searches.
 use Rattle.std.specs.Prelude.{Option, Some, None, MatchOption, unwrap_or}
 use Rattle.std.specs.List.{list_any, range_with_len}
-use Prim.Native.Nat.{ℕ, zero, suc, ◌+◌, ◌-◌, ◌*◌, ◌/◌, ◌≤◌, ◌<◌, min}
+use Prim.Native.Nat.{ℕ, zero, suc, ◌+◌, ◌-◌, ◌≤◌, ◌<◌}
 use native.Mathlib.Nat.{not-suc-le-zero}
-use native.Mathlib.Numerals.{sub-one, add-one}
+use native.Mathlib.Numerals.{sub-one}
 use native.Mathlib.Omega.{arith}
 use mathlib.Core.Path.{◌≡◌, refl, sym, ap, ◌∙◌}
 use mathlib.Core.List.{List}
 use mathlib.Core.Logic.{◌⊎◌, inl, inr, ◌≢◌}
 use mathlib.Core.Bool.{Bool, true, false, cond, ◌||◌, or-false, or_assoc, or_comm}
-use lib.ListN.{get_or, set, length, take, drop}
-use lib.Dec.{leb}
+use lib.ListN.{set}
 use borrow.Author.Tests.{eq-eqb, ne_eqb}
 use Rattle.model.specs.Search.{some, first_from, first}
-use Rattle.model.specs.Answers.{percent}
 use Rattle.model.proofs.Searching.{same?}
 use Rattle.area.specs.Cells.{get_row}
 use Rattle.marks.specs.declared.cells.Marks.{Marks}
-use Rattle.marks.specs.Marks.{marks_of, cut_cell, low_cell, flag_cell, broken_cell, count_in, broken_in}
-use Rattle.marks.specs.Marking.{forbid, lower, marked, walked, seen_from, loaded}
-use Rattle.marks.specs.Testing.{mark_hits, walk_hits, hits, load_hits}
-use Rattle.marks.specs.Judged.{repeated, noted, judged, start_of, deepest_of, held_at, all_held, pair_in, judged_held}
-use Rattle.marks.specs.Ending.{least_at, copied}
+use Rattle.marks.specs.Marks.{marks_of, broken_cell, broken_in}
+use Rattle.marks.specs.Marking.{marked, walked, loaded}
+use Rattle.marks.specs.Testing.{mark_hits, walk_hits, load_hits}
+use Rattle.marks.specs.Judged.{repeated, noted, judged, held_at, all_held}
 
 -- ---- the walk
 
@@ -108,25 +105,17 @@ module _ (l : List ℕ) (w : Marks) where
 
 -- ---- the searches
 
--- of all numbers
-pub some_more :
-    (n : ℕ) (f : ℕ → Bool) (so_far here any : Bool)
-    → so_far ≡ some n f → here ≡ f n → any ≡ (so_far || here) → any ≡ some (n + 1) f
-unfolding some
-some_more n f so_far here any so_far_is here_is any_is =
-    rw (add-one, ← so_far_is, ← here_is) (any_is ∙ or_comm so_far here)
-
 -- of the list of n numbers from a on
 some_first : (n : ℕ) (f : ℕ → Bool) → some (suc n) f ≡ (f 0 || some n (λ i. f (suc i)))
 unfolding some
 some_first zero f = refl
 some_first (suc n) f =
-    ap (λ (b : Bool). f (suc n) || b) (some_first n f) ∙ exchange (f (suc n)) (f 0) (some n (λ i. f (suc i)))
+    rw (some_first n f)
+    (sym (or_assoc (f (suc n)) (f 0) later) ∙ (ap (λ (b : Bool). b || later) (or_comm (f (suc n)) (f 0))
+    ∙ or_assoc (f 0) (f (suc n)) later))
   where
-    exchange : (a b c : Bool) → (a || (b || c)) ≡ (b || (a || c))
-    exchange true true c = refl
-    exchange true false c = refl
-    exchange false b c = refl
+    later : Bool
+    later = some n (λ i. f (suc i))
 
 pub some_of_range :
     (n a : ℕ) (f g : ℕ → Bool) → ((i : ℕ) → g i ≡ f (a + i)) → list_any f (range_with_len a n) ≡ some n g

@@ -14,6 +14,7 @@ fn hit(low: u16, cut: u16) -> bool
 
 impl Marks {
     // Of stretch j and whichever thread: all eight are looked at, so that the compiler compares them at once.
+    #[tactic(auto, unfolding(model::specs::Search::some))]
     pub(crate) fn hits(&self, j: u16) -> bool
         ensures { result ≡ hits self.now.counts j }
     {

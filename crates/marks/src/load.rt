@@ -31,6 +31,6 @@ impl Marks {
         }
         let j = rows.get(s, 10);
         self.see(rows, s, j);
-        walk_hits | self.hits(j)
+        walk_hits || self.hits(j)
     }
 }

@@ -1,7 +1,7 @@
 -- The next number is the next of the sum.
-use Rattle.std.proofs.Common.{◌≡◌, ◌+◌, arith, get_or, refl}
-use Rattle.std.proofs.lemmas.List.{get_or-drop, get_or-take}
+use Rattle.std.proofs.Common.{◌≡◌, ◌+◌, refl, arith, get_or}
 use Rattle.std.proofs.lemmas.Grind.{common_steps}
+use Rattle.std.proofs.lemmas.List.{get_or-drop, get_or-take}
 use Rattle.model.specs.Answers.{tabulate, sum}
 use Rattle.model.proofs.Tabulating.{sum_more}
 use Rattle.area.proofs.total.Goals as goal
@@ -12,8 +12,13 @@ loop-x-init c = record { is_so = refl; few = omega arith }
 
 pub loop-x-preserved : goal.loop-x-preserved
 loop-x-preserved c =
-    let args = c.args in
-    let more = sum_more c.loop-x.x-index (λ n. get_or args.numbers.now (args.from + n) 0) in
+    let numbers = c.args.numbers.now in
+    let at = c.args.from in
     let turn = c.loop-x in
-    let x_is : c.from-sum.result ≡ get_or args.numbers.now (args.from + turn.x-index) 0 = grind (arith, get_or-drop, get_or-take, common_steps) in
-    record { is_so = rw (turn.invariant.is_so, x_is) more; few = omega (arith, turn.invariant.few) }
+    let x_is : c.from-sum.result ≡ get_or numbers (at + turn.x-index) 0 =
+    grind (arith, get_or-drop, get_or-take, common_steps)
+    in
+    record {
+      is_so = rw (turn.invariant.is_so, x_is) (sum_more turn.x-index (λ n. get_or numbers (at + n) 0));
+      few = omega (arith, turn.invariant.few);
+    }
