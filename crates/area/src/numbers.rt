@@ -1,8 +1,8 @@
-// Small functions on numbers that branch or could overflow.
+// A count that goes on by one.
 ghost use Rattle.std.specs.Prelude.{◌≡◌};
 ghost use Rattle.area.specs.Cells.{up};
 
-// One more, and 0 after 65,535: the compiler makes one addition of it.
+// One more, and 0 after 65,535.
 #[tactic(auto, unfolding(crate::specs::Cells::up))]
 pub fn next_number(x: u16) -> u16
     ensures { result ≡ up x }

@@ -28,14 +28,14 @@ impl Marks {
         self.flags[cells::flag(q)] >= 2 && area::covers(rows, m, q)
     }
 
-    // Over the events below n; n if there is none.
+    // Over the events below n; n if there is none, which is what `first` of crate model gives.
     pub fn missing(&self, rows: &[u16], n: u16) -> u16
         ensures { result ≡ missing_by rows.now self.now n }
     {
         (0..n).find(|p| self.missing_in(rows, *p)).unwrap_or(n)
     }
 
-    // For the missing store m, over the events below n; n if there is none.
+    // For the missing store m, over the events below n; n if there is none, likewise.
     pub fn observed(&self, rows: &[u16], n: u16, m: u16) -> u16
         ensures { result ≡ observed_by rows.now self.now.flags n m }
     {
