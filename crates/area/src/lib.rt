@@ -15,10 +15,11 @@ pub mod numbers;
 fn get(work: &[u16], i: usize) -> u16
     ensures { result ≡ get_or work.now i 0 }
 {
-    if i < work.len() { work[i] } else { 0 }
+    work.get(i).copied().unwrap_or(0)
 }
 
-// The number at position i becomes v; past the end nothing changes.
+// The number at position i becomes v; past the end nothing changes. By `get_mut` the proof does not learn that a missing
+// number leaves the slice as it was.
 fn put(work: &mut [u16], i: usize, v: u16)
     ensures { work.new ≡ set work.old i v }
 {
@@ -31,11 +32,7 @@ fn put(work: &mut [u16], i: usize, v: u16)
 pub fn clear(numbers: &mut [u16])
     ensures { numbers.new ≡ replicate (length numbers.old) 0 }
 {
-    let mut i: usize = 0;
-    while i < numbers.len() {
-        numbers[i] = 0;
-        i += 1;
-    }
+    numbers.fill(0);
 }
 
 // The sum of 56 numbers, eight for each of seven stretches, from a position on.
@@ -43,11 +40,9 @@ pub fn total(numbers: &[u16], from: usize) -> u32
     requires { from + 56 ≤ length numbers.now }
     ensures { (result ≡ total 56 numbers.now from) × (result ≤ 65535 * 56) }
 {
-    let mut n: usize = 0;
-    let mut sum: u32 = 0;
-    while n < 56 {
-        sum += numbers::wide(numbers[from + n]);
-        n += 1;
+    let mut sum = 0;
+    for x in &numbers[from..from + 56] {
+        sum += u32::from(*x);
     }
     sum
 }
@@ -56,24 +51,27 @@ pub fn total(numbers: &[u16], from: usize) -> u32
 
 // Where event e's row begins: rows 1 to 2,048 stand one after the other, and 0, which has none, goes round to the last.
 // A remainder keeps every row inside the area without a test.
+#[tactic(auto, unfolding(crate::specs::Cells::row_start))]
 pub fn row_of(e: u16) -> usize
     ensures { (result ≡ row_start e) × (result + 16 ≤ 32768) }
 {
-    16 * (((e as usize) + 2047) % 2048)
+    16 * ((usize::from(e) + 2047) % 2048)
 }
 
 // Column k of event e's row.
+#[tactic(auto, unfolding(crate::specs::Cells::get_row))]
 pub fn row_get(work: &[u16], e: u16, k: u16) -> u16
     ensures { result ≡ get_row work.now e k }
 {
-    get(work, row_of(e) + ((k % 16) as usize))
+    get(work, row_of(e) + usize::from(k % 16))
 }
 
 // Column k of event e's row becomes v.
+#[tactic(auto, unfolding(crate::specs::Cells::put_row))]
 pub fn row_put(work: &mut [u16], e: u16, k: u16, v: u16)
     ensures { work.new ≡ put_row work.old e k v }
 {
-    put(work, row_of(e) + ((k % 16) as usize), v);
+    put(work, row_of(e) + usize::from(k % 16), v);
 }
 
 // Event q's clock for store p's thread is not below p's own.
@@ -89,10 +87,7 @@ pub fn clock_covers(work: &[u16], p: u16, q: u16) -> bool
 pub fn covers(work: &[u16], p: u16, q: u16) -> bool
     ensures { result ≡ covers_w work.now p q }
 {
-    if row_get(work, p, 10) != row_get(work, q, 10) {
-        return false;
-    }
-    clock_covers(work, p, q)
+    row_get(work, p, 10) == row_get(work, q, 10) && clock_covers(work, p, q)
 }
 
 // Stores p and q are on one cache line: eight locations are a line.
@@ -106,7 +101,7 @@ pub fn one_line(work: &[u16], p: u16, q: u16) -> bool
 pub fn committed_at(work: &[u16], p: u16) -> u16
     ensures { result ≡ committed_at work.now p }
 {
-    numbers::larger(row_get(work, p, 13), row_of(p) as u16)
+    row_get(work, p, 13).max(row_of(p) as u16)
 }
 
 // The number of the event whose row begins there; 2,049 behind the last row.
@@ -127,14 +122,13 @@ pub fn no_store(work: &mut [u16], row: usize)
 }
 
 // The eight numbers from `to` on become the larger of them and of event s's clock.
+#[tactic(auto, unfolding(crate::specs::Cells::joined))]
 pub fn join(numbers: &mut [u16], to: usize, work: &[u16], s: u16)
     requires { (to + 8 ≤ length numbers.old) × (32768 ≤ length work.now) }
     ensures { numbers.new ≡ joined 8 work.now s to numbers.old }
 {
     let from = row_of(s);
-    let mut u: usize = 0;
-    while u < 8 {
-        numbers[to + u] = numbers::larger(numbers[to + u], work[from + u]);
-        u += 1;
+    for u in 0..8 {
+        numbers[to + u] = numbers[to + u].max(work[from + u]);
     }
 }

@@ -38,7 +38,8 @@ use Rattle.machine.specs.Twin.{World}
 use Rattle.machine.specs.Sim.{Sim}
 use Rattle.machine.proofs.Standings.{store_is, order_is}
 use Rattle.machine.proofs.Closing.{committed_is}
-use Rattle.marks.specs.Marks.{Marks, broken_in}
+use Rattle.marks.specs.declared.cells.Marks.{Marks}
+use Rattle.marks.specs.Marks.{broken_in}
 use Rattle.marks.proofs.Matched.{broken_at_ruling, unbroken_robust}
 use Rattle.windows.specs.Finding.{windows_by}
 use Rattle.windows.proofs.Answered.{flush_answered}

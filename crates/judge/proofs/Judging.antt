@@ -34,7 +34,7 @@ use Rattle.machine.specs.Tables.{last_cell, last_in, held_in}
 use Rattle.machine.specs.Twin.{World}
 use Rattle.machine.specs.Sim.{some?, Sim}
 use Rattle.machine.proofs.Closing.{last_is}
-use Rattle.marks.specs.Marks.{Marks}
+use Rattle.marks.specs.declared.cells.Marks.{Marks}
 use Rattle.marks.specs.Judged.{judged, judged_held}
 use Rattle.marks.specs.Matching.{MarksMatch}
 use Rattle.marks.proofs.Stepping.{chain}

@@ -48,7 +48,7 @@ use Rattle.machine.proofs.Refusals.{refusals, begin_refusals}
 use Rattle.machine.proofs.Simulation.{step_next, counts_is, held_is}
 use Rattle.machine.proofs.Taken.{refusal_told, counted_told, after_told}
 use Rattle.machine.proofs.Start.{sim_start}
-use Rattle.marks.specs.Marks.{Marks}
+use Rattle.marks.specs.declared.cells.Marks.{Marks}
 use Rattle.marks.specs.Matching.{MarksMatch}
 use Rattle.marks.proofs.Matched.{match_start}
 use Rattle.judge.specs.declared.run.Begun.{Begun}

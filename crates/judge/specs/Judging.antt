@@ -9,7 +9,7 @@ use Rattle.area.specs.Cells.{up}
 use Rattle.area.specs.Rows.{HeldLinked, Rows}
 use Rattle.machine.specs.Tables.{held_in}
 use Rattle.machine.specs.Sim.{some?, Chains}
-use Rattle.marks.specs.Marks.{Marks}
+use Rattle.marks.specs.declared.cells.Marks.{Marks}
 use Rattle.marks.specs.Testing.{missing_by, observed_by}
 use Rattle.judge.specs.declared.loads.Evidence.{Evidence}
 

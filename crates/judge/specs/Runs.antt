@@ -10,7 +10,8 @@ use Rattle.model.specs.Judge.{reading_answer}
 use Rattle.machine.specs.declared.state.Machine.{Machine}
 use Rattle.machine.specs.Twin.{World, state_of, world}
 use Rattle.machine.specs.Sim.{Sim}
-use Rattle.marks.specs.Marks.{Marks, marks_of}
+use Rattle.marks.specs.declared.cells.Marks.{Marks}
+use Rattle.marks.specs.Marks.{marks_of}
 use Rattle.marks.specs.Matching.{MarksMatch}
 use Rattle.judge.specs.declared.run.Begun.{Begun}
 use Rattle.judge.specs.declared.run.Cursor.{Cursor}

@@ -9,7 +9,8 @@ use Rattle.model.specs.declared.Verdict.{Verdict}
 use Rattle.model.specs.declared.Verdict.TheVariants.{Refused, Robust, Broken}
 use Rattle.area.specs.Cells.{one_line_w}
 use Rattle.machine.specs.Tables.{committed_in}
-use Rattle.marks.specs.Marks.{Marks, broken_in}
+use Rattle.marks.specs.declared.cells.Marks.{Marks}
+use Rattle.marks.specs.Marks.{broken_in}
 use Rattle.marks.specs.Ending.{copied, stores_in}
 use Rattle.windows.specs.Finding.{windows_by}
 use Rattle.judge.specs.declared.loads.Evidence.{Evidence}

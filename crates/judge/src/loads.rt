@@ -5,12 +5,11 @@ ghost use Rattle.record.specs.Fields.{fields_of};
 ghost use Rattle.model.specs.Trace.{location};
 ghost use Rattle.model.specs.Stores.{head_of, landed};
 ghost use Rattle.area.specs.Cells.{event_at};
-ghost use Rattle.marks.specs.Marks.{marks_of};
 ghost use Rattle.marks.specs.Matching.{MarksMatch};
 ghost use Rattle.judge.specs.Judging.{evidence_at, Stepped};
 
 use machine::Tables;
-use marks::{Flags, Marks, evidence, held, judged};
+use marks::Marks;
 use record::Fields;
 
 // The load that breaks the trace, with the missing and the observed store.
@@ -22,13 +21,13 @@ pub struct Evidence {
 }
 
 // The evidence over records 0 to `load`, whose marks these are: later loads leave none.
-pub(crate) fn evidence_at(marks: &Marks, flags: &Flags, work: &[u16], load: u16) -> Evidence
-    ensures { result
-        ≡ evidence_at work.now (marks_of marks.now flags.now) load }
+#[tactic(auto, unfolding(crate::specs::Judging::evidence_at))]
+pub(crate) fn evidence_at(marks: &Marks, work: &[u16], load: u16) -> Evidence
+    ensures { result ≡ evidence_at work.now marks.now load }
 {
     let n = area::numbers::next_number(load);
-    let missing = evidence::missing(marks, flags, work, n);
-    let observed = evidence::observed(flags, work, n, missing);
+    let missing = marks.missing(work, n);
+    let observed = marks.observed(work, n, missing);
     Evidence {
         load,
         missing,
@@ -57,7 +56,6 @@ fn head_found(tables: &Tables, work: &[u16], kind: u16, row: usize, x: u16) -> u
 pub(crate) fn judge_event(
     tables: &Tables,
     marks: &mut Marks,
-    flags: &mut Flags,
     counted: bool,
     work: &[u16],
     kind: u16,
@@ -68,17 +66,17 @@ pub(crate) fn judge_event(
     ensures { (ev : ℕ → Event)
         → Stepped ev (event_at row) kind counted tables.now work.now
         → fields_of (ev (event_at row)) ≡ f
-        → MarksMatch ev (event_at row) (marks_of marks.old flags.old)
-        → MarksMatch ev (suc (event_at row)) (marks_of marks.new flags.new) }
+        → MarksMatch ev (event_at row) marks.old
+        → MarksMatch ev (suc (event_at row)) marks.new }
 {
     if !counted {
         return;
     }
     if kind == 16 {
         let k = machine::newest_held(tables, f.thread);
-        held::judge_held(marks, flags, work, k, row);
+        marks.judge_held(work, k, row);
         return;
     }
     let h = head_found(tables, work, kind, row, f.location);
-    judged::judge_load(marks, flags, work, h, f.location, f.source, row);
+    marks.judge_load(work, h, f.location, f.source, row);
 }

@@ -4,13 +4,12 @@ ghost use Rattle.record.specs.Answers.{read_answer};
 ghost use Rattle.area.specs.Cells.{event_at};
 ghost use Rattle.model.specs.Reading.{refusal_in, begun_reading};
 ghost use Rattle.model.specs.Judge.{reading_cut};
-ghost use Rattle.marks.specs.Marks.{marks_of};
 ghost use Rattle.judge.specs.Runs.{begin_ended, started_at, number_in, Began, Reached, After, AnswersAsDefined};
 
 use crate::verdict::End;
 use crate::{loads, verdict};
 use machine::{Machine, Tables};
-use marks::{Flags, Marks};
+use marks::Marks;
 use model::Verdict;
 use record::{Read, Scanned};
 
@@ -121,13 +120,12 @@ fn judge_record(
     t: Cursor,
     tables: &mut Tables,
     marks: &mut Marks,
-    flags: &mut Flags,
     work: &mut [u16],
 ) -> Next
     requires { Reached trace.now version threads locations (event_at t.row) t
-        tables.old (marks_of marks.old flags.old) work.old }
+        tables.old marks.old work.old }
     ensures { After trace.now version threads locations (event_at t.row) result
-        tables.new (marks_of marks.new flags.new) work.new }
+        tables.new marks.new work.new }
 {
     let row = t.row;
     let d = record::scan_at(trace, t.at);
@@ -145,7 +143,7 @@ fn judge_record(
     if s.refusal != 0 {
         return Next::Ended(s.refusal);
     }
-    loads::judge_event(tables, marks, flags, s.counted, work, e.kind, row, f);
+    loads::judge_event(tables, marks, s.counted, work, e.kind, row, f);
     Next::On(Cursor {
         stretch: s.stretch,
         row: row + 16,
@@ -153,7 +151,7 @@ fn judge_record(
     })
 }
 
-// All records, and the verdict; empty bytes are refused with 1. The machine's tables and the marks are arrays of this
+// All records, and the verdict; empty bytes are refused with 1. The machine's tables and the marks are variables of this
 // call, so that the compiler knows them apart from the work area; and the work area is lent on at a constant length, so
 // that it drops the tests of that length from every read and store.
 pub(crate) fn run(trace: &[u8], work: &mut [u16], cut: &mut [u16]) -> Verdict
@@ -171,8 +169,7 @@ pub(crate) fn run(trace: &[u8], work: &mut [u16], cut: &mut [u16]) -> Verdict
         };
     }
     let mut tables: Tables = [0; 3008];
-    let mut marks: Marks = [0; 648];
-    let mut flags: Flags = [0; 2048];
+    let mut marks = Marks::new();
     let mut t = Cursor::start(b.at);
     loop {
         let r = judge_record(
@@ -183,7 +180,6 @@ pub(crate) fn run(trace: &[u8], work: &mut [u16], cut: &mut [u16]) -> Verdict
             t,
             &mut tables,
             &mut marks,
-            &mut flags,
             &mut work[..size],
         );
         let Next::On(next) = r else {
@@ -191,7 +187,7 @@ pub(crate) fn run(trace: &[u8], work: &mut [u16], cut: &mut [u16]) -> Verdict
                 number: number_in(r),
                 event: area::event_at(t.row),
             };
-            return verdict::verdict(trace, end, &tables, &marks, &flags, &work[..size], cut);
+            return verdict::verdict(trace, end, &tables, &marks, &work[..size], cut);
         };
         t = next;
     }

@@ -1,12 +1,11 @@
 // The verdict at the end of a run, and the cut buffer.
 ghost use Rattle.std.specs.Prelude.{◌≡◌, ◌-◌, length};
-ghost use Rattle.marks.specs.Marks.{marks_of};
 ghost use Rattle.judge.specs.Verdicts.{kind_by, broken_by, share_by, verdict_after, cut_from};
 
 use crate::loads;
 use crate::loads::Evidence;
 use machine::Tables;
-use marks::{Flags, Marks, end};
+use marks::Marks;
 use model::{Kind, Verdict};
 
 // The end of a run: what ended it, 1 where no record was left, or the number of what turned a record away; and the
@@ -55,25 +54,25 @@ fn broken(trace: &[u8], work: &[u16], events: u16, f: Evidence) -> Verdict
 
 // The percentage of the stores committed in finished stretches that are in the least choice.
 fn share(marks: &Marks, tables: &Tables) -> u16
-    ensures { result ≡ share_by marks.now tables.now }
+    ensures { result ≡ share_by marks.now.counts tables.now }
 {
-    end::percentage(end::stores_in(marks), machine::all_committed(tables))
+    marks::percentage(marks.stores_in(), machine::all_committed(tables))
 }
 
 // The verdict on the trace whose run ended so. Only a robust trace changes the cut buffer.
+#[tactic(auto, unfolding(crate::specs::Verdicts::verdict_after, crate::specs::Verdicts::cut_from))]
 pub(crate) fn verdict(
     trace: &[u8],
     t: End,
     tables: &Tables,
     marks: &Marks,
-    flags: &Flags,
     work: &[u16],
     cut: &mut [u16],
 ) -> Verdict
     requires { length cut.old ≡ 56 }
     ensures value { result ≡ verdict_after trace.now t
-        tables.now (marks_of marks.now flags.now) work.now }
-    ensures cut_after { cut.new ≡ cut_from t marks.now cut.old }
+        tables.now marks.now work.now }
+    ensures cut_after { cut.new ≡ cut_from t marks.now.counts cut.old }
 {
     if t.number != 1 {
         return Verdict::Refused {
@@ -82,16 +81,10 @@ pub(crate) fn verdict(
         };
     }
     let events = preceding(t.event);
-    let load = marks::broken_at(marks);
-    if load != 0 {
-        return broken(
-            trace,
-            work,
-            events,
-            loads::evidence_at(marks, flags, work, load),
-        );
+    if let Some(load) = marks.broken_at() {
+        return broken(trace, work, events, loads::evidence_at(marks, work, load));
     }
-    end::copy_cut(marks, cut);
+    marks.copy_cut(cut);
     let share = share(marks, tables);
     Verdict::Robust { events, share }
 }

@@ -20,7 +20,8 @@ use Rattle.model.specs.Choice.{Choice, In}
 use Rattle.model.proofs.Searching.{less?, both, parts, or_cases, or_left, or_right, some→, →some}
 use Rattle.model.proofs.RulingSteps.{raise, raised→, Over}
 use Rattle.area.specs.Cells.{get_row}
-use Rattle.marks.specs.Marks.{Marks, cut_cell, low_cell, count_in}
+use Rattle.marks.specs.declared.cells.Marks.{Marks}
+use Rattle.marks.specs.Marks.{cut_cell, low_cell, count_in}
 use Rattle.marks.specs.Marking.{walked, loaded}
 use Rattle.marks.specs.Testing.{walk_hits, hit, hits, load_hits}
 use Rattle.marks.specs.Judged.{pair_in}

@@ -1,20 +1,24 @@
 -- The end of a robust trace: the marks' counts of the least choice are the closure's 56 counts, copied and summed, and
 -- no more of them than were committed, so that the share is the definitions' one.
+use Rattle.std.proofs.lemmas.Grind.{same_number_lists}
+use Rattle.std.proofs.lemmas.List.{get_or-take, get_or-drop}
+use Rattle.std.proofs.Common.{length-drop}
 use Prim.Native.Nat.{ℕ, zero, suc, ◌+◌, ◌/◌, ◌%◌, ◌≤◌, ◌<◌, min}
 use native.Mathlib.Omega.{arith}
 use native.Mathlib.Nat.{div-le_of_le-mul}
 use mathlib.Core.Path.{◌≡◌, refl, sym, ◌∙◌, ap}
-use mathlib.Core.List.{List, [], ◌∷◌, ◌++◌}
-use lib.ListN.{length, drop}
-use lib.Seq.{drop-cons, set_at, append_snoc, drop-length}
+use mathlib.Core.List.{List, ◌++◌, append-nil}
+use lib.ListN.{length, get_or, take, drop}
+use lib.Seq.{length-take-le, drop-cons, set_at, append_snoc, drop-length}
 use Rattle.record.specs.declared.events.Event.{Event}
 use Rattle.model.specs.Rules.{Accepted}
 use Rattle.model.specs.Choice.{finished}
 use Rattle.model.specs.Verdict.{closure}
 use Rattle.model.specs.Answers.{tabulate, sum, percent, cut_of, share_of}
-use Rattle.model.proofs.Tabulating.{sum_mono, tabulate_same, tabulate_length}
+use Rattle.model.proofs.Tabulating.{sum_mono, tabulate_same, tabulate_length, tabulate_at}
 use Rattle.model.proofs.Closure.{closure_fits}
-use Rattle.marks.specs.Marks.{Marks, cut_cell, count_in}
+use Rattle.marks.specs.declared.cells.Marks.{Marks}
+use Rattle.marks.specs.Marks.{cut_cell, count_in}
 use Rattle.marks.specs.Ending.{least_at, copied, stores_in}
 use Rattle.marks.specs.Matching.{Judging}
 
@@ -33,11 +37,27 @@ module _ (counts : List ℕ) where
       ∙ sym (append_snoc (tabulate n (least_at counts)) (least_at counts n) (drop (suc n) out)))
 
   copied_all : (n : ℕ) (out : List ℕ) → length out ≡ n → copied n counts out ≡ tabulate n (least_at counts)
-  copied_all n out size = copied_front n out (omega arith) ∙ rw (← size, drop-length out) (no_rest _)
+  copied_all n out size = copied_front n out (omega arith) ∙ rw (← size, drop-length out) (append-nil _)
+
+  -- as many counts as the buffer has numbers, from those of the least choice on
+  pub copied_part :
+      (n k : ℕ) (out : List ℕ) → ((i : ℕ) → least_at counts i ≡ count_in counts (k + i)) → length out ≡ n
+      → k + n ≤ length counts → take n (drop k counts) ≡ copied n counts out
+  copied_part n k out from_k size within =
+      same_number_lists (take n (drop k counts)) (tabulate n (least_at counts))
+      (omega (arith, tabulate_length n (least_at counts), taken_length)) same_numbers
+      ∙ sym (copied_all n out size)
     where
-      no_rest : (xs : List ℕ) → xs ++ [] ≡ xs
-      no_rest [] = refl
-      no_rest (x ∷ xs) = ap (λ (ys : List ℕ). x ∷ ys) (no_rest xs)
+      taken_length : length (take n (drop k counts)) ≡ n
+      taken_length = length-take-le n (drop k counts) (omega (arith, length-drop k counts))
+
+      same_numbers :
+          (i : ℕ) → i < length (take n (drop k counts))
+          → get_or (take n (drop k counts)) i 0 ≡ get_or (tabulate n (least_at counts)) i 0
+      same_numbers i below =
+          let there : i < n = omega (arith, taken_length) in
+          rw (tabulate_at n (least_at counts) i 0 there, from_k i)
+          (get_or-take n (drop k counts) i 0 there ∙ get_or-drop k counts i 0)
 
 module _ (ev : ℕ → Event) (N : ℕ) where
   module _ (m : Marks) (judging : Judging ev N m) where

@@ -11,7 +11,8 @@ use lib.Dec.{eqb}
 use lib.Seq.{get_or-set_same, get_or-set_other}
 use Rattle.area.specs.Cells.{get_row}
 use Rattle.area.proofs.Joins.{joined_leaves}
-use Rattle.marks.specs.Marks.{Marks, cut_cell, last_cell, source_cell, count_in}
+use Rattle.marks.specs.declared.cells.Marks.{Marks}
+use Rattle.marks.specs.Marks.{cut_cell, last_cell, source_cell, count_in}
 use Rattle.marks.specs.Marking.{low_in, marked, walked, seen_from, loaded}
 use Rattle.marks.specs.Judged.{noted}
 

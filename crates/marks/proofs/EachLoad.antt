@@ -27,7 +27,8 @@ use Rattle.model.proofs.Closure.{observes→, →observes}
 use Rattle.model.proofs.RulingSteps.{raise, raised→}
 use Rattle.area.specs.Cells.{committed_at}
 use Rattle.area.specs.Rows.{Linked, Falls, Rows}
-use Rattle.marks.specs.Marks.{Marks, marks_of, last_cell, source_cell, broken_cell, count_in, broken_in}
+use Rattle.marks.specs.declared.cells.Marks.{Marks}
+use Rattle.marks.specs.Marks.{marks_of, last_cell, source_cell, broken_cell, count_in, broken_in}
 use Rattle.marks.specs.Marking.{loaded}
 use Rattle.marks.specs.Judged.{repeated, noted, walked_over, older_in, start_of, deepest_of, walked_from, held_from}
 use Rattle.marks.specs.Matching.{Reached, Says, Loads}

@@ -20,7 +20,8 @@ use Rattle.model.proofs.RulingSteps.{marked_over, hit?, hit→, hit_is_missing}
 use Rattle.area.specs.Cells.{covers_w}
 use Rattle.area.specs.Rows.{Rows}
 use Rattle.area.proofs.Covering.{covers_is}
-use Rattle.marks.specs.Marks.{Marks, flag_in}
+use Rattle.marks.specs.declared.cells.Marks.{Marks}
+use Rattle.marks.specs.Marks.{flag_in}
 use Rattle.marks.specs.Testing.{in_cut, is_forbidden, is_observed, missing_in, observed_in, missing_by, observed_by}
 use Rattle.marks.specs.Matching.{Judging}
 use Rattle.marks.proofs.Says.{Fit, fits, in_cut_lem}

@@ -9,7 +9,7 @@ use borrow.Author.Tests.{eq-eqb, ne_eqb}
 use Rattle.record.specs.declared.events.Event.{Event}
 use Rattle.area.specs.Cells.{get_row}
 use Rattle.area.specs.Rows.{HeldLinked}
-use Rattle.marks.specs.Marks.{Marks}
+use Rattle.marks.specs.declared.cells.Marks.{Marks}
 use Rattle.marks.specs.Judged.{held_at, all_held}
 use Rattle.marks.proofs.EachLoad.{held_one, held_all}
 

@@ -29,7 +29,8 @@ use Rattle.model.proofs.RulingSteps.{Over, marked_over, hit→, →hit, hit_is_b
 use Rattle.model.proofs.RulingSteps.{robust_ruling, broken_ruling}
 use Rattle.area.specs.Rows.{Linked, HeldLinked, Rows}
 use Rattle.area.proofs.ReadBack.{cleared_at}
-use Rattle.marks.specs.Marks.{Marks, marks_of, broken_cell, count_in, broken_in}
+use Rattle.marks.specs.declared.cells.Marks.{Marks}
+use Rattle.marks.specs.Marks.{marks_of, broken_cell, count_in, broken_in}
 use Rattle.marks.specs.Testing.{load_hits, missing_by, observed_by}
 use Rattle.marks.specs.Judged.{with_breaking, judged, all_held, pair_in, judged_held}
 use Rattle.marks.specs.Ending.{copied, stores_in}

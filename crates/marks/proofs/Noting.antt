@@ -19,7 +19,8 @@ use Rattle.model.specs.Choice.{Choice}
 use Rattle.model.specs.Verdict.{observes?}
 use Rattle.model.proofs.Searching.{false_true, same?, less?, parts, or_right}
 use Rattle.model.proofs.ChainOrder.{same_chain}
-use Rattle.marks.specs.Marks.{Marks, marks_of, cut_cell, low_cell, last_cell, source_cell, count_in}
+use Rattle.marks.specs.declared.cells.Marks.{Marks}
+use Rattle.marks.specs.Marks.{marks_of, cut_cell, low_cell, last_cell, source_cell, count_in}
 use Rattle.marks.specs.Judged.{repeated, noted}
 use Rattle.marks.specs.Matching.{Reached, Says, Noted, Loads}
 use Rattle.marks.proofs.Counts.{noted_leaves, noted_last, noted_source_lem}

@@ -30,7 +30,8 @@ use Rattle.model.proofs.RulingSteps.{Over}
 use Rattle.area.specs.Cells.{row_start, get_row, joined}
 use Rattle.area.specs.Rows.{StoreRow, Rows}
 use Rattle.area.proofs.Joins.{joined_size, joined_leaves, joined_there}
-use Rattle.marks.specs.Marks.{Marks, marks_of, cut_cell, low_cell, flag_cell, count_in, flag_in}
+use Rattle.marks.specs.declared.cells.Marks.{Marks}
+use Rattle.marks.specs.Marks.{marks_of, cut_cell, low_cell, flag_cell, count_in, flag_in}
 use Rattle.marks.specs.Marking.{forbid, observe, lower, own_in, marked, seen_from}
 use Rattle.marks.specs.Testing.{in_cut, mark_hits}
 use Rattle.marks.specs.Matching.{PlaceOf, AtMost, Says}

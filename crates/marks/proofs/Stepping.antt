@@ -32,7 +32,7 @@ use Rattle.model.proofs.RulingSteps.{observed_step, raise, closure_step, Over}
 use Rattle.model.proofs.ChainOrder.{landed_length, chain_earlier, event_marks}
 use Rattle.area.specs.Cells.{get_row}
 use Rattle.area.specs.Rows.{Linked, Rows}
-use Rattle.marks.specs.Marks.{Marks}
+use Rattle.marks.specs.declared.cells.Marks.{Marks}
 use Rattle.marks.specs.Marking.{walked, seen_from, loaded}
 use Rattle.marks.specs.Testing.{walk_hits}
 use Rattle.marks.specs.Matching.{Says, Judging}

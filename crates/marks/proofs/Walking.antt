@@ -17,11 +17,11 @@ use Rattle.model.specs.Stores.{passed}
 use Rattle.model.proofs.Searching.{false_true, same?, or_cases, or_left, or_right, eqb_same}
 use Rattle.area.specs.Cells.{get_row}
 use Rattle.area.specs.Rows.{Linked, Rows}
-use Rattle.marks.specs.Marks.{Marks}
+use Rattle.marks.specs.declared.cells.Marks.{Marks}
 use Rattle.marks.specs.Marking.{marked, walked}
 use Rattle.marks.specs.Testing.{mark_hits, walk_hits}
 use Rattle.marks.specs.Matching.{Says}
-use Rattle.marks.proofs.Loops.{walk_end, walk_stop, walk_more}
+use Rattle.marks.proofs.Loops.{walk_end, walk_more}
 use Rattle.marks.proofs.Says.{Fit, says_same, mark_says, mark_hits_lem}
 
 -- each store of the list has its row and numbers
@@ -110,7 +110,7 @@ module _ (ev : ℕ → Event) (O : ℕ → Bool) (C : Choice) (s : ℕ) where
 
         by_store : (q ≡ s) ⊎ (q ≢ s) → After (suc k) m q (q ∷ ps) F
         by_store (inl is_s) =
-            by_turn (suc k) m q (q ∷ ps) F m false (walk_stop l s _ _ (suc k) m q false (refl, refl) store is_s)
+            by_turn (suc k) m q (q ∷ ps) F m false (walk_end l s _ _ (suc k) m q false (refl, refl) (inr (store, is_s)))
             (stops_at q ps F m is_s says)
         by_store (inr differs) =
             let (marks_are, hits_are) =
@@ -126,7 +126,7 @@ module _ (ev : ℕ → Event) (O : ℕ → Bool) (C : Choice) (s : ℕ) where
         (ps : List ℕ) (k : ℕ) (m : Marks) (h : ℕ) (F : ℕ → Bool)
         → Linked l h ps → AllFit ev n ps → length ps ≤ k → Says ev F O C m → After k m h ps F
     walk_along [] k m h F links fit enough says =
-        by_turn k m h [] F m false (walk_end l s _ _ k m h false (refl, refl) links) (none_passed F m says)
+        by_turn k m h [] F m false (walk_end l s _ _ k m h false (refl, refl) (inl links)) (none_passed F m says)
     walk_along (q ∷ ps) zero m h F links fit enough says = absurd (omega arith)
     walk_along (q ∷ ps) (suc k) m h F links fit enough says =
         one_turn k m h q ps F links.0 fit.0 says

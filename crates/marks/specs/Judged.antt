@@ -6,7 +6,8 @@
 use Rattle.std.specs.Prelude.{ℕ, zero, suc, Bool, cond, ◌&&◌, ◌||◌, not, List, eqb, ltb, set}
 use Rattle.model.specs.Search.{some}
 use Rattle.area.specs.Cells.{get_row, committed_at}
-use Rattle.marks.specs.Marks.{Marks, marks_of, last_cell, source_cell, broken_cell, count_in, broken_in}
+use Rattle.marks.specs.declared.cells.Marks.{Marks}
+use Rattle.marks.specs.Marks.{marks_of, last_cell, source_cell, broken_cell, count_in, broken_in}
 use Rattle.marks.specs.Marking.{loaded}
 use Rattle.marks.specs.Testing.{hits, load_hits}
 

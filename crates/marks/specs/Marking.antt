@@ -4,7 +4,8 @@
 -- observed.
 use Rattle.std.specs.Prelude.{ℕ, zero, suc, ◌+◌, ◌*◌, ◌/◌, cond, List, eqb, ltb, set}
 use Rattle.area.specs.Cells.{get_row, joined}
-use Rattle.marks.specs.Marks.{Marks, marks_of, cut_cell, low_cell, flag_cell, count_in, flag_in}
+use Rattle.marks.specs.declared.cells.Marks.{Marks}
+use Rattle.marks.specs.Marks.{marks_of, cut_cell, low_cell, flag_cell, count_in, flag_in}
 
 -- ---- flags and the lowest places
 

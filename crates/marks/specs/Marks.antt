@@ -1,11 +1,8 @@
 -- The marks: an array of 648 numbers, whose places are below, and the flags of 2,048 events, 1 forbidden and 2
 -- observed. The least choice and the lowest forbidden places have eight numbers for each stretch; what would be stretch
 -- 0 or 8 shares eight that nobody asks for.
-use Rattle.std.specs.Prelude.{ℕ, ◌+◌, ◌*◌, ◌%◌, List, get_or}
-
-pub record Marks : Type 0 where
-  pub counts : List ℕ
-  pub flags : List ℕ
+use Rattle.std.specs.Prelude.{ℕ, ◌+◌, ◌*◌, ◌%◌, cond, List, get_or, eqb, Option, Some, None}
+use Rattle.marks.specs.declared.cells.Marks.{Marks}
 
 abbrev pub marks_of : List ℕ → List ℕ → Marks
 marks_of counts flags = record { counts = counts; flags = flags }
@@ -48,3 +45,6 @@ flag_in flags p = get_or flags (flag_cell p) 0
 -- the load that breaks the trace, 0 if none does
 abbrev pub broken_in : List ℕ → ℕ
 broken_in counts = count_in counts broken_cell
+
+abbrev pub broken_at : Marks → Option ℕ
+broken_at m = cond (eqb (broken_in m.counts) 0) None (Some (broken_in m.counts))

@@ -8,7 +8,8 @@ use Rattle.model.specs.Rules.{Accepted}
 use Rattle.model.specs.Choice.{Choice}
 use Rattle.model.specs.Verdict.{observed?, bad?, closure}
 use Rattle.model.specs.Stores.{head_of, passed, landed, marked?}
-use Rattle.marks.specs.Marks.{Marks, cut_cell, low_cell, last_cell, source_cell, count_in, flag_in, broken_in}
+use Rattle.marks.specs.declared.cells.Marks.{Marks}
+use Rattle.marks.specs.Marks.{cut_cell, low_cell, last_cell, source_cell, count_in, flag_in, broken_in}
 
 -- walks along the stores ps have come to s: those before s are in F, and s, if it is not 0, is one of ps and in O
 pub record Reached (F O : ℕ → Bool) (ps : List ℕ) (s : ℕ) : Type 0 where

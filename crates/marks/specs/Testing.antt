@@ -5,7 +5,8 @@
 use Rattle.std.specs.Prelude.{ℕ, zero, suc, ◌+◌, ◌%◌, Bool, false, cond, ◌&&◌, ◌||◌, not, List, eqb, leb, set}
 use Rattle.model.specs.Search.{some, first}
 use Rattle.area.specs.Cells.{get_row, covers_w}
-use Rattle.marks.specs.Marks.{Marks, cut_cell, low_cell, count_in, flag_in}
+use Rattle.marks.specs.declared.cells.Marks.{Marks}
+use Rattle.marks.specs.Marks.{cut_cell, low_cell, count_in, flag_in}
 use Rattle.marks.specs.Marking.{lower, own_in, low_in, loaded}
 
 -- ---- the test for broken

@@ -5,29 +5,21 @@ ghost use Rattle.marks.specs.Ending.{copied, stores_in};
 
 use crate::cells::Marks;
 
-// The least choice's 56 counts into the cut buffer.
-pub fn copy_cut(marks: &Marks, out: &mut [u16])
-    requires { length out.old ≡ 56 }
-    ensures { out.new ≡ copied 56 marks.now out.old }
-{
-    let mut i: usize = 0;
-    while i < 56 {
-        out[i] = marks[8 + i];
-        i += 1;
+impl Marks {
+    // The least choice's 56 counts into the cut buffer.
+    pub fn copy_cut(&self, out: &mut [u16])
+        requires { length out.old ≡ 56 }
+        ensures { out.new ≡ copied 56 self.now.counts out.old }
+    {
+        out.copy_from_slice(&self.counts[8..8 + 56]);
     }
-}
 
-// The stores that are in the least choice.
-pub fn stores_in(marks: &Marks) -> u32
-    ensures { (result ≡ stores_in marks.now) × (result ≤ 65535 * 56) }
-{
-    area::total(marks, 8)
-}
-
-fn narrow(x: u32) -> u16
-    ensures { result ≡ min x 65535 }
-{
-    if x < 65535 { x as u16 } else { 65535 }
+    // The stores that are in the least choice.
+    pub fn stores_in(&self) -> u32
+        ensures { (result ≡ stores_in self.now.counts) × (result ≤ 65535 * 56) }
+    {
+        area::total(&self.counts, 8)
+    }
 }
 
 // The percentage of `total` that `part` is, rounded down; 100 of none.
@@ -38,6 +30,6 @@ pub fn percentage(part: u32, total: u32) -> u16
     if total == 0 {
         100
     } else {
-        narrow(100 * part / total)
+        (100 * part / total).min(65535) as u16
     }
 }

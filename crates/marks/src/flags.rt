@@ -1,5 +1,6 @@
-// Flags of an event, 1 forbidden and 2 observed; the lower of two places; two tests joined.
-ghost use Rattle.std.specs.Prelude.{◌||◌, ◌≡◌};
+// Flags of an event, 1 forbidden and 2 observed; the lower of two places. The flags' arithmetic is that of `forbid` and
+// `observe` of specs/Marking.antt, which say it of every byte, also of one that no event has: `f | 2` is another there.
+ghost use Rattle.std.specs.Prelude.{◌≡◌};
 ghost use Rattle.marks.specs.Marking.{forbid, observe, lower};
 
 pub fn forbid(f: u8) -> u8
@@ -18,18 +19,5 @@ pub fn observe(f: u8) -> u8
 pub fn lower(old: u16, new: u16) -> u16
     ensures { result ≡ lower old new }
 {
-    if old == 0 {
-        new
-    } else if new < old {
-        new
-    } else {
-        old
-    }
-}
-
-// One of the two tests passes.
-pub fn either(a: bool, b: bool) -> bool
-    ensures { result ≡ (a || b) }
-{
-    if a { true } else { b }
+    if old == 0 { new } else { old.min(new) }
 }

@@ -4,127 +4,97 @@
 // and the next walk goes on from there.
 ghost use Rattle.std.specs.Prelude.{◌≡◌, ◌≤◌, length};
 ghost use Rattle.area.specs.Cells.{event_at};
-ghost use Rattle.marks.specs.Marks.{marks_of};
 ghost use Rattle.marks.specs.Marking.{loaded};
 ghost use Rattle.marks.specs.Judged.{older_in, start_of, deepest_of, held_at, all_held, pair_in, judged_held};
 
-use crate::cells::{BROKEN, Flags, Marks};
-use crate::{cells, flags, hits, judged, load, walk};
+use crate::cells;
+use crate::cells::{BROKEN, Marks};
+use crate::rows::Rows;
 
 // Store s was committed before store d; 0 stands behind all.
-fn older(rows: &[u16], s: u16, d: u16) -> bool
+fn older(rows: &Rows, s: u16, d: u16) -> bool
     ensures { result ≡ older_in rows.now s d }
 {
-    if d == 0 {
-        return false;
-    }
-    if s == 0 {
-        return true;
-    }
-    let s_at = area::committed_at(rows, s);
-    let d_at = area::committed_at(rows, d);
-    s_at < d_at
+    d != 0 && (s == 0 || rows.committed_at(s) < rows.committed_at(d))
 }
 
-// Where the walk of a load of location x from s, whose chain begins with store h, starts: at the head; or where the
-// walks there ended so far, if its source is older; or nowhere, which is at its source.
-fn start(marks: &Marks, rows: &[u16], h: u16, x: u16, s: u16) -> u16
-    ensures { result ≡ start_of rows.now marks.now h x s }
-{
-    if marks[cells::last(x)] != h {
-        return h;
+impl Marks {
+    // Of a load of location x from s, whose chain begins with store h: where its walk starts, and the source to note.
+    // It starts at the head; or where the walks there ended so far, if its source is older; or nowhere, which is at its
+    // source. To note is the oldest source that loads of that chain have walked to.
+    fn segment(&self, rows: &Rows, h: u16, x: u16, s: u16) -> (u16, u16)
+        ensures { (result.0 ≡ start_of rows.now self.now.counts h x s)
+            × (result.1 ≡ deepest_of rows.now self.now.counts h x s) }
+    {
+        if self.counts[cells::last(x)] != h {
+            return (h, s);
+        }
+        let d = self.counts[cells::source(x)];
+        if older(rows, s, d) { (d, s) } else { (s, d) }
     }
-    let d = marks[cells::source(x)];
-    if older(rows, s, d) { d } else { s }
-}
 
-// The oldest source that loads of that chain have walked to.
-fn deepest(marks: &Marks, rows: &[u16], h: u16, x: u16, s: u16) -> u16
-    ensures { result ≡ deepest_of rows.now marks.now h x s }
-{
-    if marks[cells::last(x)] != h {
-        return s;
+    // The chain from `first` on is walked up to s, and s becomes observed. `load` does this and more, but called from
+    // here too it would be left out of the run, which costs up to 28 instructions more of a hundred (checksums).
+    #[tactic(auto, unfolding(crate::specs::Marking::loaded))]
+    fn mark_from(&mut self, rows: &Rows, first: u16, s: u16)
+        ensures { self.new ≡ loaded rows.now self.old first s }
+    {
+        self.walk(rows, first, s);
+        if s != 0 {
+            let j = rows.get(s, 10);
+            self.see(rows, s, j);
+        }
     }
-    let d = marks[cells::source(x)];
-    if older(rows, s, d) { s } else { d }
-}
 
-// The chain from `first` on is walked up to s, and s becomes observed.
-fn mark_from(marks: &mut Marks, flags: &mut Flags, rows: &[u16], first: u16, s: u16)
-    requires { 32768 ≤ length rows.now }
-    ensures { marks_of marks.new flags.new
-        ≡ loaded rows.now (marks_of marks.old flags.old) first s }
-{
-    walk::walk(marks, flags, rows, first, s);
-    if s == 0 {
-        return;
-    }
-    let j = area::row_get(rows, s, 10);
-    load::see(marks, flags, rows, s, j);
-}
-
-// The held load k: its row has its location in column 9, its source in 13, and in 14 the head of the chain it found.
-fn mark_held(marks: &mut Marks, flags: &mut Flags, rows: &[u16], k: u16)
-    requires { 32768 ≤ length rows.now }
-    ensures { marks_of marks.new flags.new
-        ≡ held_at rows.now (marks_of marks.old flags.old) k }
-{
-    let h = area::row_get(rows, k, 14);
-    let x = area::row_get(rows, k, 9);
-    let s = area::row_get(rows, k, 13);
-    if judged::repeats(marks, h, x, s) {
-        return;
-    }
-    let first = start(marks, rows, h, x, s);
-    let back = deepest(marks, rows, h, x, s);
-    judged::note(marks, h, x, back);
-    mark_from(marks, flags, rows, first, s);
-}
-
-// The held loads from `newest` on, which the links of column 15 lead to. At most 2,048 loads count as of an event.
-fn mark_all(marks: &mut Marks, flags: &mut Flags, rows: &[u16], newest: u16)
-    requires { 32768 ≤ length rows.now }
-    ensures { marks_of marks.new flags.new
-        ≡ all_held 2048 rows.now (marks_of marks.old flags.old) newest }
-{
-    let mut k = newest;
-    let mut n: u16 = 2048;
-    while 0 < n {
-        if k == 0 {
+    // The held load k: its row has its location in column 9, its source in 13, and in 14 the head of the chain it
+    // found.
+    fn mark_held(&mut self, rows: &Rows, k: u16)
+        ensures { self.new ≡ held_at rows.now self.old k }
+    {
+        let h = rows.get(k, 14);
+        let x = rows.get(k, 9);
+        let s = rows.get(k, 13);
+        if self.repeats(h, x, s) {
             return;
         }
-        mark_held(marks, flags, rows, k);
-        k = area::row_get(rows, k, 15);
-        n -= 1;
+        let (first, back) = self.segment(rows, h, x, s);
+        self.note(h, x, back);
+        self.mark_from(rows, first, s);
     }
-}
 
-// There is a pair: a forbidden store is in the cut, of whichever stretch.
-fn pair(marks: &Marks) -> bool
-    ensures { result ≡ pair_in marks.now }
-{
-    let mut j: u16 = 0;
-    let mut any = false;
-    while j < 7 {
-        let here = hits::hits(marks, j + 1);
-        any = flags::either(any, here);
-        j += 1;
+    // The held loads from `newest` on, which the links of column 15 lead to. At most 2,048 loads count as of an event.
+    fn mark_all(&mut self, rows: &Rows, newest: u16)
+        ensures { self.new ≡ all_held 2048 rows.now self.old newest }
+    {
+        let mut k = newest;
+        for n in 0..2048u16 {
+            if k == 0 {
+                break;
+            }
+            self.mark_held(rows, k);
+            k = rows.get(k, 15);
+        }
     }
-    any
-}
 
-// The held loads from `newest` on, which count as of the event whose row begins at `row`.
-pub fn judge_held(marks: &mut Marks, flags: &mut Flags, rows: &[u16], newest: u16, row: usize)
-    requires { (row ≤ 32768) × (32768 ≤ length rows.now) }
-    ensures { marks_of marks.new flags.new
-        ≡ judged_held rows.now (marks_of marks.old flags.old) newest (event_at row) }
-{
-    if marks[BROKEN] != 0 {
-        return;
+    // There is a pair: a forbidden store is in the cut, of whichever stretch.
+    fn pair(&self) -> bool
+        ensures { result ≡ pair_in self.now.counts }
+    {
+        (1..8).any(|j| self.hits(j))
     }
-    mark_all(marks, flags, rows, newest);
-    if pair(marks) {
-        let e = area::event_at(row);
-        marks[BROKEN] = e;
+
+    // The held loads from `newest` on, which count as of the event whose row begins at `row`.
+    #[tactic(auto, unfolding(crate::specs::Judged::judged_held))]
+    pub fn judge_held(&mut self, rows: &[u16], newest: u16, row: usize)
+        requires { (row ≤ 32768) × (32768 ≤ length rows.now) }
+        ensures { self.new ≡ judged_held rows.now self.old newest (event_at row) }
+    {
+        if self.counts[BROKEN] != 0 {
+            return;
+        }
+        self.mark_all(&Rows::of(rows), newest);
+        if self.pair() {
+            self.counts[BROKEN] = area::event_at(row);
+        }
     }
 }

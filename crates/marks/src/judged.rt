@@ -7,54 +7,43 @@ ghost use Rattle.area.specs.Cells.{event_at};
 ghost use Rattle.marks.specs.Marks.{marks_of};
 ghost use Rattle.marks.specs.Judged.{repeated, noted, judged};
 
-use crate::cells::{BROKEN, Flags, Marks};
-use crate::{cells, load};
+use crate::cells;
+use crate::cells::{BROKEN, Marks};
+use crate::rows::Rows;
 
-// The load noted at location x has the last store h and the source s.
-pub(crate) fn repeats(marks: &Marks, h: u16, x: u16, s: u16) -> bool
-    ensures { result ≡ repeated marks.now h x s }
-{
-    let noted_last = marks[cells::last(x)];
-    let noted_source = marks[cells::source(x)];
-    if noted_last == h {
-        noted_source == s
-    } else {
-        false
+impl Marks {
+    // The load noted at location x has the last store h and the source s.
+    pub(crate) fn repeats(&self, h: u16, x: u16, s: u16) -> bool
+        ensures { result ≡ repeated self.now.counts h x s }
+    {
+        self.counts[cells::last(x)] == h && self.counts[cells::source(x)] == s
     }
-}
 
-// A load with the last store h is noted at location x, and s as its source.
-pub(crate) fn note(marks: &mut Marks, h: u16, x: u16, s: u16)
-    ensures { marks.new ≡ noted marks.old h x s }
-{
-    marks[cells::last(x)] = h;
-    marks[cells::source(x)] = s;
-}
+    // A load with the last store h is noted at location x, and s as its source.
+    #[tactic(auto, unfolding(crate::specs::Judged::noted))]
+    pub(crate) fn note(&mut self, h: u16, x: u16, s: u16)
+        ensures { self.new ≡ marks_of (noted self.old.counts h x s) self.old.flags }
+    {
+        self.counts[cells::last(x)] = h;
+        self.counts[cells::source(x)] = s;
+    }
 
-// A load that counts, the event whose row begins at `row`, of location x from s, whose chain begins with store h.
-pub fn judge_load(
-    marks: &mut Marks,
-    flags: &mut Flags,
-    rows: &[u16],
-    h: u16,
-    x: u16,
-    s: u16,
-    row: usize,
-)
-    requires { (row ≤ 32768) × (32768 ≤ length rows.now) }
-    ensures { marks_of marks.new flags.new
-        ≡ judged rows.now (marks_of marks.old flags.old) h x s (event_at row) }
-{
-    if repeats(marks, h, x, s) {
-        return;
-    }
-    if marks[BROKEN] != 0 {
-        return;
-    }
-    let breaks = load::load(marks, flags, rows, h, s);
-    note(marks, h, x, s);
-    if breaks {
-        let e = area::event_at(row);
-        marks[BROKEN] = e;
+    // A load that counts, the event whose row begins at `row`, of location x from s, whose chain begins with store h.
+    #[tactic(auto, unfolding(crate::specs::Judged::judged))]
+    pub fn judge_load(&mut self, rows: &[u16], h: u16, x: u16, s: u16, row: usize)
+        requires { (row ≤ 32768) × (32768 ≤ length rows.now) }
+        ensures { self.new ≡ judged rows.now self.old h x s (event_at row) }
+    {
+        if self.repeats(h, x, s) {
+            return;
+        }
+        if self.counts[BROKEN] != 0 {
+            return;
+        }
+        let breaks = self.load(&Rows::of(rows), h, s);
+        self.note(h, x, s);
+        if breaks {
+            self.counts[BROKEN] = area::event_at(row);
+        }
     }
 }

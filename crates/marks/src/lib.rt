@@ -4,13 +4,15 @@
 #![tactic(auto)]
 
 mod cells;
-pub mod end;
-pub mod evidence;
+mod end;
+mod evidence;
 mod flags;
-pub mod held;
+mod held;
 mod hits;
-pub mod judged;
+mod judged;
 mod load;
+mod rows;
 mod walk;
 
-pub use cells::{Flags, Marks, broken_at};
+pub use cells::Marks;
+pub use end::percentage;

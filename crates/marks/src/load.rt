@@ -1,38 +1,36 @@
 // A counted load: the walk along its location's chain, and the observation of its source.
-ghost use Rattle.std.specs.Prelude.{◌≡◌, ◌≤◌, length};
-ghost use Rattle.marks.specs.Marks.{marks_of};
+ghost use Rattle.std.specs.Prelude.{◌≡◌};
 ghost use Rattle.marks.specs.Marking.{seen_from, loaded};
 ghost use Rattle.marks.specs.Testing.{load_hits};
 
-use crate::cells::{Flags, Marks};
-use crate::{cells, flags, hits, walk};
+use crate::cells::Marks;
+use crate::rows::Rows;
+use crate::{cells, flags};
 
-// Store s, of stretch j, becomes observed: its flag, and the cut of its stretch.
-pub(crate) fn see(marks: &mut Marks, flags: &mut Flags, rows: &[u16], s: u16, j: u16)
-    requires { 32768 ≤ length rows.now }
-    ensures { marks_of marks.new flags.new
-        ≡ seen_from rows.now (marks_of marks.old flags.old) s j }
-{
-    let i = cells::flag(s);
-    flags[i] = flags::observe(flags[i]);
-    area::join(marks, cells::cut(j, 0), rows, s);
-}
-
-// A counted load from s of the location whose chain begins with store h. It answers whether with it there is a pair, if
-// there was none.
-pub fn load(marks: &mut Marks, flags: &mut Flags, rows: &[u16], h: u16, s: u16) -> bool
-    requires { 32768 ≤ length rows.now }
-    ensures value { result
-        ≡ load_hits rows.now (marks_of marks.old flags.old) h s }
-    ensures flags_after { marks_of marks.new flags.new
-        ≡ loaded rows.now (marks_of marks.old flags.old) h s }
-{
-    let walk_hits = walk::walk(marks, flags, rows, h, s);
-    if s == 0 {
-        return walk_hits;
+impl Marks {
+    // Store s, of stretch j, becomes observed: its flag, and the cut of its stretch.
+    #[tactic(auto, unfolding(crate::specs::Marking::seen_from))]
+    pub(crate) fn see(&mut self, rows: &Rows, s: u16, j: u16)
+        ensures { self.new ≡ seen_from rows.now self.old s j }
+    {
+        let i = cells::flag(s);
+        self.flags[i] = flags::observe(self.flags[i]);
+        rows.join(&mut self.counts, cells::cut(j, 0), s);
     }
-    let j = area::row_get(rows, s, 10);
-    see(marks, flags, rows, s, j);
-    let source_hits = hits::hits(marks, j);
-    flags::either(walk_hits, source_hits)
+
+    // A counted load from s of the location whose chain begins with store h. It answers whether with it there is a
+    // pair, if there was none.
+    #[tactic(auto, unfolding(crate::specs::Marking::loaded, crate::specs::Testing::load_hits))]
+    pub(crate) fn load(&mut self, rows: &Rows, h: u16, s: u16) -> bool
+        ensures value { result ≡ load_hits rows.now self.old h s }
+        ensures marks_after { self.new ≡ loaded rows.now self.old h s }
+    {
+        let walk_hits = self.walk(rows, h, s);
+        if s == 0 {
+            return walk_hits;
+        }
+        let j = rows.get(s, 10);
+        self.see(rows, s, j);
+        walk_hits || self.hits(j)
+    }
 }

@@ -1,30 +1,24 @@
--- Invariant: the first n numbers are summed, and each is a two-byte number; measure: the numbers left.
-use mathlib.Core.Path.{◌≡◌, refl}
-use Prim.Native.Nat.{◌+◌}
-use native.Mathlib.Omega.{arith}
-use lib.ListN.{get_or}
+-- The next number is the next of the sum.
+use Rattle.std.proofs.Common.{◌≡◌, ◌+◌, refl, arith, get_or}
+use Rattle.std.proofs.lemmas.Grind.{common_steps}
+use Rattle.std.proofs.lemmas.List.{get_or-drop, get_or-take}
 use Rattle.model.specs.Answers.{tabulate, sum}
 use Rattle.model.proofs.Tabulating.{sum_more}
 use Rattle.area.proofs.total.Goals as goal
 
-pub loop-n-init : goal.loop-n-init
+pub loop-x-init : goal.loop-x-init
 unfolding tabulate sum
-loop-n-init c = record { below = omega arith; is_so = refl; few = omega arith }
+loop-x-init c = record { is_so = refl; few = omega arith }
 
-pub loop-n-preserved : goal.loop-n-preserved
-loop-n-preserved c =
-    let here = c.loop-n in
-    let args = c.args in
+pub loop-x-preserved : goal.loop-x-preserved
+loop-x-preserved c =
+    let numbers = c.args.numbers.now in
+    let at = c.args.from in
+    let turn = c.loop-x in
+    let x_is : c.from-sum.result ≡ get_or numbers (at + turn.x-index) 0 =
+    grind (arith, get_or-drop, get_or-take, common_steps)
+    in
     record {
-      below = omega (arith, c.loop-n-test.true);
-      is_so =
-          rw (here.invariant.is_so, c.wide-sum.ensures.0)
-          (sum_more here.n (λ n. get_or args.numbers.now (args.from + n) 0));
-      few = omega (arith, here.invariant.few, c.wide-sum.ensures.1);
+      is_so = rw (turn.invariant.is_so, x_is) (sum_more turn.x-index (λ n. get_or numbers (at + n) 0));
+      few = omega (arith, turn.invariant.few);
     }
-
-pub returns : goal.returns
-returns c =
-    let here = c.loop-n in
-    let end : here.n ≡ 56 = omega (arith, here.invariant.below, c.loop-n-test.false) in
-    (rw end at here.invariant.is_so, omega (arith, here.invariant.few))

@@ -5,8 +5,6 @@ use native.Mathlib.Omega.{arith}
 use Rattle.record.specs.Answers.{refusal_of}
 use Rattle.area.specs.Cells.{event_at}
 use Rattle.model.specs.Reading.{events}
-use Rattle.machine.proofs.Fits.{sim_fits}
-use Rattle.marks.specs.Marks.{marks_of}
 use Rattle.judge.proofs.Records.{scanned_unread, scanned_forbidden, scanned_passes}
 use Rattle.judge.proofs.run.judge_record.Goals as goal
 
@@ -19,41 +17,23 @@ returns-in_default c =
     rw (c.later_refusal.ensures, number)
     (scanned_unread args.trace.now args.version args.threads args.locations (event_at args.t.row)
     args.t
-    args.tables.now (marks_of args.marks.now args.flags.now) args.work.now c.requires c.in_default.field-0
+    args.tables.now args.marks.now args.work.now c.requires c.in_default.field-0
     (sym c.in_default.is ∙ c.scan_at-d.ensures))
-
-pub step-s-requires : goal.step-s-requires
-step-s-requires c =
-    let args = c.args in
-    sim_fits (events args.trace.now) (event_at args.t.row) _ args.t.row args.tables.now args.work.now
-    c.requires.state
 
 pub returns-then-s-ne0 : goal.returns-then-s-ne0
 returns-then-s-ne0 c =
     let args = c.args in
     scanned_forbidden args.trace.now args.version args.threads args.locations (event_at args.t.row)
     args.t
-    args.tables.now (marks_of args.marks.now args.flags.now) args.work.now c.requires c.in-Record.e
+    args.tables.now args.marks.now args.work.now c.requires c.in-Record.e
     (sym c.in-Record.is ∙ c.scan_at-d.ensures) c.step-s.result _ _ c.step-s.ensures
     (λ none. omega arith) _ _ _
-
-pub judge_event-requires : goal.judge_event-requires
-judge_event-requires c =
-    let state = c.requires.state in (
-      omega (arith, state.numbers.row_is, state.limits.few_events),
-      omega (arith, c.step-s.auto.work, state.rows.room),
-    )
-
-pub overflow_add-result : goal.overflow_add-result
-overflow_add-result c =
-    let state = c.requires.state in
-    omega (arith, state.numbers.row_is, state.limits.few_events)
 
 pub returns : goal.returns
 returns c =
     let args = c.args in
     scanned_passes args.trace.now args.version args.threads args.locations (event_at args.t.row)
     args.t
-    args.tables.now (marks_of args.marks.now args.flags.now) args.work.now c.requires c.in-Record.e
+    args.tables.now args.marks.now args.work.now c.requires c.in-Record.e
     (sym c.in-Record.is ∙ c.scan_at-d.ensures) c.step-s.result _ _ c.step-s.ensures
     (omega (arith, c.if-s-ne0.false)) _ (c.judge_event.ensures (events args.trace.now))

@@ -11,7 +11,7 @@ use Rattle.area.specs.Cells.{event_at}
 use Rattle.model.specs.declared.Verdict.{Verdict}
 use Rattle.model.specs.Reading.{begun_reading}
 use Rattle.model.specs.Judge.{reading_cut}
-use Rattle.marks.specs.Marks.{Marks, marks_of}
+use Rattle.marks.specs.declared.cells.Marks.{Marks}
 use Rattle.judge.specs.declared.run.Cursor.{Cursor}
 use Rattle.judge.specs.declared.run.Next.{Next}
 use Rattle.judge.specs.declared.run.Next.TheVariants.{On, Ended}
@@ -78,7 +78,7 @@ loop-next-init c =
       same_size = refl;
       size = size;
       as_lent = refl;
-      reached = rw c.start-t.ensures (c.begin-b.ensures.passes (omega arith) _ (omega (arith, size)));
+      reached = rw (c.start-t.ensures, c.new-marks.ensures) (c.begin-b.ensures.passes (omega arith) _ (omega (arith, size)));
     }
 
 pub slice_bounds-judge_record-end : goal.slice_bounds-judge_record-end
@@ -146,7 +146,7 @@ loop-next-smaller c =
     let b = c.begin-b.result in
     let bytes : List ℕ = c.args.trace.now in
     less_left bytes b.version b.threads b.locations (event_at here.t.row) here.t here.tables
-    (marks_of here.marks here.flags) here.work here.invariant.reached c.in-On.next _ _ _
+    here.marks here.work here.invariant.reached c.in-On.next _ _ _
     (went_on bytes b.version b.threads b.locations (event_at here.t.row) _ _ _ _
     c.judge_record-r.ensures
     c.in-On.next c.in-On.is)

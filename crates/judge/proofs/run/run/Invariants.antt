@@ -6,7 +6,7 @@ use mathlib.Core.List.{List}
 use Prim.Native.Nat.{ℕ, ◌-◌}
 use lib.ListN.{length}
 use Rattle.area.specs.Cells.{event_at}
-use Rattle.marks.specs.Marks.{Marks, marks_of}
+use Rattle.marks.specs.declared.cells.Marks.{Marks}
 use Rattle.judge.specs.declared.run.Begun.{Begun}
 use Rattle.judge.specs.declared.run.Cursor.{Cursor}
 use Rattle.judge.specs.Runs.{Reached}
@@ -22,7 +22,7 @@ pub record Going
 
 abbrev pub invariant-loop-next : goal.invariant-loop-next
 invariant-loop-next l =
-    Going l.trace l.b l.initial.work l.initial.cut l.work l.cut l.tables (marks_of l.marks l.flags) l.t
+    Going l.trace l.b l.initial.work l.initial.cut l.work l.cut l.tables l.marks l.t
 
 abbrev pub decreases-loop-next : goal.decreases-loop-next
 decreases-loop-next l = length l.trace - l.t.at
