@@ -2,7 +2,7 @@
 -- the machine has events, and the marks give the verdict and the cut buffer; and the rows of two stores say how these
 -- stand.
 use mathlib.Core.Path.{◌≡◌, refl, sym, ap, ◌∙◌, subst}
-use mathlib.Core.Bool.{Bool, true, false}
+use mathlib.Core.Bool.{Bool, true, false, ◌&&◌}
 use mathlib.Core.Logic.{◌⊎◌, inl, inr, ◌≢◌}
 use mathlib.Core.List.{List}
 use Prim.Native.Nat.{ℕ, ◌-◌, ◌≤◌, ◌<◌}
@@ -10,12 +10,13 @@ use native.Mathlib.Omega.{arith}
 use borrow.Author.Tests.{eq-eqb, ne_eqb}
 use lib.ListN.{length, replicate}
 use lib.Dec.{eqb}
+use Rattle.std.specs.Prelude.{Result, Ok, Err}
 use Rattle.record.specs.Tests.{◌gives◌else◌}
 use Rattle.record.proofs.Frames.{clash}
 use Rattle.model.specs.declared.Kind.TheVariants.{Flush, Impossible}
-use Rattle.model.specs.declared.Order.TheVariants as order
 use Rattle.model.specs.declared.Verdict.{Verdict}
-use Rattle.model.specs.declared.Verdict.TheVariants.{Refused, Robust, Broken}
+use Rattle.model.specs.declared.Verdict.TheVariants.{Robust, Broken}
+use Rattle.model.specs.declared.Refusal.{Refusal}
 use Rattle.model.specs.Answers as answers
 use Rattle.model.specs.Rules.{Accepted}
 use Rattle.model.specs.Trace.{thread, line}
@@ -75,7 +76,7 @@ records_in (turned_away k e) = 0
 
 module _ (bytes : List ℕ) where
   -- what is answered, and what becomes of the cut buffer
-  abbrev pub AnsweredWithCut : Verdict → List ℕ → List ℕ → Type 0
+  abbrev pub AnsweredWithCut : Result Verdict Refusal → List ℕ → List ℕ → Type 0
   AnsweredWithCut v cut cut' =
       (answers.verdict_answer v ≡ reading_answer bytes (begun_reading bytes))
       × (cut' ≡ reading_cut bytes cut (begun_reading bytes))
@@ -83,11 +84,11 @@ module _ (bytes : List ℕ) where
   -- ---- a record that is turned away
 
   module _ (k e : ℕ) (away : begun_reading bytes ≡ turned_away k e) where
-    pub refused_with_cut : (cut : List ℕ) → AnsweredWithCut (Refused k e) cut cut
+    pub refused_with_cut : (cut : List ℕ) → AnsweredWithCut (Err (record { number = k; event = e })) cut cut
     refused_with_cut cut = (rw away refl, rw away refl)
 
     -- such a trace is not accepted
-    pub refused_answers : (work : List ℕ) → AnswersAsDefined bytes (Refused k e) work
+    pub refused_answers : (work : List ℕ) → AnswersAsDefined bytes (Err (record { number = k; event = e })) work
     refused_answers work = record { answer = rw away refl; rows = λ N whole. absurd (clash cc) }
 
   -- ---- all records of an accepted trace
@@ -106,7 +107,7 @@ module _ (bytes : List ℕ) where
 
     -- the rows after a run that answers v
     rows_there :
-        (v : Verdict) → answers.verdict_answer v ≡ reading_answer bytes (begun_reading bytes)
+        (v : Result Verdict Refusal) → answers.verdict_answer v ≡ reading_answer bytes (begun_reading bytes)
         → AnswersAsDefined bytes v work
     rows_there v answer_is = record {
       answer = answer_is;
@@ -164,7 +165,6 @@ module _ (bytes : List ℕ) where
       cut' = cut_from end_at m.counts cut
 
       broken_with_cut : load ≢ 0 → AnsweredWithCut (verdict_after bytes end_at tables m work) cut cut'
-      unfolding verdict_after cut_from evidence_at
       broken_with_cut some_load =
           let some = ne_eqb load 0 some_load in
           let early = all.loads.early some_load in
@@ -175,7 +175,6 @@ module _ (bytes : List ℕ) where
           )
 
       robust_with_cut : load ≡ 0 → AnsweredWithCut (verdict_after bytes end_at tables m work) cut cut'
-      unfolding verdict_after cut_from
       robust_with_cut none_found =
           let none = eq-eqb load 0 none_found in
           let end = unbroken_robust (events bytes) N m whole (all.loads.none_yet none_found) in
@@ -206,11 +205,10 @@ module _ (bytes : List ℕ) where
       abbrev end_by : End
       end_by = record { number = k; event = n }
 
-      abbrev Over : Verdict → List ℕ → Type 0
+      abbrev Over : Result Verdict Refusal → List ℕ → Type 0
       Over v cut' = AnsweredWithCut v cut cut' × AnswersAsDefined bytes v work
 
       over : (k ≡ 1) ⊎ (k ≢ 1) → Over (verdict_after bytes end_by tables m work) (cut_from end_by m.counts cut)
-      unfolding verdict_after cut_from
       over (inl is_1) =
           let all = stopped.all_read is_1 in
           rw is_1 (
@@ -230,7 +228,8 @@ module _ (bytes : List ℕ) where
 
   -- ---- the order query
 
-  module _ (v : Verdict) (work : List ℕ) (answers_it : AnswersAsDefined bytes v work) (p q : ℕ) where
+  module _
+      (v : Result Verdict Refusal) (work : List ℕ) (answers_it : AnswersAsDefined bytes v work) (p q : ℕ) where
     -- of an accepted trace of N records: 16, or what the rows say
     module _ (N : ℕ) (is : begun_reading bytes ≡ accepted N) where
       there : (w : World) × ((w.work ≡ work) × Sim (events bytes) N w)
@@ -239,7 +238,7 @@ module _ (bytes : List ℕ) where
       by_stores :
           (p_store q_store : Bool) → store? (events bytes) N p ≡ p_store → store? (events bytes) N q ≡ q_store
           → answers.order_answer
-          (p_store gives (q_store gives order_w work p q else order.Refused 16 0) else order.Refused 16 0)
+          ((p_store && q_store) gives Ok (order_w work p q) else Err (record { number = 16; event = 0 }))
           ≡ standing (events bytes) N p q
       by_stores true true is_p is_q =
           let (w, (same, sim)) = there in
@@ -250,7 +249,6 @@ module _ (bytes : List ℕ) where
       stands :
           (count : ℕ) → count ≡ N - 1
           → answers.order_answer (stand_by count work p q) ≡ standing (events bytes) N p q
-      unfolding stand_by
       stands count is_count =
           let (w, (same, sim)) = there in
           let stores : (i : ℕ) → store_w work (N - 1) i ≡ store? (events bytes) N i =
@@ -268,22 +266,22 @@ module _ (bytes : List ℕ) where
     ruled_events N (broken l m o) = refl
 
     accepted_standing :
-        (N : ℕ) → begun_reading bytes ≡ accepted N → (u : Verdict)
+        (N : ℕ) → begun_reading bytes ≡ accepted N → (u : Result Verdict Refusal)
         → answers.verdict_answer u ≡ reading_answer bytes (accepted N)
         → answers.order_answer (standing_after u work p q) ≡ standing (events bytes) N p q
-    accepted_standing N is (Refused k e) answer_is =
+    accepted_standing N is (Err r) answer_is =
         false_true (sym (ruled N (ruling_of (events bytes) N)) ∙ sym (ap refused? answer_is))
-    accepted_standing N is (Robust count share) answer_is =
+    accepted_standing N is (Ok (Robust count share)) answer_is =
         stands N is count (ap events_in answer_is ∙ ruled_events N (ruling_of (events bytes) N))
-    accepted_standing N is (Broken count load missing observed kind) answer_is =
+    accepted_standing N is (Ok (Broken count l missing observed kind)) answer_is =
         stands N is count (ap events_in answer_is ∙ ruled_events N (ruling_of (events bytes) N))
 
     refused_standing :
-        (k e : ℕ) (u : Verdict) → answers.verdict_answer u ≡ answers.refused k e
+        (k e : ℕ) (u : Result Verdict Refusal) → answers.verdict_answer u ≡ answers.refused k e
         → answers.order_answer (standing_after u work p q) ≡ answers.refused k e
-    refused_standing k e (Refused number event) answer_is = ap refusal_standing answer_is
-    refused_standing k e (Robust count share) answer_is = false_true (ap refused? answer_is)
-    refused_standing k e (Broken count load missing observed kind) answer_is = false_true (ap refused? answer_is)
+    refused_standing k e (Err r) answer_is = ap refusal_standing answer_is
+    refused_standing k e (Ok (Robust count share)) answer_is = false_true (ap refused? answer_is)
+    refused_standing k e (Ok (Broken count l missing observed kind)) answer_is = false_true (ap refused? answer_is)
 
     -- THE ANSWER AFTER A RUN IS THE DEFINITIONS'
     pub standing_is : answers.order_answer (standing_after v work p q) ≡ reading_standing bytes p q (begun_reading bytes)

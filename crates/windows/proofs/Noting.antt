@@ -197,7 +197,8 @@ module _
     pub shown_store : {found : List Ends} → Shown ev p q n n found → Shown ev p q n (suc n) (noted_store work q found n)
     unfolding last_shown last
     shown_store {found} shown =
-        last_noted ev p q shown i n (omega arith) (omega arith) (ends_w work q found n i) (λ t. comes t (issue_or_not ev n))
+        last_noted ev p q shown i n (omega arith) (omega arith) (ends_w work q found n i)
+        (λ t. comes t (issue_or_not ev n))
       where
         comes :
             (t : ℕ) → Issue ev n ⊎ (issue? ev n ≡ false)
@@ -270,7 +271,8 @@ module _
               both _ _ (le-leb _ _ late) (covers_source late meets ∙ covered)
 
       pub shown_source :
-          {m : ℕ} {found : List Ends} → Shown ev p q n m found → Shown ev p q (suc n) m (noted_source work p found n T s)
+          {m : ℕ} {found : List Ends} → Shown ev p q n m found
+          → Shown ev p q (suc n) m (noted_source work p found n T s)
       shown_source {m} {found} shown =
           rw (
             mod-eq_of_lt t_below,

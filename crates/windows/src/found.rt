@@ -1,27 +1,18 @@
 // What the records so far say of each thread. A thread is found by a remainder, so every number has a place.
 ghost use Rattle.std.specs.Prelude.{◌≡◌, map};
-ghost use Rattle.windows.specs.Finding.{no_ends, window_in, noted_missing, noted_store, noted_source};
+ghost use Rattle.windows.specs.Finding.{window_in, noted_missing, noted_store, noted_source};
 
 use model::Window;
 
 // A thread's first place, and the last store behind it that is the observed one or happens before it, as far as they
 // are found.
-#[derive(Clone, Copy)]
+#[derive(Clone, Copy, Default)]
 pub struct Ends {
     pub first: Option<u16>,
     pub last: Option<u16>,
 }
 
 impl Ends {
-    fn none() -> Ends
-        ensures { result ≡ no_ends }
-    {
-        Ends {
-            first: None,
-            last: None,
-        }
-    }
-
     fn window(self) -> Option<Window>
         ensures { result ≡ window_in self }
     {
@@ -43,7 +34,7 @@ impl Found {
     pub(crate) fn behind_missing(t: u16, p: u16) -> Found
         ensures { result.threads ≡ noted_missing t p }
     {
-        let mut threads = [Ends::none(); 8];
+        let mut threads = [Ends::default(); 8];
         threads[usize::from(t % 8)].first = Some(area::numbers::next_number(p));
         Found { threads }
     }

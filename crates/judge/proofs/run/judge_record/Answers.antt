@@ -22,12 +22,6 @@ returns-in_default c =
     args.tables.now (marks_of args.marks.now args.flags.now) args.work.now c.requires c.in_default.field-0
     (sym c.in_default.is ∙ c.scan_at-d.ensures))
 
-pub step-s-requires : goal.step-s-requires
-step-s-requires c =
-    let args = c.args in
-    sim_fits (events args.trace.now) (event_at args.t.row) _ args.t.row args.tables.now args.work.now
-    c.requires.state
-
 pub returns-then-s-ne0 : goal.returns-then-s-ne0
 returns-then-s-ne0 c =
     let args = c.args in
@@ -36,18 +30,6 @@ returns-then-s-ne0 c =
     args.tables.now (marks_of args.marks.now args.flags.now) args.work.now c.requires c.in-Record.e
     (sym c.in-Record.is ∙ c.scan_at-d.ensures) c.step-s.result _ _ c.step-s.ensures
     (λ none. omega arith) _ _ _
-
-pub judge_event-requires : goal.judge_event-requires
-judge_event-requires c =
-    let state = c.requires.state in (
-      omega (arith, state.numbers.row_is, state.limits.few_events),
-      omega (arith, c.step-s.auto.work, state.rows.room),
-    )
-
-pub overflow_add-result : goal.overflow_add-result
-overflow_add-result c =
-    let state = c.requires.state in
-    omega (arith, state.numbers.row_is, state.limits.few_events)
 
 pub returns : goal.returns
 returns c =

@@ -1,7 +1,7 @@
 -- Each call of the closure answers the window of its ends.
 use Rattle.std.proofs.Common.{rules, arith}
 use Rattle.windows.specs.Finding.{no_ends, window_in}
-use Rattle.windows.proofs.Mapped.{is_map}
+use Rattle.model.proofs.Mapped.{is_map}
 use Rattle.windows.proofs.found.Found.windows.Goals as goal
 
 pub returns : goal.returns
