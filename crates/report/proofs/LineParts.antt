@@ -6,11 +6,10 @@ use native.Mathlib.Numerals.{add-one}
 use mathlib.Core.Path.{◌≡◌, sym, ap}
 use mathlib.Core.List.{List, [], ◌∷◌, ◌++◌, append_assoc, append-nil}
 use lib.ListN.{length, get_or, get_or-eq_default}
-use Rattle.model.specs.Answers.{tabulate, kind_answer, verdict_answer}
+use Rattle.model.specs.Answers.{tabulate, kind_answer}
 use Rattle.model.specs.declared.Kind.{Kind}
-use Rattle.model.specs.declared.Verdict.{Verdict}
 use Rattle.report.specs.Decimal.{digits}
-use Rattle.report.specs.Lines.{ascii, spaced, line, count_at, counts_of, cut_line, cut_lines, kind_text, lines_of}
+use Rattle.report.specs.Lines.{ascii, spaced, line, count_at, counts_of, cut_line, cut_lines, kind_text}
 use Rattle.report.specs.Page.{Added}
 use Rattle.report.proofs.Pages.{nothing_added, added_as}
 
@@ -88,7 +87,7 @@ count_is cut j t = let place : 8 * (j + 1 - 1) + t ≡ 8 * j + t = omega arith i
 pub count_past_end : (cut : List ℕ) (j t : ℕ) → length cut ≤ 8 * j + t → 0 ≡ count_at cut (j + 1) t
 count_past_end cut j t past = rw (← count_is cut j t) (sym (get_or-eq_default cut 0 past))
 
--- ---- the code's enums: what is put for a value that is known is put for the one that equals it
+-- ---- the code's kind: what is put for a value that is known is put for the one that equals it
 
 pub kind_line_of :
     {out after : List ℕ} {at m end : ℕ} {k q : Kind} → k ≡ q
@@ -96,10 +95,3 @@ pub kind_line_of :
     → Added out at (line (ascii (kind_text (kind_answer k))) []) 19 after end
 kind_line_of is added few =
     added_as _ 19 added (ap (λ (k : Kind). line (ascii (kind_text (kind_answer k))) []) (sym is)) few
-
-pub lines_of_lem :
-    {out after : List ℕ} {at m end : ℕ} {v w : Verdict} (n f : ℕ) (cut : List ℕ) → v ≡ w
-    → Added out at (lines_of (verdict_answer w) n f cut) m after end → m ≤ 446
-    → Added out at (lines_of (verdict_answer v) n f cut) 446 after end
-lines_of_lem n f cut is added few =
-    added_as _ 446 added (ap (λ (v : Verdict). lines_of (verdict_answer v) n f cut) (sym is)) few

@@ -7,7 +7,7 @@ ghost use Rattle.report.specs.Lines.{printed, Front};
 ghost use Rattle.report.specs.Page.{Added};
 
 use crate::page::{field, put, text};
-use model::{Kind, Verdict};
+use model::{Kind, Refusal, Verdict};
 
 const NEWLINE: u8 = 10;
 
@@ -146,23 +146,29 @@ fn broken_lines(
     kind_line(out, end, kind)
 }
 
-// The lines of a verdict.
-fn lines(out: &mut [u8], v: Verdict, threads: u16, finished: u16, cut: &[u16]) -> usize
+// The lines of a verdict, or of a refusal.
+fn lines(
+    out: &mut [u8],
+    v: Result<Verdict, Refusal>,
+    threads: u16,
+    finished: u16,
+    cut: &[u16],
+) -> usize
     ensures { Added out.old 0
         (lines_of (verdict_answer v) threads finished cut.now) 446 out.new result }
 {
     match v {
-        Verdict::Refused { number, event } => refused_line(out, number, event),
-        Verdict::Robust { events, share } => robust_lines(
+        Ok(Verdict::Robust { events, share }) => robust_lines(
             out, events, share, threads, finished, cut,
         ),
-        Verdict::Broken {
+        Ok(Verdict::Broken {
             events,
             load,
             missing,
             observed,
             kind,
-        } => broken_lines(out, events, load, missing, observed, kind),
+        }) => broken_lines(out, events, load, missing, observed, kind),
+        Err(refusal) => refused_line(out, refusal.number, refusal.event),
     }
 }
 
@@ -170,7 +176,13 @@ fn lines(out: &mut [u8], v: Verdict, threads: u16, finished: u16, cut: &[u16]) -
 // are, and leaves the rest of `out` as lent: 1,024 bytes are always enough. A robust trace has the cut lines of
 // `finished` stretches of `threads` threads, with the counts that `cut` has, 0 past its end; more than 8 threads count
 // as 8, and more than 7 finished stretches as 7. By `front` a caller can take `&out[..n]`.
-pub fn report(v: Verdict, threads: u16, finished: u16, cut: &[u16], out: &mut [u8; 1024]) -> usize
+pub fn report(
+    v: Result<Verdict, Refusal>,
+    threads: u16,
+    finished: u16,
+    cut: &[u16],
+    out: &mut [u8; 1024],
+) -> usize
     ensures size { result ≡ length (lines_of (verdict_answer v) threads finished cut.now) }
     ensures bytes { out.new ≡
         printed (lines_of (verdict_answer v) threads finished cut.now) out.old }
