@@ -61,13 +61,15 @@ pub(crate) fn verdict_numbers(v: Result<Verdict, Refusal>) -> [u16; 26]
             numbers[4] = share;
             numbers
         }
-        Ok(Verdict::Broken {
-            events,
-            load,
-            missing,
-            observed,
-            kind,
-        }) => broken_numbers(events, load, missing, observed, kind),
+        Ok(
+            Verdict::Broken {
+                events,
+                load,
+                missing,
+                observed,
+                kind,
+            },
+        ) => broken_numbers(events, load, missing, observed, kind),
         Err(refusal) => {
             numbers[0] = refusal.number;
             numbers[1] = refusal.event;

@@ -27,7 +27,7 @@ use Rattle.model.specs.Verdict.{ruling_of}
 use Rattle.model.specs.Windows.{window_of}
 use Rattle.model.specs.Reading.{Reading, accepted, turned_away, events, begun_reading}
 use Rattle.model.specs.Judge.{ruled_answer, reading_answer, reading_cut, store?, standing, reading_standing}
-use Rattle.model.proofs.Searching.{false_true, same?}
+use Rattle.model.proofs.Searching.{same?}
 use Rattle.model.proofs.Ordering.{before_lt, at_or_before_le}
 use Rattle.model.proofs.Exactness.{exact, named_missing, named_observed}
 use Rattle.model.proofs.NoBytes.{begun_away, begun_accepted_exactly}
@@ -45,29 +45,12 @@ use Rattle.windows.specs.Finding.{windows_by}
 use Rattle.windows.proofs.Answered.{flush_answered}
 use Rattle.judge.specs.declared.verdict.End.{End}
 use Rattle.judge.specs.Runs.{world_of, AllRead, Stopped, AnswersAsDefined}
-use Rattle.judge.specs.Judging.{evidence_at}
 use Rattle.judge.specs.Standings.{stand_by, standing_after}
 use Rattle.judge.specs.Verdicts.{kind_by, verdict_after, cut_from}
 
 -- numbers that were all cleared, as many as were lent
 pub all_cleared : (l : List ℕ) (m n : ℕ) → l ≡ replicate m 0 → m ≡ n → l ≡ replicate n 0
 all_cleared l m n cleared size = cleared ∙ ap (λ (i : ℕ). replicate i 0) size
-
--- of an answer: whether it is a refusal, how that reads of a query, and the events after the begin otherwise
-abbrev refused? : answers.Answer → Bool
-refused? (answers.refused k e) = true
-refused? (answers.robust events share) = false
-refused? (answers.broken events load missing observed kind) = false
-
-abbrev refusal_standing : answers.Answer → answers.Standing
-refusal_standing (answers.refused k e) = answers.refused k e
-refusal_standing (answers.robust events share) = answers.neither
-refusal_standing (answers.broken events load missing observed kind) = answers.neither
-
-abbrev events_in : answers.Answer → ℕ
-events_in (answers.refused k e) = 0
-events_in (answers.robust events share) = events
-events_in (answers.broken events load missing observed kind) = events
 
 -- the number of records that a reading is accepted with
 abbrev records_in : Reading → ℕ
@@ -257,34 +240,43 @@ module _ (bytes : List ℕ) where
           rw is_count
           (by_stores (store_w work (N - 1) p) (store_w work (N - 1) q) (sym (stores p)) (sym (stores q)))
 
-    ruled : (N : ℕ) (r : Ruling) → refused? (ruled_answer (events bytes) N r) ≡ false
-    ruled N (robust c) = refl
-    ruled N (broken l m o) = refl
+    -- an accepted trace of N records is not refused, and what is answered has N - 1 events
+    never_refused : (N : ℕ) (r : Ruling) {k e : ℕ} → answers.refused k e ≡ ruled_answer (events bytes) N r → ⊥
+    never_refused N (robust c) is = cc
+    never_refused N (broken l m o) is = cc
 
-    ruled_events : (N : ℕ) (r : Ruling) → events_in (ruled_answer (events bytes) N r) ≡ N - 1
-    ruled_events N (robust c) = refl
-    ruled_events N (broken l m o) = refl
+    robust_events :
+        (N : ℕ) (r : Ruling) {count share : ℕ} → answers.robust count share ≡ ruled_answer (events bytes) N r
+        → count ≡ N - 1
+    robust_events N (robust c) is = cc
+    robust_events N (broken l m o) is = cc
+
+    broken_events :
+        (N : ℕ) (r : Ruling) {count l m o : ℕ} {fault : answers.Fault}
+        → answers.broken count l m o fault ≡ ruled_answer (events bytes) N r → count ≡ N - 1
+    broken_events N (robust c) is = cc
+    broken_events N (broken l m o) is = cc
 
     accepted_standing :
         (N : ℕ) → begun_reading bytes ≡ accepted N → (u : Result Verdict Refusal)
         → answers.verdict_answer u ≡ reading_answer bytes (accepted N)
         → answers.order_answer (standing_after u work p q) ≡ standing (events bytes) N p q
-    accepted_standing N is (Err r) answer_is =
-        false_true (sym (ruled N (ruling_of (events bytes) N)) ∙ sym (ap refused? answer_is))
     accepted_standing N is (Ok (Robust count share)) answer_is =
-        stands N is count (ap events_in answer_is ∙ ruled_events N (ruling_of (events bytes) N))
+        stands N is count (robust_events N (ruling_of (events bytes) N) answer_is)
     accepted_standing N is (Ok (Broken count l missing observed kind)) answer_is =
-        stands N is count (ap events_in answer_is ∙ ruled_events N (ruling_of (events bytes) N))
+        stands N is count (broken_events N (ruling_of (events bytes) N) answer_is)
+    accepted_standing N is (Err r) answer_is = absurd (never_refused N (ruling_of (events bytes) N) answer_is)
 
     refused_standing :
         (k e : ℕ) (u : Result Verdict Refusal) → answers.verdict_answer u ≡ answers.refused k e
         → answers.order_answer (standing_after u work p q) ≡ answers.refused k e
-    refused_standing k e (Err r) answer_is = ap refusal_standing answer_is
-    refused_standing k e (Ok (Robust count share)) answer_is = false_true (ap refused? answer_is)
-    refused_standing k e (Ok (Broken count l missing observed kind)) answer_is = false_true (ap refused? answer_is)
+    refused_standing k e (Ok (Robust count share)) answer_is = cc
+    refused_standing k e (Ok (Broken count l missing observed kind)) answer_is = cc
+    refused_standing k e (Err r) answer_is = cc
 
     -- THE ANSWER AFTER A RUN IS THE DEFINITIONS'
-    pub standing_is : answers.order_answer (standing_after v work p q) ≡ reading_standing bytes p q (begun_reading bytes)
+    pub standing_is :
+        answers.order_answer (standing_after v work p q) ≡ reading_standing bytes p q (begun_reading bytes)
     standing_is = by_reading (begun_reading bytes) refl answers_it.answer
       where
         by_reading :

@@ -161,13 +161,15 @@ fn lines(
         Ok(Verdict::Robust { events, share }) => robust_lines(
             out, events, share, threads, finished, cut,
         ),
-        Ok(Verdict::Broken {
-            events,
-            load,
-            missing,
-            observed,
-            kind,
-        }) => broken_lines(out, events, load, missing, observed, kind),
+        Ok(
+            Verdict::Broken {
+                events,
+                load,
+                missing,
+                observed,
+                kind,
+            },
+        ) => broken_lines(out, events, load, missing, observed, kind),
         Err(refusal) => refused_line(out, refusal.number, refusal.event),
     }
 }

@@ -5,7 +5,6 @@ use native.Mathlib.Omega.{arith}
 use Rattle.record.specs.Answers.{refusal_of}
 use Rattle.area.specs.Cells.{event_at}
 use Rattle.model.specs.Reading.{events}
-use Rattle.machine.proofs.Fits.{sim_fits}
 use Rattle.marks.specs.Marks.{marks_of}
 use Rattle.judge.proofs.Records.{scanned_unread, scanned_forbidden, scanned_passes}
 use Rattle.judge.proofs.run.judge_record.Goals as goal

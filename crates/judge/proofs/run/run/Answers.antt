@@ -1,8 +1,8 @@
 -- `run` meets its contract: each round of the loop takes the run on by a record, and less is left after it; where a
 -- record ends the run, what is answered is what the definitions say (proofs/Endings.antt).
-use mathlib.Core.Path.{◌≡◌, refl, ap, ◌∙◌, subst}
+use mathlib.Core.Path.{◌≡◌, refl, ap, ◌∙◌}
 use mathlib.Core.List.{List}
-use Prim.Native.Nat.{ℕ, suc}
+use Prim.Native.Nat.{ℕ}
 use native.Mathlib.Omega.{arith}
 use lib.ListN.{length}
 use Rattle.std.specs.Prelude.{Result}
@@ -12,25 +12,12 @@ use Rattle.model.specs.declared.Verdict.{Verdict}
 use Rattle.model.specs.Reading.{begun_reading}
 use Rattle.model.specs.Judge.{reading_cut}
 use Rattle.marks.specs.Marks.{Marks, marks_of}
-use Rattle.judge.specs.declared.run.Cursor.{Cursor}
-use Rattle.judge.specs.declared.run.Next.{Next}
-use Rattle.judge.specs.declared.run.Next.TheVariants.{On, Ended}
 use Rattle.judge.specs.declared.verdict.End.{End}
-use Rattle.judge.specs.Runs.{number_in, Reached, Stopped, After, AnswersAsDefined}
+use Rattle.judge.specs.Runs.{number_in, Stopped, AnswersAsDefined}
 use Rattle.judge.specs.Verdicts.{verdict_after, cut_from}
 use Rattle.judge.proofs.Records.{reached_here, less_left}
 use Rattle.judge.proofs.Endings.{refused_with_cut, refused_answers, stopped_with_cut, stopped_answers}
 use Rattle.judge.proofs.run.run.Goals as goal
-
--- what a record led to
-module _
-    (bytes : List ℕ) (version threads locations n : ℕ) (r : Next) (tables : List ℕ) (m : Marks) (work : List ℕ)
-    (after : After bytes version threads locations n r tables m work) where
-  went_on : (t : Cursor) → r ≡ On t → Reached bytes version threads locations (suc n) t tables m work
-  went_on t is = subst (λ (x : Next). After bytes version threads locations n x tables m work) is after
-
-  ended_by : (k : ℕ) → r ≡ Ended k → Stopped bytes version threads locations n k tables m work
-  ended_by k is = subst (λ (x : Next). After bytes version threads locations n x tables m work) is after
 
 -- what is answered where the run is over before record n, by number k
 answered :
@@ -70,11 +57,7 @@ returns-in_default c =
     let here = c.loop-next in
     let b = c.begin-b.result in
     let bytes : List ℕ = c.args.trace.now in
-    let stopped =
-    ended_by bytes b.version b.threads b.locations (event_at here.t.row) _ _ _ _
-    c.judge_record-r.ensures
-    c.in_default.field-0 c.in_default.is
-    in
+    let stopped = rw c.in_default.is at c.judge_record-r.ensures in
     let number = c.number_in.ensures ∙ ap number_in c.in_default.is in
     let told = answered bytes b.version b.threads b.locations _ _ _ _ _ c.args.cut.now _ _ _ _ stopped (omega arith)
     here.invariant.as_lent (rw (number, c.event_at.ensures) refl)
@@ -88,9 +71,7 @@ loop-next-smaller c =
     let bytes : List ℕ = c.args.trace.now in
     less_left bytes b.version b.threads b.locations (event_at here.t.row) here.t here.tables
     (marks_of here.marks here.flags) here.work here.invariant.reached c.in-On.next _ _ _
-    (went_on bytes b.version b.threads b.locations (event_at here.t.row) _ _ _ _
-    c.judge_record-r.ensures
-    c.in-On.next c.in-On.is)
+    (rw c.in-On.is at c.judge_record-r.ensures)
 
 pub loop-next-preserved : goal.loop-next-preserved
 loop-next-preserved c =
@@ -100,7 +81,5 @@ loop-next-preserved c =
     record {
       as_lent = here.invariant.as_lent;
       reached = reached_here bytes b.version b.threads b.locations _ c.in-On.next _ _ _
-          (went_on bytes b.version b.threads b.locations (event_at here.t.row) _ _ _ _
-          c.judge_record-r.ensures
-          c.in-On.next c.in-On.is);
+          (rw c.in-On.is at c.judge_record-r.ensures);
     }
