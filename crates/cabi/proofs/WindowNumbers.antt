@@ -1,37 +1,23 @@
--- The numbers of a window are the fields of its struct: where both are 0 it is none, whose numbers are 0 and 0.
-use Rattle.std.proofs.Common.{◌≡◌, ℕ, zero, suc, cond, ◌&&◌, eqb, [], ◌∷◌, refl}
-use lib.Dec.{eqb-suc-zero}
-use Rattle.model.specs.Windows.{none, between}
+-- The numbers of windows are the fields of their structs, one window after the other; of none 0 and 0.
+use Rattle.std.proofs.Common.{◌≡◌, ℕ, List, [], ◌∷◌, map, flat_map, Option, Some, None, refl}
 use Rattle.model.specs.declared.Window.{Window}
 use Rattle.model.specs.declared.Windows.{Windows}
 use Rattle.model.specs.Answers.{window_answer, windows_answer}
 use Rattle.cabi.specs.Answers.{window_numbers, windows_numbers}
 
-numbers_are :
-    (first last : ℕ)
-    → window_numbers (cond (eqb first 0 && eqb last 0) none (between first last)) ≡ first ∷ last ∷ []
-numbers_are zero zero = refl
-numbers_are zero (suc n) = rw (eqb-suc-zero n) refl
-numbers_are (suc n) m = rw (eqb-suc-zero n) refl
+abbrev pub fields_of : Option Window → List ℕ
+fields_of None = 0 ∷ 0 ∷ []
+fields_of (Some w) = w.first ∷ w.last ∷ []
 
-window_numbers_lem : (w : Window) → window_numbers (window_answer w) ≡ w.first ∷ w.last ∷ []
-window_numbers_lem w = numbers_are w.first w.last
+pub window_numbers_lem : (w : Option Window) → window_numbers (window_answer w) ≡ fields_of w
+window_numbers_lem None = refl
+window_numbers_lem (Some w) = refl
+
+one_after_other :
+    (ws : List (Option Window)) → windows_numbers (map window_answer ws) ≡ flat_map (λ x. x) (map fields_of ws)
+one_after_other [] = refl
+one_after_other (w ∷ ws) = rw (window_numbers_lem w, one_after_other ws) refl
 
 pub windows_numbers_lem :
-    (w : Windows) → windows_numbers (windows_answer w)
-    ≡ w.thread0.first ∷ w.thread0.last ∷ w.thread1.first ∷ w.thread1.last ∷ w.thread2.first
-    ∷ w.thread2.last ∷ w.thread3.first ∷ w.thread3.last ∷ w.thread4.first ∷ w.thread4.last
-    ∷ w.thread5.first ∷ w.thread5.last ∷ w.thread6.first ∷ w.thread6.last ∷ w.thread7.first
-    ∷ w.thread7.last ∷ []
-windows_numbers_lem w =
-    rw (
-      window_numbers_lem w.thread0,
-      window_numbers_lem w.thread1,
-      window_numbers_lem w.thread2,
-      window_numbers_lem w.thread3,
-      window_numbers_lem w.thread4,
-      window_numbers_lem w.thread5,
-      window_numbers_lem w.thread6,
-      window_numbers_lem w.thread7,
-    )
-    refl
+    (w : Windows) → windows_numbers (windows_answer w) ≡ flat_map (λ x. x) (map fields_of w.threads)
+windows_numbers_lem w = one_after_other w.threads

@@ -2,7 +2,7 @@
 -- the machine has events, and the marks give the verdict and the cut buffer; and the rows of two stores say how these
 -- stand.
 use mathlib.Core.Path.{◌≡◌, refl, sym, ap, ◌∙◌, subst}
-use mathlib.Core.Bool.{Bool, true, false}
+use mathlib.Core.Bool.{Bool, true, false, ◌&&◌}
 use mathlib.Core.Logic.{◌⊎◌, inl, inr, ◌≢◌}
 use mathlib.Core.List.{List}
 use Prim.Native.Nat.{ℕ, ◌-◌, ◌≤◌, ◌<◌}
@@ -10,12 +10,13 @@ use native.Mathlib.Omega.{arith}
 use borrow.Author.Tests.{eq-eqb, ne_eqb}
 use lib.ListN.{length, replicate}
 use lib.Dec.{eqb}
+use Rattle.std.specs.Prelude.{Result, Ok, Err}
 use Rattle.record.specs.Tests.{◌gives◌else◌}
 use Rattle.record.proofs.Frames.{clash}
 use Rattle.model.specs.declared.Kind.TheVariants.{Flush, Impossible}
-use Rattle.model.specs.declared.Order.TheVariants as order
 use Rattle.model.specs.declared.Verdict.{Verdict}
-use Rattle.model.specs.declared.Verdict.TheVariants.{Refused, Robust, Broken}
+use Rattle.model.specs.declared.Verdict.TheVariants.{Robust, Broken}
+use Rattle.model.specs.declared.Refusal.{Refusal}
 use Rattle.model.specs.Answers as answers
 use Rattle.model.specs.Rules.{Accepted}
 use Rattle.model.specs.Trace.{thread, line}
@@ -26,7 +27,7 @@ use Rattle.model.specs.Verdict.{ruling_of}
 use Rattle.model.specs.Windows.{window_of}
 use Rattle.model.specs.Reading.{Reading, accepted, turned_away, events, begun_reading}
 use Rattle.model.specs.Judge.{ruled_answer, reading_answer, reading_cut, store?, standing, reading_standing}
-use Rattle.model.proofs.Searching.{false_true, same?}
+use Rattle.model.proofs.Searching.{same?}
 use Rattle.model.proofs.Ordering.{before_lt, at_or_before_le}
 use Rattle.model.proofs.Exactness.{exact, named_missing, named_observed}
 use Rattle.model.proofs.NoBytes.{begun_away, begun_accepted_exactly}
@@ -45,29 +46,12 @@ use Rattle.windows.specs.Finding.{windows_by}
 use Rattle.windows.proofs.Answered.{flush_answered}
 use Rattle.judge.specs.declared.verdict.End.{End}
 use Rattle.judge.specs.Runs.{world_of, AllRead, Stopped, AnswersAsDefined}
-use Rattle.judge.specs.Judging.{evidence_at}
 use Rattle.judge.specs.Standings.{stand_by, standing_after}
 use Rattle.judge.specs.Verdicts.{kind_by, verdict_after, cut_from}
 
 -- numbers that were all cleared, as many as were lent
 pub all_cleared : (l : List ℕ) (m n : ℕ) → l ≡ replicate m 0 → m ≡ n → l ≡ replicate n 0
 all_cleared l m n cleared size = cleared ∙ ap (λ (i : ℕ). replicate i 0) size
-
--- of an answer: whether it is a refusal, how that reads of a query, and the events after the begin otherwise
-abbrev refused? : answers.Answer → Bool
-refused? (answers.refused k e) = true
-refused? (answers.robust events share) = false
-refused? (answers.broken events load missing observed kind) = false
-
-abbrev refusal_standing : answers.Answer → answers.Standing
-refusal_standing (answers.refused k e) = answers.refused k e
-refusal_standing (answers.robust events share) = answers.neither
-refusal_standing (answers.broken events load missing observed kind) = answers.neither
-
-abbrev events_in : answers.Answer → ℕ
-events_in (answers.refused k e) = 0
-events_in (answers.robust events share) = events
-events_in (answers.broken events load missing observed kind) = events
 
 -- the number of records that a reading is accepted with
 abbrev records_in : Reading → ℕ
@@ -76,7 +60,7 @@ records_in (turned_away k e) = 0
 
 module _ (bytes : List ℕ) where
   -- what is answered, and what becomes of the cut buffer
-  abbrev pub AnsweredWithCut : Verdict → List ℕ → List ℕ → Type 0
+  abbrev pub AnsweredWithCut : Result Verdict Refusal → List ℕ → List ℕ → Type 0
   AnsweredWithCut v cut cut' =
       (answers.verdict_answer v ≡ reading_answer bytes (begun_reading bytes))
       × (cut' ≡ reading_cut bytes cut (begun_reading bytes))
@@ -84,11 +68,11 @@ module _ (bytes : List ℕ) where
   -- ---- a record that is turned away
 
   module _ (k e : ℕ) (away : begun_reading bytes ≡ turned_away k e) where
-    pub refused_with_cut : (cut : List ℕ) → AnsweredWithCut (Refused k e) cut cut
+    pub refused_with_cut : (cut : List ℕ) → AnsweredWithCut (Err (record { number = k; event = e })) cut cut
     refused_with_cut cut = (rw away refl, rw away refl)
 
     -- such a trace is not accepted
-    pub refused_answers : (work : List ℕ) → AnswersAsDefined bytes (Refused k e) work
+    pub refused_answers : (work : List ℕ) → AnswersAsDefined bytes (Err (record { number = k; event = e })) work
     refused_answers work = record { answer = rw away refl; rows = λ N whole. absurd (clash cc) }
 
   -- ---- all records of an accepted trace
@@ -107,7 +91,7 @@ module _ (bytes : List ℕ) where
 
     -- the rows after a run that answers v
     rows_there :
-        (v : Verdict) → answers.verdict_answer v ≡ reading_answer bytes (begun_reading bytes)
+        (v : Result Verdict Refusal) → answers.verdict_answer v ≡ reading_answer bytes (begun_reading bytes)
         → AnswersAsDefined bytes v work
     rows_there v answer_is = record {
       answer = answer_is;
@@ -165,7 +149,6 @@ module _ (bytes : List ℕ) where
       cut' = cut_from end_at m.counts cut
 
       broken_with_cut : load ≢ 0 → AnsweredWithCut (verdict_after bytes end_at tables m work) cut cut'
-      unfolding verdict_after cut_from evidence_at
       broken_with_cut some_load =
           let some = ne_eqb load 0 some_load in
           let early = all.loads.early some_load in
@@ -176,7 +159,6 @@ module _ (bytes : List ℕ) where
           )
 
       robust_with_cut : load ≡ 0 → AnsweredWithCut (verdict_after bytes end_at tables m work) cut cut'
-      unfolding verdict_after cut_from
       robust_with_cut none_found =
           let none = eq-eqb load 0 none_found in
           let end = unbroken_robust (events bytes) N m whole (all.loads.none_yet none_found) in
@@ -207,11 +189,10 @@ module _ (bytes : List ℕ) where
       abbrev end_by : End
       end_by = record { number = k; event = n }
 
-      abbrev Over : Verdict → List ℕ → Type 0
+      abbrev Over : Result Verdict Refusal → List ℕ → Type 0
       Over v cut' = AnsweredWithCut v cut cut' × AnswersAsDefined bytes v work
 
       over : (k ≡ 1) ⊎ (k ≢ 1) → Over (verdict_after bytes end_by tables m work) (cut_from end_by m.counts cut)
-      unfolding verdict_after cut_from
       over (inl is_1) =
           let all = stopped.all_read is_1 in
           rw is_1 (
@@ -231,7 +212,8 @@ module _ (bytes : List ℕ) where
 
   -- ---- the order query
 
-  module _ (v : Verdict) (work : List ℕ) (answers_it : AnswersAsDefined bytes v work) (p q : ℕ) where
+  module _
+      (v : Result Verdict Refusal) (work : List ℕ) (answers_it : AnswersAsDefined bytes v work) (p q : ℕ) where
     -- of an accepted trace of N records: 16, or what the rows say
     module _ (N : ℕ) (is : begun_reading bytes ≡ accepted N) where
       there : (w : World) × ((w.work ≡ work) × Sim (events bytes) N w)
@@ -240,7 +222,7 @@ module _ (bytes : List ℕ) where
       by_stores :
           (p_store q_store : Bool) → store? (events bytes) N p ≡ p_store → store? (events bytes) N q ≡ q_store
           → answers.order_answer
-          (p_store gives (q_store gives order_w work p q else order.Refused 16 0) else order.Refused 16 0)
+          ((p_store && q_store) gives Ok (order_w work p q) else Err (record { number = 16; event = 0 }))
           ≡ standing (events bytes) N p q
       by_stores true true is_p is_q =
           let (w, (same, sim)) = there in
@@ -251,7 +233,6 @@ module _ (bytes : List ℕ) where
       stands :
           (count : ℕ) → count ≡ N - 1
           → answers.order_answer (stand_by count work p q) ≡ standing (events bytes) N p q
-      unfolding stand_by
       stands count is_count =
           let (w, (same, sim)) = there in
           let stores : (i : ℕ) → store_w work (N - 1) i ≡ store? (events bytes) N i =
@@ -260,34 +241,43 @@ module _ (bytes : List ℕ) where
           rw is_count
           (by_stores (store_w work (N - 1) p) (store_w work (N - 1) q) (sym (stores p)) (sym (stores q)))
 
-    ruled : (N : ℕ) (r : Ruling) → refused? (ruled_answer (events bytes) N r) ≡ false
-    ruled N (robust c) = refl
-    ruled N (broken l m o) = refl
+    -- an accepted trace of N records is not refused, and what is answered has N - 1 events
+    never_refused : (N : ℕ) (r : Ruling) {k e : ℕ} → answers.refused k e ≡ ruled_answer (events bytes) N r → ⊥
+    never_refused N (robust c) is = cc
+    never_refused N (broken l m o) is = cc
 
-    ruled_events : (N : ℕ) (r : Ruling) → events_in (ruled_answer (events bytes) N r) ≡ N - 1
-    ruled_events N (robust c) = refl
-    ruled_events N (broken l m o) = refl
+    robust_events :
+        (N : ℕ) (r : Ruling) {count share : ℕ} → answers.robust count share ≡ ruled_answer (events bytes) N r
+        → count ≡ N - 1
+    robust_events N (robust c) is = cc
+    robust_events N (broken l m o) is = cc
+
+    broken_events :
+        (N : ℕ) (r : Ruling) {count l m o : ℕ} {fault : answers.Fault}
+        → answers.broken count l m o fault ≡ ruled_answer (events bytes) N r → count ≡ N - 1
+    broken_events N (robust c) is = cc
+    broken_events N (broken l m o) is = cc
 
     accepted_standing :
-        (N : ℕ) → begun_reading bytes ≡ accepted N → (u : Verdict)
+        (N : ℕ) → begun_reading bytes ≡ accepted N → (u : Result Verdict Refusal)
         → answers.verdict_answer u ≡ reading_answer bytes (accepted N)
         → answers.order_answer (standing_after u work p q) ≡ standing (events bytes) N p q
-    accepted_standing N is (Refused k e) answer_is =
-        false_true (sym (ruled N (ruling_of (events bytes) N)) ∙ sym (ap refused? answer_is))
-    accepted_standing N is (Robust count share) answer_is =
-        stands N is count (ap events_in answer_is ∙ ruled_events N (ruling_of (events bytes) N))
-    accepted_standing N is (Broken count load missing observed kind) answer_is =
-        stands N is count (ap events_in answer_is ∙ ruled_events N (ruling_of (events bytes) N))
+    accepted_standing N is (Ok (Robust count share)) answer_is =
+        stands N is count (robust_events N (ruling_of (events bytes) N) answer_is)
+    accepted_standing N is (Ok (Broken count l missing observed kind)) answer_is =
+        stands N is count (broken_events N (ruling_of (events bytes) N) answer_is)
+    accepted_standing N is (Err r) answer_is = absurd (never_refused N (ruling_of (events bytes) N) answer_is)
 
     refused_standing :
-        (k e : ℕ) (u : Verdict) → answers.verdict_answer u ≡ answers.refused k e
+        (k e : ℕ) (u : Result Verdict Refusal) → answers.verdict_answer u ≡ answers.refused k e
         → answers.order_answer (standing_after u work p q) ≡ answers.refused k e
-    refused_standing k e (Refused number event) answer_is = ap refusal_standing answer_is
-    refused_standing k e (Robust count share) answer_is = false_true (ap refused? answer_is)
-    refused_standing k e (Broken count load missing observed kind) answer_is = false_true (ap refused? answer_is)
+    refused_standing k e (Ok (Robust count share)) answer_is = cc
+    refused_standing k e (Ok (Broken count l missing observed kind)) answer_is = cc
+    refused_standing k e (Err r) answer_is = cc
 
     -- THE ANSWER AFTER A RUN IS THE DEFINITIONS'
-    pub standing_is : answers.order_answer (standing_after v work p q) ≡ reading_standing bytes p q (begun_reading bytes)
+    pub standing_is :
+        answers.order_answer (standing_after v work p q) ≡ reading_standing bytes p q (begun_reading bytes)
     standing_is = by_reading (begun_reading bytes) refl answers_it.answer
       where
         by_reading :

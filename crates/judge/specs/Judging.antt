@@ -25,7 +25,7 @@ pub record Stepped (ev : ℕ → Event) (n k : ℕ) (counts : Bool) (tables work
   pub held_are : close? ev n ≡ true → HeldLinked ev work (held_in tables (thread ev n)) (held ev n (thread ev n))
 
 -- the evidence of event `load`, by the rows and the marks as that load or a later event leaves them
-unfoldable pub evidence_at : List ℕ → Marks → ℕ → Evidence
+abbrev pub evidence_at : List ℕ → Marks → ℕ → Evidence
 evidence_at work m load =
     let missing = missing_by work m (up load) in
     record { load = load; missing = missing; observed = observed_by work m.flags (up load) missing }

@@ -1,8 +1,9 @@
 -- What a run over a trace's records has reached: the first n records pass, the machine's state is what they make it,
 -- and so are the marks; or the run is over.
-use Rattle.std.specs.Prelude.{ℕ, suc, ◌<◌, ◌≡◌, ◌≢◌, List, replicate, length, ◌≤◌}
+use Rattle.std.specs.Prelude.{ℕ, suc, ◌<◌, ◌≡◌, ◌≢◌, List, replicate, length, ◌≤◌, Result}
 use Rattle.record.specs.Parts.{start}
 use Rattle.model.specs.declared.Verdict.{Verdict}
+use Rattle.model.specs.declared.Refusal.{Refusal}
 use Rattle.model.specs.Answers.{verdict_answer}
 use Rattle.model.specs.Reading.{events, passing, record_at, accepted, turned_away, begun_reading}
 use Rattle.model.specs.Reading.{AcceptedWith, TurnedAwayWith}
@@ -83,6 +84,6 @@ module _ (bytes : List ℕ) where
 
   -- at the end: the verdict is the definitions', empty bytes being turned away, and of an accepted trace the work area
   -- has the rows of its stores
-  pub record AnswersAsDefined (v : Verdict) (work : List ℕ) : Type 0 where
+  pub record AnswersAsDefined (v : Result Verdict Refusal) (work : List ℕ) : Type 0 where
     pub answer : verdict_answer v ≡ reading_answer bytes (begun_reading bytes)
     pub rows : (N : ℕ) → begun_reading bytes ≡ accepted N → (w : World) × ((w.work ≡ work) × Sim (events bytes) N w)

@@ -1,5 +1,5 @@
 // The loads that count as of an event, judged when it comes, and the evidence of the event that breaks the trace.
-ghost use Rattle.std.specs.Prelude.{◌≡◌, true, ◌≢◌, ℕ, suc, ◌≤◌, length};
+ghost use Rattle.std.specs.Prelude.{◌≡◌, true, ◌≢◌, ℕ, suc, ◌≤◌};
 ghost use Rattle.record.specs.declared.events.Event.{Event};
 ghost use Rattle.record.specs.Fields.{fields_of};
 ghost use Rattle.model.specs.Trace.{location};
@@ -57,12 +57,12 @@ pub(crate) fn judge_event(
     tables: &Tables,
     marks: &mut Marks,
     counted: bool,
-    work: &[u16],
+    work: &[u16; 32768],
     kind: u16,
     row: usize,
     f: Fields,
 )
-    requires { (row ≤ 32768) × (32768 ≤ length work.now) }
+    requires { row ≤ 32768 }
     ensures { (ev : ℕ → Event)
         → Stepped ev (event_at row) kind counted tables.now work.now
         → fields_of (ev (event_at row)) ≡ f

@@ -1,5 +1,5 @@
 // A trace's records, one after the other, and the verdict. A record that is turned away ends the run there.
-ghost use Rattle.std.specs.Prelude.{◌≡◌, length};
+ghost use Rattle.std.specs.Prelude.{◌≡◌};
 ghost use Rattle.record.specs.Answers.{read_answer};
 ghost use Rattle.area.specs.Cells.{event_at};
 ghost use Rattle.model.specs.Reading.{refusal_in, begun_reading};
@@ -10,7 +10,7 @@ use crate::verdict::End;
 use crate::{loads, verdict};
 use machine::{Machine, Tables};
 use marks::Marks;
-use model::Verdict;
+use model::{Refusal, Verdict};
 use record::{Read, Scanned};
 
 // What the begin says, the position past it, and refusal 0. Or the refusal's number.
@@ -120,7 +120,7 @@ fn judge_record(
     t: Cursor,
     tables: &mut Tables,
     marks: &mut Marks,
-    work: &mut [u16],
+    work: &mut [u16; 32768],
 ) -> Next
     requires { Reached trace.now version threads locations (event_at t.row) t
         tables.old marks.old work.old }
@@ -152,21 +152,23 @@ fn judge_record(
 }
 
 // All records, and the verdict; empty bytes are refused with 1. The machine's tables and the marks are variables of this
-// call, so that the compiler knows them apart from the work area; and the work area is lent on at a constant length, so
-// that it drops the tests of that length from every read and store.
-pub(crate) fn run(trace: &[u8], work: &mut [u16], cut: &mut [u16]) -> Verdict
-    requires { (length work.old ≡ 32768) × (length cut.old ≡ 56) }
+// call, so that the compiler knows them apart from the work area; and the work area is an array, so that it drops the
+// tests of its length from every read and store.
+pub(crate) fn run(
+    trace: &[u8],
+    work: &mut [u16; 32768],
+    cut: &mut [u16; 56],
+) -> Result<Verdict, Refusal>
     ensures answers_as_defined { AnswersAsDefined trace.now result work.new }
     ensures cut_after { cut.new
         ≡ reading_cut trace.now cut.old (begun_reading trace.now) }
 {
-    let size: usize = 32768;
     let b = begin(trace);
     if b.refusal != 0 {
-        return Verdict::Refused {
+        return Err(Refusal {
             number: b.refusal,
             event: 0,
-        };
+        });
     }
     let mut tables: Tables = [0; 3008];
     let mut marks = Marks::new();
@@ -180,14 +182,14 @@ pub(crate) fn run(trace: &[u8], work: &mut [u16], cut: &mut [u16]) -> Verdict
             t,
             &mut tables,
             &mut marks,
-            &mut work[..size],
+            work,
         );
         let Next::On(next) = r else {
             let end = End {
                 number: number_in(r),
                 event: area::event_at(t.row),
             };
-            return verdict::verdict(trace, end, &tables, &marks, &work[..size], cut);
+            return verdict::verdict(trace, end, &tables, &marks, work, cut);
         };
         t = next;
     }

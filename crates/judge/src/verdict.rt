@@ -1,12 +1,12 @@
 // The verdict at the end of a run, and the cut buffer.
-ghost use Rattle.std.specs.Prelude.{◌≡◌, ◌-◌, length};
+ghost use Rattle.std.specs.Prelude.{◌≡◌};
 ghost use Rattle.judge.specs.Verdicts.{kind_by, broken_by, share_by, verdict_after, cut_from};
 
 use crate::loads;
 use crate::loads::Evidence;
 use machine::Tables;
 use marks::Marks;
-use model::{Kind, Verdict};
+use model::{Kind, Refusal, Verdict};
 
 // The end of a run: what ended it, 1 where no record was left, or the number of what turned a record away; and the
 // number of the event that would have been next.
@@ -16,22 +16,14 @@ pub struct End {
     pub event: u16,
 }
 
-// One less, and at least 0.
-fn preceding(x: u16) -> u16
-    ensures { result ≡ x - 1 }
-{
-    if x == 0 { 0 } else { x - 1 }
-}
-
 // "contradiction" if they are equal, "impossible" if they are two on one cache line, else "flush", with its windows.
 // Stores that are equal are on one line, so the lines are asked first.
 fn kind_of(trace: &[u8], work: &[u16], missing: u16, observed: u16) -> Kind
     ensures { result ≡ kind_by trace.now work.now missing observed }
 {
     if !area::one_line(work, missing, observed) {
-        return Kind::Flush(windows::windows(trace, work, missing, observed));
-    }
-    if missing == observed {
+        Kind::Flush(windows::windows(trace, work, missing, observed))
+    } else if missing == observed {
         Kind::Contradiction
     } else {
         Kind::Impossible
@@ -42,13 +34,12 @@ fn kind_of(trace: &[u8], work: &[u16], missing: u16, observed: u16) -> Kind
 fn broken(trace: &[u8], work: &[u16], events: u16, f: Evidence) -> Verdict
     ensures { result ≡ broken_by trace.now work.now events f }
 {
-    let kind = kind_of(trace, work, f.missing, f.observed);
     Verdict::Broken {
         events,
         load: f.load,
         missing: f.missing,
         observed: f.observed,
-        kind,
+        kind: kind_of(trace, work, f.missing, f.observed),
     }
 }
 
@@ -67,24 +58,24 @@ pub(crate) fn verdict(
     tables: &Tables,
     marks: &Marks,
     work: &[u16],
-    cut: &mut [u16],
-) -> Verdict
-    requires { length cut.old ≡ 56 }
+    cut: &mut [u16; 56],
+) -> Result<Verdict, Refusal>
     ensures value { result ≡ verdict_after trace.now t
         tables.now marks.now work.now }
     ensures cut_after { cut.new ≡ cut_from t marks.now.counts cut.old }
 {
     if t.number != 1 {
-        return Verdict::Refused {
+        return Err(Refusal {
             number: t.number,
             event: t.event,
-        };
+        });
     }
-    let events = preceding(t.event);
+    let events = t.event.saturating_sub(1);
     if let Some(load) = marks.broken_at() {
-        return broken(trace, work, events, loads::evidence_at(marks, work, load));
+        let evidence = loads::evidence_at(marks, work, load);
+        return Ok(broken(trace, work, events, evidence));
     }
     marks.copy_cut(cut);
     let share = share(marks, tables);
-    Verdict::Robust { events, share }
+    Ok(Verdict::Robust { events, share })
 }

@@ -7,6 +7,7 @@ use Prim.Native.Nat.{ℕ, ◌-◌, ◌≤◌, ◌<◌}
 use native.Mathlib.Omega.{arith}
 use borrow.Author.Tests.{eq-eqb, ne_eqb, lt-ltb, le-ltb, ltb-true}
 use lib.Dec.{eqb, ltb}
+use Rattle.std.specs.Prelude.{Ok}
 use Rattle.record.specs.declared.events.Event.{Event}
 use Rattle.record.specs.Tests.{◌gives◌else◌}
 use Rattle.model.specs.declared.Order.TheVariants.{Before, After, Same, Neither}
@@ -26,7 +27,7 @@ use Rattle.machine.specs.Sim.{Sim}
 -- the machine's tests and the definitions', in their orders
 standing_by_tests :
     (equal earlier later : Bool)
-    → order_answer (equal gives Same else earlier gives Before else later gives After else Neither)
+    → order_answer (Ok (equal gives Same else earlier gives Before else later gives After else Neither))
     ≡ (equal gives same else (not equal && earlier) gives before else (not equal && later) gives after else neither)
 standing_by_tests true earlier later = refl
 standing_by_tests false true later = refl
@@ -38,7 +39,6 @@ module _ (ev : ℕ → Event) (n : ℕ) (w : World) (sim : Sim ev n w) where
   begun = sim.limits.begun
 
   pub store_is : (p : ℕ) → store_w w.work (n - 1) p ≡ store? ev n p
-  unfolding store_w
   store_is p = by_number (same? p 0) (less? p n) (issue_or_not ev p)
     where
       by_number :
@@ -70,8 +70,7 @@ module _ (ev : ℕ → Event) (n : ℕ) (w : World) (sim : Sim ev n w) where
   -- THE ANSWER FOR TWO STORES IS THE DEFINITIONS'
   pub order_is :
       (p q : ℕ) → store? ev n p ≡ true → store? ev n q ≡ true
-      → order_answer (order_w w.work p q) ≡ standing ev n p q
-  unfolding order_w
+      → order_answer (Ok (order_w w.work p q)) ≡ standing ev n p q
   order_is p q p_is q_is =
       let p_parts = parts (ltb p n) _ p_is in
       let q_parts = parts (ltb q n) _ q_is in

@@ -8,13 +8,7 @@ use model::Order;
 pub fn is_store(work: &[u16], n: u16, p: u16) -> bool
     ensures { result ≡ store_w work.now n p }
 {
-    if p == 0 {
-        return false;
-    }
-    if n < p {
-        return false;
-    }
-    area::row_get(work, p, 10) != 0
+    p != 0 && p <= n && area::row_get(work, p, 10) != 0
 }
 
 // How store p stands to store q: by the clocks of the two.

@@ -90,3 +90,4 @@ pub mod CasesOfNoBytes
 pub mod CasesOfChecksums
 pub mod NoTrace
 pub mod RandomSessions
+pub mod Mapped

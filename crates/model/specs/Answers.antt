@@ -1,6 +1,7 @@
 -- What the judge's calls answer, in document 01's numbers and values: the share, the cut buffer, and for each enum of
 -- the code the answer that each of its cases is.
-use Rattle.std.specs.Prelude.{ℕ, zero, suc, ◌+◌, ◌*◌, ◌/◌, ◌%◌, List, [], ◌∷◌, ◌++◌, cond, ◌&&◌, eqb}
+use Rattle.std.specs.Prelude.{ℕ, zero, suc, ◌+◌, ◌*◌, ◌/◌, ◌%◌, List, [], ◌∷◌, ◌++◌, map, eqb}
+use Rattle.std.specs.Prelude.{Option, Some, None, Result, Ok, Err}
 use Rattle.record.specs.declared.events.Event.{Event}
 use Rattle.record.specs.Tests.{◌gives◌else◌}
 use Rattle.model.specs.Trace.{thread, line}
@@ -11,7 +12,8 @@ use Rattle.model.specs.declared.Windows.{Windows}
 use Rattle.model.specs.declared.Kind.{Kind}
 use Rattle.model.specs.declared.Kind.TheVariants.{Contradiction, Flush, Impossible}
 use Rattle.model.specs.declared.Verdict.{Verdict}
-use Rattle.model.specs.declared.Verdict.TheVariants.{Refused, Robust, Broken}
+use Rattle.model.specs.declared.Verdict.TheVariants.{Robust, Broken}
+use Rattle.model.specs.declared.Refusal.{Refusal}
 use Rattle.model.specs.declared.Order.{Order}
 use Rattle.model.specs.declared.Order.TheVariants as order
 
@@ -66,25 +68,23 @@ pub data Answer : Type 0 where
   -- events after begin, load, missing, observed, kind
   broken : ℕ → ℕ → ℕ → ℕ → Fault → Answer
 
--- 0 and 0 are no window
-abbrev pub window_answer : Window → Places
-window_answer w = cond (eqb w.first 0 && eqb w.last 0) none (between w.first w.last)
+abbrev pub window_answer : Option Window → Places
+window_answer None = none
+window_answer (Some w) = between w.first w.last
 
 abbrev pub windows_answer : Windows → List Places
-windows_answer w =
-    window_answer w.thread0 ∷ window_answer w.thread1 ∷ window_answer w.thread2 ∷ window_answer w.thread3
-    ∷ window_answer w.thread4 ∷ window_answer w.thread5 ∷ window_answer w.thread6 ∷ window_answer w.thread7
-    ∷ []
+windows_answer w = map window_answer w.threads
 
 abbrev pub kind_answer : Kind → Fault
 kind_answer Contradiction = contradiction
 kind_answer (Flush w) = flush w.primary (windows_answer w)
 kind_answer Impossible = impossible
 
-abbrev pub verdict_answer : Verdict → Answer
-verdict_answer (Refused number event) = refused number event
-verdict_answer (Robust events share) = robust events share
-verdict_answer (Broken events load missing observed kind) = broken events load missing observed (kind_answer kind)
+abbrev pub verdict_answer : Result Verdict Refusal → Answer
+verdict_answer (Ok (Robust events share)) = robust events share
+verdict_answer (Ok (Broken events load missing observed kind)) =
+    broken events load missing observed (kind_answer kind)
+verdict_answer (Err r) = refused r.number r.event
 
 -- ---- the order query
 
@@ -96,9 +96,9 @@ pub data Standing : Type 0 where
   same : Standing
   neither : Standing
 
-abbrev pub order_answer : Order → Standing
-order_answer (order.Refused number event) = refused number event
-order_answer order.Before = before
-order_answer order.After = after
-order_answer order.Same = same
-order_answer order.Neither = neither
+abbrev pub order_answer : Result Order Refusal → Standing
+order_answer (Ok order.Before) = before
+order_answer (Ok order.After) = after
+order_answer (Ok order.Same) = same
+order_answer (Ok order.Neither) = neither
+order_answer (Err r) = refused r.number r.event

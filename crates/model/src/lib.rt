@@ -2,45 +2,33 @@
 // meaning, and the theorems about them, are this crate's specs/ and proofs/; it has no code.
 #![tactic(auto)]
 
-// The records in front of which a thread may flush the missing store's line: the first and the last of them, or 0 and 0
-// if there is none.
-#[derive(Clone, Copy)]
+// The records in front of which a thread may flush the missing store's line: the first and the last of them.
+#[derive(Clone, Copy, Debug, PartialEq, Eq)]
 pub struct Window {
     pub first: u16,
     pub last: u16,
 }
 
-// The windows of threads 0 to 7, and which thread is primary: the missing store's.
-#[derive(Clone, Copy)]
+// Which thread is primary, the missing store's; and the window of each thread, or none.
+#[derive(Clone, Copy, Debug, PartialEq, Eq)]
 pub struct Windows {
     pub primary: u16,
-    pub thread0: Window,
-    pub thread1: Window,
-    pub thread2: Window,
-    pub thread3: Window,
-    pub thread4: Window,
-    pub thread5: Window,
-    pub thread6: Window,
-    pub thread7: Window,
+    pub threads: [Option<Window>; 8],
 }
 
 // Why a broken trace is broken: the missing store is itself observed; or it happens before the observed one, on another
 // cache line or on the same one. Only between stores on two lines is a flush missing, and only then are there windows
 // for it.
-#[derive(Clone, Copy)]
+#[derive(Clone, Copy, Debug, PartialEq, Eq)]
 pub enum Kind {
     Contradiction,
     Flush(Windows),
     Impossible,
 }
 
-// What judging a trace answers.
-#[derive(Clone, Copy)]
+// What judging a trace answers, unless it refuses.
+#[derive(Clone, Copy, Debug, PartialEq, Eq)]
 pub enum Verdict {
-    Refused {
-        number: u16,
-        event: u16,
-    },
     Robust {
         events: u16,
         share: u16,
@@ -55,11 +43,18 @@ pub enum Verdict {
 }
 
 // How the first of two stores stands to the second, by happens-before.
-#[derive(Clone, Copy)]
+#[derive(Clone, Copy, Debug, PartialEq, Eq)]
 pub enum Order {
     Before,
     After,
     Same,
     Neither,
-    Refused { number: u16, event: u16 },
+}
+
+// Why a call refuses what it was given: document 01's number, and the event that it is about. A number and no enum,
+// since `report::report` prints whichever it is given, and an enum would ask more of its callers.
+#[derive(Clone, Copy, Debug, PartialEq, Eq)]
+pub struct Refusal {
+    pub number: u16,
+    pub event: u16,
 }

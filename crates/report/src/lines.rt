@@ -7,7 +7,7 @@ ghost use Rattle.report.specs.Lines.{printed, Front};
 ghost use Rattle.report.specs.Page.{Puts};
 
 use crate::page::Page;
-use model::{Kind, Verdict};
+use model::{Kind, Refusal, Verdict};
 
 // A line that is a text alone.
 fn text_line(page: &mut Page, s: &[u8])
@@ -137,24 +137,30 @@ fn broken_lines(page: &mut Page, events: u16, load: u16, missing: u16, observed:
     kind_line(page, kind);
 }
 
-// The lines of a verdict.
-fn lines(page: &mut Page, v: Verdict, threads: u16, finished: u16, cut: &[u16])
+// The lines of a verdict, or of a refusal.
+fn lines(
+    page: &mut Page,
+    v: Result<Verdict, Refusal>,
+    threads: u16,
+    finished: u16,
+    cut: &[u16],
+)
     ensures { Puts page.old
         (lines_of (verdict_answer v) threads finished cut.now) 446 page.new }
 {
     match v {
-        Verdict::Refused { number, event } => refused_line(page, number, event),
-        Verdict::Robust { events, share } => {
+        Ok(Verdict::Robust { events, share }) => {
             let cut = Cut::new(cut, threads, finished);
             robust_lines(page, events, share, cut);
         }
-        Verdict::Broken {
+        Ok(Verdict::Broken {
             events,
             load,
             missing,
             observed,
             kind,
-        } => broken_lines(page, events, load, missing, observed, kind),
+        }) => broken_lines(page, events, load, missing, observed, kind),
+        Err(refusal) => refused_line(page, refusal.number, refusal.event),
     }
 }
 
@@ -162,7 +168,13 @@ fn lines(page: &mut Page, v: Verdict, threads: u16, finished: u16, cut: &[u16])
 // are, and leaves the rest of `out` as lent: 1,024 bytes are always enough. A robust trace has the cut lines of
 // `finished` stretches of `threads` threads, with the counts that `cut` has, 0 past its end; more than 8 threads count
 // as 8, and more than 7 finished stretches as 7. By `front` a caller can take `&out[..n]`.
-pub fn report(v: Verdict, threads: u16, finished: u16, cut: &[u16], out: &mut [u8; 1024]) -> usize
+pub fn report(
+    v: Result<Verdict, Refusal>,
+    threads: u16,
+    finished: u16,
+    cut: &[u16],
+    out: &mut [u8; 1024],
+) -> usize
     ensures size { result ≡ length (lines_of (verdict_answer v) threads finished cut.now) }
     ensures bytes { out.new ≡
         printed (lines_of (verdict_answer v) threads finished cut.now) out.old }

@@ -3,11 +3,17 @@
 // `stdout` is worked by hand from documents 01 and 02.
 #![tactic(auto)]
 
-use model::{Kind, Verdict, Window, Windows};
-use std::io::Result;
+use model::{Kind, Refusal, Verdict, Window, Windows};
+use std::io;
 
-// Prints the report of a verdict.
-fn print(rt: &impl Print, v: Verdict, threads: u16, finished: u16, cut: &[u16]) -> Result<()> {
+// Prints the report of a verdict, or of a refusal.
+fn print(
+    rt: &impl Print,
+    v: Result<Verdict, Refusal>,
+    threads: u16,
+    finished: u16,
+    cut: &[u16],
+) -> io::Result<()> {
     let mut out = [0u8; 1024];
     let n = report::report(v, threads, finished, cut, &mut out);
     rt.write_all(&out[..n])
@@ -21,10 +27,10 @@ fn print_robust(
     threads: u16,
     finished: u16,
     cut: &[u16],
-) -> Result<()> {
+) -> io::Result<()> {
     print(
         rt,
-        Verdict::Robust { events, share },
+        Ok(Verdict::Robust { events, share }),
         threads,
         finished,
         cut,
@@ -39,7 +45,7 @@ fn print_broken(
     missing: u16,
     observed: u16,
     kind: Kind,
-) -> Result<()> {
+) -> io::Result<()> {
     let v = Verdict::Broken {
         events,
         load,
@@ -47,38 +53,32 @@ fn print_broken(
         observed,
         kind,
     };
-    print(rt, v, 1, 1, &[0])
+    print(rt, Ok(v), 1, 1, &[0])
 }
 
 // The windows of case 1 on two lines: thread 0 may flush in front of records 6 and 7, the others in front of none.
 fn windows() -> Windows {
-    let none = Window { first: 0, last: 0 };
+    let mut threads = [None; 8];
+    threads[0] = Some(Window { first: 6, last: 7 });
     Windows {
         primary: 0,
-        thread0: Window { first: 6, last: 7 },
-        thread1: none,
-        thread2: none,
-        thread3: none,
-        thread4: none,
-        thread5: none,
-        thread6: none,
-        thread7: none,
+        threads,
     }
 }
 
 // Prints the report of a refusal.
-fn print_refused(rt: &impl Print, number: u16, event: u16) -> Result<()> {
-    print(rt, Verdict::Refused { number, event }, 1, 1, &[0])
+fn print_refused(rt: &impl Print, number: u16, event: u16) -> io::Result<()> {
+    print(rt, Err(Refusal { number, event }), 1, 1, &[0])
 }
 
 // Prints a trace's threads and finished stretches.
-fn print_shape(rt: &impl Print, trace: &[u8]) -> Result<()> {
+fn print_shape(rt: &impl Print, trace: &[u8]) -> io::Result<()> {
     let s = report::shape_of(trace);
     let (threads, finished) = (s.threads, s.finished);
     println!(rt; "{threads} {finished}")
 }
 
-fn main(rt: HostRuntime) -> Result<()> {
+fn main(rt: HostRuntime) -> io::Result<()> {
     // case 1, on one line and on two; cases 2, 7, 8 and 9
     print_broken(&rt, 11, 11, 5, 7, Kind::Impossible)?;
     print_broken(&rt, 11, 11, 5, 7, Kind::Flush(windows()))?;

@@ -1,11 +1,11 @@
 // The answer to each line.
 use crate::{lines, window_lines};
-use model::{Order, Verdict};
+use model::{Order, Refusal, Verdict};
 use std::io::Result;
 
 fn print_verdict(
     rt: &impl Print,
-    v: Verdict,
+    v: std::result::Result<Verdict, Refusal>,
     threads: u16,
     finished: u16,
     cut: &[u16],
@@ -56,19 +56,12 @@ fn judge_with(rt: &impl Print, trace: &[u8], work_size: usize, cut_size: usize) 
 
 fn order(rt: &impl Print, trace: &[u8], first: u16, second: u16) -> Result<()> {
     let mut work = [0u16; 32768];
-    let r = judge::order(trace, &mut work, first, second);
-    match r {
-        Order::Before => rt.println("before"),
-        Order::After => rt.println("after"),
-        Order::Same => rt.println("same"),
-        Order::Neither => rt.println("neither"),
-        Order::Refused { number, event } => print_verdict(
-            rt,
-            Verdict::Refused { number, event },
-            0,
-            0,
-            &[0],
-        ),
+    match judge::order(trace, &mut work, first, second) {
+        Ok(Order::Before) => rt.println("before"),
+        Ok(Order::After) => rt.println("after"),
+        Ok(Order::Same) => rt.println("same"),
+        Ok(Order::Neither) => rt.println("neither"),
+        Err(refusal) => print_verdict(rt, Err(refusal), 0, 0, &[0]),
     }
 }
 

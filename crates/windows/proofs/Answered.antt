@@ -6,13 +6,13 @@ use native.Mathlib.Omega.{arith}
 use mathlib.Core.Path.{◌≡◌, refl}
 use mathlib.Core.Bool.{true, ◌&&◌}
 use mathlib.Core.Logic.{◌⊎◌, inl, inr, ◌≢◌}
-use mathlib.Core.List.{List}
-use lib.ListN.{replicate}
+use mathlib.Core.List.{List, map}
 use lib.Dec.{eqb}
-use borrow.Author.Tests.{eqb-true, eq-eqb, ne_eqb}
+use borrow.Author.Tests.{eqb-true, eq-eqb}
+use Rattle.std.specs.Prelude.{Option, Some, None}
+use Rattle.std.proofs.lemmas.List.{same_lists, length-map, get_or-map}
 use Rattle.record.specs.declared.events.Event.{Event}
 use Rattle.record.specs.Parts.{start, source_at}
-use Rattle.record.specs.Tests.{◌gives◌else◌}
 use Rattle.record.proofs.Starts.{read_next}
 use Rattle.record.proofs.Sources.{as_source, source_past, source_at_read}
 use Rattle.model.specs.declared.Kind.TheVariants.{Flush}
@@ -20,18 +20,20 @@ use Rattle.model.specs.Trace.{thread, issue?, Issue}
 use Rattle.model.specs.HappensBefore.{Before, AtOrBefore}
 use Rattle.model.specs.Rules.{Accepted}
 use Rattle.model.specs.Clocks.{covers?}
-use Rattle.model.specs.Windows.{Window, WindowIs, Has, window_of}
+use Rattle.model.specs.Windows.{Window, WindowIs, FirstPlace, own, brought, Has, none, window_of}
 use Rattle.model.specs.Answers.{tabulate, flush, window_answer, kind_answer}
 use Rattle.model.specs.Reading.{events, AcceptedWith}
-use Rattle.model.proofs.Searching.{both, parts, same?, second_fails, last_is, last_largest}
+use Rattle.model.proofs.Searching.{both, parts, same?, last_is, last_largest}
 use Rattle.model.proofs.Ordering.{before_lt, before_first, before_stretch, at_or_before_le}
 use Rattle.model.proofs.Clocks.{covers_exactly}
 use Rattle.model.proofs.WindowPlaces.{has_still, starts_has, has_starts, has_exactly, first_place, window_is}
 use Rattle.model.proofs.WindowPlaces.{window_unique}
 use Rattle.model.proofs.TurnedAway.{passed→, accepted_events}
 use Rattle.area.specs.Rows.{Rows}
-use Rattle.windows.specs.Finding.{noted_missing, looked_from, looked, window_in, windows_by}
-use Rattle.windows.proofs.Shown.{lasts?, last_shown, first_shown, Shown, has→, →has, shown_first}
+use Rattle.model.proofs.Tabulating.{tabulate_length, tabulate_at}
+use Rattle.windows.specs.declared.found.Ends.{Ends}
+use Rattle.windows.specs.Finding.{no_ends, ends_at, noted_missing, looked_from, looked, between, window_in, windows_by}
+use Rattle.windows.proofs.Shown.{some_place, place_is, lasts?, last_shown, first_shown, Shown, has→, →has, shown_first}
 use Rattle.windows.proofs.Noting.{shown_missing, shown_next}
 
 module _
@@ -60,7 +62,7 @@ module _
       rw (it.is_read, ← past) (source_at_read bytes (start bytes e) it.x it.next it.is_read)
 
   looked_shown :
-      (k e : ℕ) (found : List ℕ) → p ≤ e → e + k ≡ q → Shown ev p q (suc e) (suc e) found
+      (k e : ℕ) (found : List Ends) → p ≤ e → e + k ≡ q → Shown ev p q (suc e) (suc e) found
       → Shown ev p q (suc q) (suc q) (looked_from bytes work p q k e (start bytes (suc e)) found)
   unfolding looked_from
   looked_shown zero e found from_p all shown = let at_end : e ≡ q = omega arith in rw at_end at shown
@@ -70,7 +72,7 @@ module _
       (shown_next ev p q N accepted work rows p_store q_store (before_stretch ev before) q_early (suc e) (omega arith)
       (omega arith) shown (start bytes (suc (suc e)))))
 
-  all_shown : Shown ev p q (suc q) (suc q) (looked bytes work p q (noted_missing (replicate 16 0) (thread ev p) p))
+  all_shown : Shown ev p q (suc q) (suc q) (looked bytes work p q (noted_missing (thread ev p) p))
   unfolding looked
   all_shown =
       let p_before_q = before_lt ev before in
@@ -84,7 +86,7 @@ module _
     abbrev to : ℕ
     to = last_shown ev p q (suc q) t
 
-    record Ends : Type 0 where
+    record IsLast : Type 0 where
       store : Issue ev to
       by_t : thread ev to ≡ t
       order : AtOrBefore ev to q
@@ -102,7 +104,7 @@ module _
         let early = at_or_before_le ev n q order in
         last_largest (suc q) (lasts? ev p q t) n (omega arith) (→lasts n by_t store order has)
 
-    ends : to ≢ 0 → Ends
+    ends : to ≢ 0 → IsLast
     unfolding last_shown
     ends some =
         let passes = (last_is (suc q) (lasts? ev p q t) some).1 in
@@ -145,28 +147,33 @@ module _
         positive (inl (is_own, late)) = omega arith
         positive (inr (other, (l, late, by_t, brings))) = omega arith
 
-    -- the two numbers as an answer
+    -- the two places as an answer
     is_window :
         (from : ℕ) → (to ≢ 0 → Window ev p q t from to)
-        → WindowIs ev p q t
-        (window_answer (eqb to 0 gives record { first = 0; last = 0 } else record { first = from; last = to }))
+        → WindowIs ev p q t (window_answer (between (some_place from) (some_place to)))
     is_window from there = by_end (same? to 0)
       where
+        none_between : (first : Option ℕ) → window_answer (between first None) ≡ none
+        none_between None = refl
+        none_between (Some first) = refl
+
+        starts_some : {n : ℕ} → FirstPlace ev p t n → some_place n ≡ Some n
+        starts_some (own is_own) = refl
+        starts_some (brought l other first) = refl
+
         by_end :
             (to ≡ 0) ⊎ (to ≢ 0)
-            → WindowIs ev p q t
-            (window_answer (eqb to 0 gives record { first = 0; last = 0 } else record { first = from; last = to }))
-        by_end (inl none_shown) = rw (eq-eqb to 0 none_shown) (no_window none_shown)
+            → WindowIs ev p q t (window_answer (between (some_place from) (some_place to)))
+        by_end (inl none_shown) = rw (none_shown, none_between (some_place from)) (no_window none_shown)
         by_end (inr some) =
-            let is = ne_eqb to 0 some in
-            rw (is, second_fails (eqb from 0) (eqb to 0) is) (there some)
+            let window = there some in
+            rw (starts_some window.starts, place_is to (omega arith)) window
 
     window_answered :
-        (found : List ℕ) → Shown ev p q (suc q) (suc q) found → t < 8
-        → window_answer (window_in found t) ≡ window_of ev p q t
-    unfolding window_in
+        (found : List Ends) → Shown ev p q (suc q) (suc q) found → t < 8
+        → window_answer (window_in (ends_at found t)) ≡ window_of ev p q t
     window_answered found shown below =
-        window_unique ev p q t (window_answer (window_in found t)) (window_of ev p q t)
+        window_unique ev p q t (window_answer (window_in (ends_at found t))) (window_of ev p q t)
         (rw (shown.firsts t below, shown.lasts t below) (is_window (first_shown ev p q (suc q) t) shown_window))
         (window_is ev p q t p_store q_store)
 
@@ -175,18 +182,27 @@ module _
   -- THE WINDOWS THAT ARE FOUND ARE THE DEFINITIONS'
   pub flush_answered :
       kind_answer (Flush (windows_by bytes work p q)) ≡ flush (thread ev p) (tabulate 8 (window_of ev p q))
-  unfolding windows_by tabulate
   flush_answered =
       let p_before_q = before_lt ev before in
       rw (
         (rows.stores p (omega arith) p_store).thread_is,
-        window_answered 0 _ all_shown (omega arith),
-        window_answered 1 _ all_shown (omega arith),
-        window_answered 2 _ all_shown (omega arith),
-        window_answered 3 _ all_shown (omega arith),
-        window_answered 4 _ all_shown (omega arith),
-        window_answered 5 _ all_shown (omega arith),
-        window_answered 6 _ all_shown (omega arith),
-        window_answered 7 _ all_shown (omega arith),
+        all_answered (looked bytes work p q (noted_missing (thread ev p) p)) all_shown,
       )
       refl
+    where
+      all_answered :
+          (found : List Ends) → Shown ev p q (suc q) (suc q) found
+          → map window_answer (map window_in found) ≡ tabulate 8 (window_of ev p q)
+      all_answered found shown =
+          let once = length-map found window_in in
+          let twice = length-map (map window_in found) window_answer in
+          let eight = tabulate_length 8 (window_of ev p q) in
+          let size = shown.size in
+          same_lists (map window_answer (map window_in found)) (tabulate 8 (window_of ev p q)) (omega arith)
+          (λ t d below.
+          rw (
+            get_or-map window_answer (map window_in found) t None d (omega arith),
+            get_or-map window_in found t no_ends None (omega arith),
+            tabulate_at 8 (window_of ev p q) t d (omega arith),
+          )
+          (window_answered t found shown (omega arith)))

@@ -2,18 +2,20 @@
 -- (`shown_missing`), and each event up to the observed store q is shown by what is noted of it (`shown_next`): first as
 -- a store (`shown_store`), which asks what the events in front of it bring, and then as a load or wait
 -- (`shown_source`). A store is asked of its row, a load and a wait of its source's.
--- In order: a number noted; up to p; one event more, as a store, as a load or wait, as both.
-use Prim.Native.Nat.{ℕ, suc, ◌+◌, ◌≤◌, ◌<◌, ◌%◌}
+-- In order: a thread's ends noted; up to p; one event more, as a store, as a load or wait, as both.
+use Prim.Native.Nat.{ℕ, suc, ◌≤◌, ◌<◌, ◌%◌}
 use native.Mathlib.Omega.{arith}
-use native.Mathlib.Nat.{zero-add, mod-eq_of_lt}
+use native.Mathlib.Nat.{mod-eq_of_lt}
 use mathlib.Core.Path.{◌≡◌, refl, sym, ◌∙◌}
-use mathlib.Core.Bool.{Bool, true, false, cond, ◌&&◌, ◌||◌, and-true, and-false}
+use mathlib.Core.Bool.{Bool, true, false, cond, not, ◌&&◌, ◌||◌, and-true, and-false}
 use mathlib.Core.Logic.{◌⊎◌, inl, inr, ◌≢◌, ◌↔◌}
 use mathlib.Core.List.{List}
-use lib.ListN.{length, get_or, set, replicate, length-set}
+use lib.ListN.{length, set, replicate, length-set}
 use lib.Seq.{get_or-set_same, get_or-set_other}
 use lib.Dec.{eqb, leb}
-use borrow.Author.Tests.{eq-eqb, ne_eqb, le-leb, leb-true, not-true}
+use borrow.Author.Tests.{eq-eqb, ne_eqb, le-leb, leb-true}
+use Rattle.std.specs.Prelude.{Some}
+use Rattle.std.proofs.lemmas.List.{get_or-replicate}
 use Rattle.record.specs.declared.events.Event.{Event}
 use Rattle.record.proofs.Sources.{as_source, sourced_kinds}
 use Rattle.record.specs.Parts.{no_source}
@@ -35,42 +37,55 @@ use Rattle.model.proofs.WindowPlaces.{comes→, →comes, comes_from, comes_earl
 use Rattle.area.specs.Cells.{get_row, clock_covers_w}
 use Rattle.area.specs.Rows.{Rows}
 use Rattle.area.proofs.Covering.{covers_is, source_covers_is, other_stretch}
-use Rattle.area.proofs.ReadBack.{up_is, cleared_at}
+use Rattle.area.proofs.ReadBack.{up_is}
+use Rattle.windows.specs.declared.found.Ends.{Ends}
+use Rattle.windows.specs.Finding.{no_ends, ends_at, with_first, with_last}
 use Rattle.windows.specs.Finding.{noted_missing, ends_w, noted_store, brings_w, noted_source, noted}
-use Rattle.windows.proofs.Shown.{has?, first_shown, lasts?, last_shown, Shown, →has, has_or_not, not_has}
-use Rattle.windows.proofs.Shown.{shown_first, shown_none, shown_some, first_keeps, first_comes}
+use Rattle.windows.proofs.Shown.{some_place, place_is, has?, first_shown, lasts?, last_shown, Shown, →has, has_or_not}
+use Rattle.windows.proofs.Shown.{not_has, shown_first, shown_none, shown_some, shown_yet, first_keeps, first_comes}
 
--- ---- a number noted
+-- ---- a thread's ends noted
 
--- in the half of the sixteen that begins at k, for thread T
-stored :
-    (found : List ℕ) → length found ≡ 16 → (k T v t : ℕ) → k + t < 16
-    → get_or (set found (k + T) v) (k + t) 0 ≡ cond (eqb T t) v (get_or found (k + t) 0)
-stored found size k T v t inside = by_thread (same? T t)
+-- of thread T, where those of thread t are asked for
+noted_at :
+    (found : List Ends) → length found ≡ 8 → (T : ℕ) (v : Ends) (t : ℕ) → t < 8
+    → ends_at (set found T v) t ≡ cond (eqb T t) v (ends_at found t)
+noted_at found size T v t below = by_thread (same? T t)
   where
-    by_thread : (T ≡ t) ⊎ (T ≢ t) → get_or (set found (k + T) v) (k + t) 0 ≡ cond (eqb T t) v (get_or found (k + t) 0)
-    by_thread (inl same) = rw (eq-eqb T t same, same) (get_or-set_same found (k + t) v 0 (omega arith))
-    by_thread (inr other) =
-        rw (ne_eqb T t other) (get_or-set_other found (k + T) (k + t) v 0 (λ same. other (omega arith)))
+    by_thread : (T ≡ t) ⊎ (T ≢ t) → ends_at (set found T v) t ≡ cond (eqb T t) v (ends_at found t)
+    by_thread (inl same) = rw (eq-eqb T t same, same) (get_or-set_same found t v no_ends (omega arith))
+    by_thread (inr other) = rw (ne_eqb T t other) (get_or-set_other found T t v no_ends (λ same. other (sym same)))
 
 module _
-    (ev : ℕ → Event) (p q : ℕ) {n m : ℕ} {found : List ℕ} (shown : Shown ev p q n m found)
-    (T v : ℕ) (t_below : T < 8) where
+    (ev : ℕ → Event) (p q : ℕ) {n m : ℕ} {found : List Ends} (shown : Shown ev p q n m found)
+    (T v : ℕ) (t_below : T < 8) (some : 0 < v) where
   -- the first places after one event more, where v is noted for thread T or nothing is
   first_noted :
       (opens : Bool)
       → ((t : ℕ) → first_shown ev p q (suc n) t ≡ cond (opens && eqb T t) v (first_shown ev p q n t))
-      → Shown ev p q (suc n) m (opens gives set found T v else found)
+      → Shown ev p q (suc n) m (opens gives with_first found T v else found)
   first_noted true comes = record {
-    size = length-set found T v ∙ shown.size;
-    firsts = λ t below.
-        (simp zero-add at (stored found shown.size 0 T v t (omega arith)))
-        ∙ (rw (shown.firsts t below) refl ∙ sym (comes t));
-    lasts = λ t below. get_or-set_other found T (8 + t) v 0 (λ same. omega arith) ∙ shown.lasts t below;
+    size = length-set found T _ ∙ shown.size;
+    firsts = λ t below. rw (noted_at found shown.size T _ t below, comes t) (first_at t below (same? T t));
+    lasts = λ t below. rw (noted_at found shown.size T _ t below) (last_at t below (same? T t));
   }
+    where
+      first_at :
+          (t : ℕ) → t < 8 → (T ≡ t) ⊎ (T ≢ t)
+          → (cond (eqb T t) (record (ends_at found T) { first = Some v }) (ends_at found t)).first
+          ≡ some_place (cond (eqb T t) v (first_shown ev p q n t))
+      first_at t below (inl same) = rw (eq-eqb T t same) (sym (place_is v some))
+      first_at t below (inr other) = rw (ne_eqb T t other) (shown.firsts t below)
+
+      last_at :
+          (t : ℕ) → t < 8 → (T ≡ t) ⊎ (T ≢ t)
+          → (cond (eqb T t) (record (ends_at found T) { first = Some v }) (ends_at found t)).last
+          ≡ some_place (last_shown ev p q m t)
+      last_at t below (inl same) = rw (eq-eqb T t same, same) (shown.lasts t below)
+      last_at t below (inr other) = rw (ne_eqb T t other) (shown.lasts t below)
   first_noted false comes = record {
     size = shown.size;
-    firsts = λ t below. shown.firsts t below ∙ sym (comes t);
+    firsts = λ t below. rw (comes t) (shown.firsts t below);
     lasts = shown.lasts;
   }
 
@@ -78,17 +93,30 @@ module _
   last_noted :
       (ends : Bool)
       → ((t : ℕ) → last_shown ev p q (suc m) t ≡ cond (ends && eqb T t) v (last_shown ev p q m t))
-      → Shown ev p q n (suc m) (ends gives set found (8 + T) v else found)
+      → Shown ev p q n (suc m) (ends gives with_last found T v else found)
   last_noted true comes = record {
-    size = length-set found (8 + T) v ∙ shown.size;
-    firsts = λ t below. get_or-set_other found (8 + T) t v 0 (λ same. omega arith) ∙ shown.firsts t below;
-    lasts = λ t below.
-        stored found shown.size 8 T v t (omega arith) ∙ (rw (shown.lasts t below) refl ∙ sym (comes t));
+    size = length-set found T _ ∙ shown.size;
+    firsts = λ t below. rw (noted_at found shown.size T _ t below) (first_at t below (same? T t));
+    lasts = λ t below. rw (noted_at found shown.size T _ t below, comes t) (last_at t below (same? T t));
   }
+    where
+      first_at :
+          (t : ℕ) → t < 8 → (T ≡ t) ⊎ (T ≢ t)
+          → (cond (eqb T t) (record (ends_at found T) { last = Some v }) (ends_at found t)).first
+          ≡ some_place (first_shown ev p q n t)
+      first_at t below (inl same) = rw (eq-eqb T t same, same) (shown.firsts t below)
+      first_at t below (inr other) = rw (ne_eqb T t other) (shown.firsts t below)
+
+      last_at :
+          (t : ℕ) → t < 8 → (T ≡ t) ⊎ (T ≢ t)
+          → (cond (eqb T t) (record (ends_at found T) { last = Some v }) (ends_at found t)).last
+          ≡ some_place (cond (eqb T t) v (last_shown ev p q m t))
+      last_at t below (inl same) = rw (eq-eqb T t same) (sym (place_is v some))
+      last_at t below (inr other) = rw (ne_eqb T t other) (shown.lasts t below)
   last_noted false comes = record {
     size = shown.size;
     firsts = shown.firsts;
-    lasts = λ t below. shown.lasts t below ∙ sym (comes t);
+    lasts = λ t below. rw (comes t) (shown.lasts t below);
   }
 
 -- the tests of a last place, of thread T where t is asked for, in the code's order
@@ -112,26 +140,30 @@ module _
       omega (arith, comes_from ev brings.comes, comes_early ev N accepted (omega arith) brings.comes)
 
   -- right behind it only its own thread has it
-  pub shown_missing : p < N → Shown ev p q (suc p) (suc p) (noted_missing (replicate 16 0) (thread ev p) p)
+  pub shown_missing : p < N → Shown ev p q (suc p) (suc p) (noted_missing (thread ev p) p)
   unfolding last_shown
   shown_missing inside =
       rw (mod-eq_of_lt own_below, up_is p (omega (arith, event_bound ev N accepted p inside)))
-      (first_noted ev p q none_yet (thread ev p) (suc p) own_below true comes)
+      (first_noted ev p q none_yet (thread ev p) (suc p) own_below (omega arith) true comes)
     where
       own_below : thread ev p < 8
       own_below = thread_bound ev N accepted p inside (issue_has_thread ev p_store)
 
-      none_yet : Shown ev p q p (suc p) (replicate 16 0)
+      none_yet : Shown ev p q p (suc p) (replicate 8 no_ends)
       none_yet = record {
         size = refl;
-        firsts = λ t below. cleared_at 16 t ∙ sym (shown_none ev p q p_store p t (not_before p t (omega arith) inside));
+        firsts = λ t below.
+            rw (
+              get_or-replicate 8 t no_ends no_ends below,
+              shown_none ev p q p_store p t (not_before p t (omega arith) inside),
+            )
+            refl;
         lasts = λ t below.
-            cleared_at 16 (8 + t)
-            ∙ sym
-            (last_none (suc p) (lasts? ev p q t)
+            let none_last = last_none (suc p) (lasts? ev p q t)
             (λ e early.
             second_fails (issue? ev e && eqb (thread ev e) t && covers? ev e q) (has? ev p q e t)
-            (not_has ev p q p_store e t (not_before e t (omega arith) inside))));
+            (not_has ev p q p_store e t (not_before e t (omega arith) inside))) in
+            rw (get_or-replicate 8 t no_ends no_ends below, none_last) refl;
       }
 
       comes : (t : ℕ) → first_shown ev p q (suc p) t ≡ cond (eqb (thread ev p) t) (suc p) (first_shown ev p q p t)
@@ -162,10 +194,11 @@ module _
     i = get_row work n 8 % 8
 
     -- as a store. One that is none is covered by none: its row has no stretch
-    pub shown_store : {found : List ℕ} → Shown ev p q n n found → Shown ev p q n (suc n) (noted_store work q found n)
-    unfolding noted_store last_shown last
+    pub shown_store : {found : List Ends} → Shown ev p q n n found → Shown ev p q n (suc n) (noted_store work q found n)
+    unfolding last_shown last
     shown_store {found} shown =
-        last_noted ev p q shown i n (omega arith) (ends_w work q found n i) (λ t. comes t (issue_or_not ev n))
+        last_noted ev p q shown i n (omega arith) (omega arith) (ends_w work q found n i)
+        (λ t. comes t (issue_or_not ev n))
       where
         comes :
             (t : ℕ) → Issue ev n ⊎ (issue? ev n ≡ false)
@@ -238,15 +271,16 @@ module _
               both _ _ (le-leb _ _ late) (covers_source late meets ∙ covered)
 
       pub shown_source :
-          {m : ℕ} {found : List ℕ} → Shown ev p q n m found → Shown ev p q (suc n) m (noted_source work p found n T s)
-      unfolding noted_source
+          {m : ℕ} {found : List Ends} → Shown ev p q n m found
+          → Shown ev p q (suc n) m (noted_source work p found n T s)
       shown_source {m} {found} shown =
           rw (
             mod-eq_of_lt t_below,
             up_is n (omega (arith, event_bound ev N accepted n (omega arith))),
             shown.firsts T t_below,
+            shown_yet ev p q p_store n T,
           )
-          (first_noted ev p q shown T (suc n) t_below (eqb (first_shown ev p q n T) 0 && brings_w work p s)
+          (first_noted ev p q shown T (suc n) t_below (omega arith) (not (has? ev p q n T) && brings_w work p s)
           (λ t. comes t (same? T t) (has_or_not ev p q p_store n T) (test (brings_w work p s))))
         where
           t_below : T < 8
@@ -256,26 +290,23 @@ module _
               (t : ℕ) → (T ≡ t) ⊎ (T ≢ t) → Has ev p T n ⊎ (¬ Has ev p T n)
               → (brings_w work p s ≡ true) ⊎ (brings_w work p s ≡ false)
               → first_shown ev p q (suc n) t
-              ≡ cond (eqb (first_shown ev p q n T) 0 && brings_w work p s && eqb T t) (suc n) (first_shown ev p q n t)
+              ≡ cond (not (has? ev p q n T) && brings_w work p s && eqb T t) (suc n) (first_shown ev p q n t)
           comes t thread_is (inl has) passes =
-              let there = shown_some ev p q p_store n T ∙ →has ev p q p_store n T has in
-              rw (not-true (eqb (first_shown ev p q n T) 0) there)
-              (firsts_keep (λ brings. has) t)
+              rw (→has ev p q p_store n T has) (firsts_keep (λ brings. has) t)
           comes t (inl same) (inr not_yet) (inl passes) =
-              rw (shown_none ev p q p_store n T not_yet, passes, eq-eqb T t same)
+              rw (not_has ev p q p_store n T not_yet, passes, eq-eqb T t same)
               (rw same at (first_comes ev p q p_store n T later not_yet refl (brings_exactly.0 passes)))
           comes t (inr other) (inr not_yet) (inl passes) =
-              rw (shown_none ev p q p_store n T not_yet, passes, ne_eqb T t other)
+              rw (not_has ev p q p_store n T not_yet, passes, ne_eqb T t other)
               (first_keeps ev p q p_store n t (λ own. later) (λ by_t. absurd (other by_t)))
           comes t thread_is (inr not_yet) (inr fails) =
-              rw (shown_none ev p q p_store n T not_yet, fails)
+              rw (not_has ev p q p_store n T not_yet, fails)
               (firsts_keep (λ brings. false_true (sym fails ∙ brings_exactly.1 brings)) t)
 
     -- ONE EVENT MORE IS SHOWN BY WHAT IS NOTED OF IT
     pub shown_next :
-        {found : List ℕ} → Shown ev p q n n found → (past : ℕ)
+        {found : List Ends} → Shown ev p q n n found → (past : ℕ)
         → Shown ev p q (suc n) (suc n) (noted work p q found n (as_source (ev n) past))
-    unfolding noted
     shown_next {found} shown past =
         rw (sourced_kinds (kind ev n)) (by_role (test (load? ev n)) (test (wait? ev n)))
       where
@@ -298,5 +329,5 @@ module _
             (shown_source (inr (record { test = waits })) (shown_store shown))
         by_role (inr no_load) (inr no_wait) =
             rw (no_load, no_wait)
-            (first_noted ev p q (shown_store shown) 0 0 (omega arith) false
+            (first_noted ev p q (shown_store shown) 0 1 (omega arith) (omega arith) false
             (firsts_keep (λ brings. none_comes no_load no_wait brings.comes)))

@@ -2,15 +2,16 @@
 -- missing store p, the last with each later store that is the observed one, q, or happens before it. What brings stores
 -- and the stores are counted apart, for an event may be both.
 -- In order: what is shown; how the first places go on over event n.
-use Prim.Native.Nat.{ℕ, suc, ◌+◌, ◌<◌}
+use Prim.Native.Nat.{ℕ, zero, suc, ◌<◌}
 use native.Mathlib.Omega.{arith}
 use mathlib.Core.Path.{◌≡◌, refl, sym, ◌∙◌}
 use mathlib.Core.Bool.{Bool, true, false, cond, not, ◌&&◌}
 use mathlib.Core.Logic.{◌⊎◌, inl, inr, ◌≢◌}
 use mathlib.Core.List.{List}
-use lib.ListN.{length, get_or}
+use lib.ListN.{length}
 use lib.Dec.{eqb, ltb}
-use borrow.Author.Tests.{ne_eqb, lt-ltb, ltb-true}
+use borrow.Author.Tests.{lt-ltb, ltb-true}
+use Rattle.std.specs.Prelude.{Option, Some, None, is_some, is_none}
 use Rattle.record.specs.declared.events.Event.{Event}
 use Rattle.model.specs.Search.{last}
 use Rattle.model.specs.Trace.{thread, issue?, Issue}
@@ -19,6 +20,17 @@ use Rattle.model.specs.Windows.{Brings, FirstPlace, Has, behind}
 use Rattle.model.specs.Windows as windows
 use Rattle.model.proofs.Searching.{test, false_true, same?}
 use Rattle.model.proofs.WindowPlaces.{has_still, starts_once, first_place, has_exactly}
+use Rattle.windows.specs.declared.found.Ends.{Ends}
+use Rattle.windows.specs.Finding.{ends_at}
+
+-- a place, and none for 0, which is none
+abbrev pub some_place : ℕ → Option ℕ
+some_place zero = None
+some_place (suc n) = Some (suc n)
+
+pub place_is : (n : ℕ) → 0 < n → some_place n ≡ Some n
+place_is zero some = absurd (omega arith)
+place_is (suc n) some = refl
 
 module _ (ev : ℕ → Event) (p q : ℕ) where
   -- ---- what is shown before event n
@@ -39,11 +51,11 @@ module _ (ev : ℕ → Event) (p q : ℕ) where
   unfoldable pub last_shown : ℕ → ℕ → ℕ
   last_shown n t = last n (lasts? t)
 
-  -- the numbers found are what the events before event n bring and the stores before event m show
-  pub record Shown (n m : ℕ) (found : List ℕ) : Type 0 where
-    pub size : length found ≡ 16
-    pub firsts : (t : ℕ) → t < 8 → get_or found t 0 ≡ first_shown n t
-    pub lasts : (t : ℕ) → t < 8 → get_or found (8 + t) 0 ≡ last_shown m t
+  -- the ends found are what the events before event n bring and the stores before event m show
+  pub record Shown (n m : ℕ) (found : List Ends) : Type 0 where
+    pub size : length found ≡ 8
+    pub firsts : (t : ℕ) → t < 8 → (ends_at found t).first ≡ some_place (first_shown n t)
+    pub lasts : (t : ℕ) → t < 8 → (ends_at found t).last ≡ some_place (last_shown m t)
 
   module _ (p_store : Issue ev p) where
     pub has→ : (n t : ℕ) → has? n t ≡ true → Has ev p t n
@@ -77,13 +89,21 @@ module _ (ev : ℕ → Event) (p q : ℕ) where
     unfolding first_shown
     shown_none n t not_yet = rw (not_has n t not_yet) refl
 
-    -- the number shown is 0 exactly if the thread does not have p
-    pub shown_some : (n t : ℕ) → not (eqb (first_shown n t) 0) ≡ has? n t
+    -- a first place is shown exactly if the thread has p
+    pub shown_some : (n t : ℕ) → is_some (some_place (first_shown n t)) ≡ has? n t
     unfolding first_shown
     shown_some n t = by_test (has? n t)
       where
-        by_test : (b : Bool) → not (eqb (cond b (suc (behind ev p n t)) 0) 0) ≡ b
-        by_test true = rw (ne_eqb (suc (behind ev p n t)) 0 (λ is_0. omega arith)) refl
+        by_test : (b : Bool) → is_some (some_place (cond b (suc (behind ev p n t)) 0)) ≡ b
+        by_test true = refl
+        by_test false = refl
+
+    pub shown_yet : (n t : ℕ) → is_none (some_place (first_shown n t)) ≡ not (has? n t)
+    unfolding first_shown
+    shown_yet n t = by_test (has? n t)
+      where
+        by_test : (b : Bool) → is_none (some_place (cond b (suc (behind ev p n t)) 0)) ≡ not b
+        by_test true = refl
         by_test false = refl
 
     -- ---- how the first places go on, over event n

@@ -16,8 +16,10 @@ pub fn windows(trace: &[u8], work: &[u16], p: u16, q: u16) -> Windows
     ensures { result ≡ windows_by trace.now work.now p q }
 {
     let primary = area::row_get(work, p, 8);
-    let mut found: Found = [0; 16];
-    found::note_missing(&mut found, primary, p);
+    let mut found = Found::behind_missing(primary, p);
     records::look(trace, work, p, q, &mut found);
-    found::windows_in(primary, &found)
+    Windows {
+        primary,
+        threads: found.windows(),
+    }
 }

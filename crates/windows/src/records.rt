@@ -2,32 +2,28 @@
 ghost use Rattle.std.specs.Prelude.{◌≡◌};
 ghost use Rattle.windows.specs.Finding.{noted, looked};
 
-use crate::found;
 use crate::found::Found;
 use record::SourceAt;
 
 // Event e, with what its record says if it has a source. Of an event that stores and loads the store is noted first:
 // the first place that its own load gives the thread is behind it, so the store cannot end that window.
 fn note(found: &mut Found, work: &[u16], p: u16, q: u16, e: u16, said: SourceAt)
-    ensures { found.new ≡ noted work.now p q found.old e said }
+    ensures { found.new.threads ≡ noted work.now p q found.old.threads e said }
 {
-    found::note_store(found, work, q, e);
-    if !said.sourced {
-        return;
+    found.note_store(work, q, e);
+    if said.sourced {
+        found.note_source(work, p, e, said.thread, said.source);
     }
-    found::note_source(found, work, p, e, said.thread, said.source);
 }
 
 // Records p + 1 to q, one after the other.
 pub(crate) fn look(trace: &[u8], work: &[u16], p: u16, q: u16, found: &mut Found)
-    ensures { found.new ≡ looked trace.now work.now p q found.old }
+    ensures { found.new.threads ≡ looked trace.now work.now p q found.old.threads }
 {
-    let mut e = p;
-    let mut at = record::place_of(trace, (p as usize) + 1).start;
-    while e < q {
-        e += 1;
+    let mut at = record::place_of(trace, usize::from(p) + 1).start;
+    for e in p..q {
         let said = record::source_at(trace, at);
-        note(found, work, p, q, e, said);
+        note(found, work, p, q, e + 1, said);
         at = said.next;
     }
 }

@@ -1,39 +1,27 @@
 -- `order` meets its contract: with too small a work area refusal 14; else what `order_over` answers over its first
 -- 32,768 numbers, of which `ordered_as_demanded` says what it claims.
-use mathlib.Core.Path.{◌≡◌, refl, sym}
+use mathlib.Core.Path.{◌≡◌, refl}
 use mathlib.Core.List.{List}
-use Prim.Native.Nat.{ℕ, ◌<◌, ◌≤◌}
+use Prim.Native.Nat.{ℕ}
 use native.Mathlib.Omega.{arith}
 use borrow.Author.Tests.{lt-ltb, le-ltb}
 use lib.ListN.{length}
-use lib.Seq.{length-take-le}
 use Rattle.model.specs.Answers.{order_answer}
 use Rattle.model.specs.Judge.{order_of, order_work_after, cleared}
 use Rattle.model.proofs.Queries.{ordered_as_demanded}
 use Rattle.judge.proofs.order.Goals as goal
 
-too_few : {n : ℕ} → n < 32768 → 32768 ≤ n → ⊥
-too_few few enough = omega arith
-
-pub returns-then-work-lt32768 : goal.returns-then-work-lt32768
+pub returns-in_default : goal.returns-in_default
 unfolding order_of order_work_after cleared
-returns-then-work-lt32768 c =
+returns-in_default c =
     let work : List ℕ = c.args.work.now in
-    let few : length work < 32768 = omega arith in
+    let few = c.in_default.ensures.cases in
     let small = lt-ltb (length work) 32768 few in
     record {
       answer = rw small refl;
       work = rw small refl;
-      demand = λ N accepted enough p_store q_store. absurd (too_few few enough);
+      demand = λ N accepted enough p_store q_store. absurd (omega (arith, few));
     }
-
-pub slice_bounds-order_over-end-2 : goal.slice_bounds-order_over-end-2
-slice_bounds-order_over-end-2 c =
-    sym (length-take-le 32768 c.args.work.now (omega arith))
-
-pub order_over-requires : goal.order_over-requires
-order_over-requires c =
-    length-take-le 32768 c.args.work.now (omega arith)
 
 pub returns : goal.returns
 unfolding order_of order_work_after cleared
@@ -43,7 +31,7 @@ returns c =
     let bytes : List ℕ = c.args.trace.now in
     let p : ℕ = c.args.first in
     let q : ℕ = c.args.second in
-    let enough = le-ltb (length work) 32768 (omega arith) in
+    let enough = le-ltb (length work) 32768 c.in-Some.ensures.cases.enough in
     let answer : order_answer called.result ≡ order_of bytes (length work) p q =
     rw enough called.ensures.result_value
     in
