@@ -41,7 +41,11 @@ use Rattle.machine.specs.Tables.{held_in}
 use Rattle.machine.specs.Twin.{World, world, started}
 use Rattle.machine.specs.Turning.{refusal_w, counts_w, begin_refusal}
 use Rattle.machine.specs.Effects.{step_w}
+use Rattle.std.specs.Prelude.{Result, Ok, Err}
+use Rattle.machine.specs.declared.forbidden.Forbidden.{Forbidden}
 use Rattle.machine.specs.declared.state.Step.{Step}
+use Rattle.machine.specs.Forbidden.{number_of}
+use Rattle.machine.proofs.RuleLaws.{number_not_0}
 use Rattle.machine.specs.Outcomes.{Outcome, outcome, step_o}
 use Rattle.machine.specs.Sim.{Sim}
 use Rattle.machine.proofs.Refusals.{refusals, begin_refusals}
@@ -310,35 +314,33 @@ module _ (bytes : List ℕ) where
 
     -- what the machine's step gave
     module _
-        (r : Scan) (is : scanned.Record r ≡ scan_of (read_at bytes at)) (s : Step) (tables' work' : List ℕ)
-        (step_is :
-        outcome (machine_in bytes version threads locations t.stretch) t.row s tables' work'
-        ≡ step_o w r.kind r.fields)
+        (r : Scan) (is : scanned.Record r ≡ scan_of (read_at bytes at)) (tables' work' : List ℕ)
       where
-        abbrev given : Outcome
-        given = outcome (machine_in bytes version threads locations t.stretch) t.row s tables' work'
+        abbrev given : Result Step Forbidden → Outcome
+        given a = outcome (machine_in bytes version threads locations t.stretch t.row) a tables' work'
 
+        -- a rule turned the event away
         pub scanned_forbidden :
-            s.refusal ≢ 0 → (tables'' : List ℕ) (m' : Marks) (work'' : List ℕ)
-            → Stopped bytes version threads locations n s.refusal tables'' m' work''
-        scanned_forbidden some tables'' m' work'' =
+            (e : Forbidden) → given (Err e) ≡ step_o w r.kind r.fields
+            → (tables'' : List ℕ) (m' : Marks) (work'' : List ℕ)
+            → Stopped bytes version threads locations n (number_of e) tables'' m' work''
+        scanned_forbidden e step_is tables'' m' work'' =
             let (x, (read_is, kind_is, fields_are)) = scan_read bytes at r is in
-            later_forbidden s.refusal tables'' m' work'' x r.next read_is
-            (refusal_told w x given (rw (← kind_is, ← fields_are) step_is)) some
+            later_forbidden (number_of e) tables'' m' work'' x r.next read_is
+            (refusal_told w x (given (Err e)) (rw (← kind_is, ← fields_are) step_is)) (number_not_0 e)
 
+        -- it passed
         pub scanned_passes :
-            s.refusal ≡ 0 → (m' : Marks) → JudgedTo r.kind r.fields s.counted tables' work' m'
+            (s : Step) → given (Ok s) ≡ step_o w r.kind r.fields
+            → (m' : Marks) → JudgedTo r.kind r.fields s.counted tables' work' m'
             → Reached bytes version threads locations (suc n)
             (cursor s.stretch (t.row + 16) r.next) tables' m' work'
-        scanned_passes passes m' judged_to =
+        scanned_passes s step_is m' judged_to =
             let (x, (read_is, kind_is, fields_are)) = scan_read bytes at r is in
-            let told : given ≡ step_o w (kind_of x) (fields_of x) = rw (← kind_is, ← fields_are) step_is in
-            let next_row : (eqb s.refusal 0 gives t.row + 16 else t.row) ≡ t.row + 16 = rw passes refl in
-            later_passes x r.next read_is (refusal_told w x given told ∙ passes) s.stretch (t.row + 16)
-            s.counted tables' m' work' (counted_told w x given told passes)
-            (subst
-            (λ (e : ℕ). world_of bytes version threads locations s.stretch e tables' work' ≡ step_w w x)
-            next_row (after_told w x given told passes))
+            let told : given (Ok s) ≡ step_o w (kind_of x) (fields_of x) = rw (← kind_is, ← fields_are) step_is in
+            later_passes x r.next read_is (refusal_told w x (given (Ok s)) told) s.stretch (t.row + 16)
+            s.counted tables' m' work' (counted_told w x (given (Ok s)) told refl)
+            (after_told w x (given (Ok s)) told refl)
             (subst (λ (f : Fields). JudgedTo (kind_of x) f s.counted tables' work' m') fields_are
             (subst (λ (k : ℕ). JudgedTo k r.fields s.counted tables' work' m') kind_is judged_to))
 

@@ -7,7 +7,7 @@
 -- (Fits), `store_is`, `order_is` (Standings), `last_is`, `committed_is` (Closing).
 pub mod ArmLaws
 pub mod RuleLaws
-pub mod Loops
+pub mod Flags
 pub mod Storing
 pub mod TableLaws
 pub mod RowLaws

@@ -22,26 +22,26 @@ returns-in_default c =
     args.tables.now (marks_of args.marks.now args.flags.now) args.work.now c.requires c.in_default.field-0
     (sym c.in_default.is ∙ c.scan_at-d.ensures))
 
-pub step-s-requires : goal.step-s-requires
-step-s-requires c =
+pub step-requires : goal.step-requires
+step-requires c =
     let args = c.args in
-    sim_fits (events args.trace.now) (event_at args.t.row) _ args.t.row args.tables.now args.work.now
+    sim_fits (events args.trace.now) (event_at args.t.row) _ args.tables.now args.work.now
     c.requires.state
 
-pub returns-then-s-ne0 : goal.returns-then-s-ne0
-returns-then-s-ne0 c =
+pub returns-in-Err : goal.returns-in-Err
+returns-in-Err c =
     let args = c.args in
-    scanned_forbidden args.trace.now args.version args.threads args.locations (event_at args.t.row)
+    rw c.number.ensures
+    (scanned_forbidden args.trace.now args.version args.threads args.locations (event_at args.t.row)
     args.t
     args.tables.now (marks_of args.marks.now args.flags.now) args.work.now c.requires c.in-Record.e
-    (sym c.in-Record.is ∙ c.scan_at-d.ensures) c.step-s.result _ _ c.step-s.ensures
-    (λ none. omega arith) _ _ _
+    (sym c.in-Record.is ∙ c.scan_at-d.ensures) _ _ c.in-Err.k c.in-Err.ensures _ _ _)
 
 pub judge_event-requires : goal.judge_event-requires
 judge_event-requires c =
     let state = c.requires.state in (
       omega (arith, state.numbers.row_is, state.limits.few_events),
-      omega (arith, c.step-s.auto.work, state.rows.room),
+      omega (arith, c.step.auto.work, state.rows.room),
     )
 
 pub overflow_add-result : goal.overflow_add-result
@@ -55,5 +55,5 @@ returns c =
     scanned_passes args.trace.now args.version args.threads args.locations (event_at args.t.row)
     args.t
     args.tables.now (marks_of args.marks.now args.flags.now) args.work.now c.requires c.in-Record.e
-    (sym c.in-Record.is ∙ c.scan_at-d.ensures) c.step-s.result _ _ c.step-s.ensures
-    (omega (arith, c.if-s-ne0.false)) _ (c.judge_event.ensures (events args.trace.now))
+    (sym c.in-Record.is ∙ c.scan_at-d.ensures) _ _ c.in-Ok.s c.in-Ok.ensures
+    _ (c.judge_event.ensures (events args.trace.now))
