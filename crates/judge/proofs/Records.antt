@@ -334,11 +334,11 @@ module _ (bytes : List ℕ) where
             (s : Step) → given (Ok s) ≡ step_o w r.kind r.fields
             → (m' : Marks) → JudgedTo r.kind r.fields s.counted tables' work' m'
             → Reached bytes version threads locations (suc n)
-            (cursor s.stretch (t.row + 16) r.next) tables' m' work'
+            (cursor s.stretch s.row r.next) tables' m' work'
         scanned_passes s step_is m' judged_to =
             let (x, (read_is, kind_is, fields_are)) = scan_read bytes at r is in
             let told : given (Ok s) ≡ step_o w (kind_of x) (fields_of x) = rw (← kind_is, ← fields_are) step_is in
-            later_passes x r.next read_is (refusal_told w x (given (Ok s)) told) s.stretch (t.row + 16)
+            later_passes x r.next read_is (refusal_told w x (given (Ok s)) told) s.stretch s.row
             s.counted tables' m' work' (counted_told w x (given (Ok s)) told refl)
             (after_told w x (given (Ok s)) told refl)
             (subst (λ (f : Fields). JudgedTo (kind_of x) f s.counted tables' work' m') fields_are

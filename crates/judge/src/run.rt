@@ -148,7 +148,7 @@ fn judge_record(
     loads::judge_event(tables, marks, flags, s.counted, work, e.kind, row, f);
     Next::On(Cursor {
         stretch: s.stretch,
-        row: row + 16,
+        row: s.row,
         at: e.next,
     })
 }

@@ -72,7 +72,7 @@ module _ (m : Machine) (tables l : List ℕ) (counted : Bool) (after : World) wh
   -- none does
   pub passes :
       (rule : ℕ) (w : World) (s : Step) → rule ≡ 0 → after ≡ world (ticked (state_of m)) tables l
-      → s ≡ record { stretch = m.stretch; counted = counted }
+      → s ≡ record { row = m.row + 16; stretch = m.stretch; counted = counted }
       → outcome m (Ok s) tables l ≡ by_rule rule w counted after
   unfolding by_rule ticked
   passes rule w s is effect answer = rw (is, effect, answer) refl
@@ -190,10 +190,13 @@ locked_passes m tables l t x s on none r tables₁ l₁ is tables₂ l₂ tables
     let rule_is : on_place (state_of m) t x (locked_rule w t x s) ≡ 0 =
     its_rule w t x s on none ∙ number_is w t x s on none (outcome m (Ok r) tables₁ l₁) is
     in
+    let row_is : r.row ≡ m.row + 16 =
+    ap (λ (st : State). st.row) (state_is ∙ load_ticks w t x s)
+    in
     let stretch_is : r.stretch ≡ m.stretch =
     ap (λ (st : State). st.stretch) (state_is ∙ load_ticks w t x s)
     in
-    rw (rule_is, counted_is, tables_are, l_is, ← tables_loaded, ← l_loaded, stretch_is) refl
+    rw (rule_is, counted_is, tables_are, l_is, ← tables_loaded, ← l_loaded, row_is, stretch_is) refl
 
 -- a crossing load's source is noted if it may be
 module _ (j row : ℕ) (tables l : List ℕ) (x s : ℕ) where

@@ -27,11 +27,11 @@ abbrev pub counted_by : Result Step Forbidden → Bool
 counted_by (Ok s) = s.counted
 counted_by (Err e) = false
 
--- the state after an event that led to r: one that passes is followed by the next row
+-- the state after an event that led to r
 abbrev pub state_after : Machine → Result Step Forbidden → State
 state_after m (Ok s) =
     record {
-      row = m.row + 16;
+      row = s.row;
       stretch = s.stretch;
       version = m.version;
       threads = m.threads;

@@ -1,5 +1,5 @@
 // The machine's state by value, and what an event that passes makes of it.
-ghost use Rattle.std.specs.Prelude.{◌≡◌};
+ghost use Rattle.std.specs.Prelude.{◌≡◌, ◌+◌, ◌<◌};
 ghost use Rattle.machine.specs.Twin.{next_stretch};
 
 // Where the row of the next event begins, the stretch, and what the begin said.
@@ -12,11 +12,11 @@ pub struct Machine {
     pub locations: u16,
 }
 
-// After an event that passes: the stretch, and whether loads count as of it: a load itself, or at a close those that
-// its thread holds. The rest of the state is the caller's to keep: version, threads and locations stay, and the next
-// row follows.
+// After an event that passes: where the next event's row begins, the stretch, and whether loads count as of it: a load
+// itself, or at a close those that its thread holds. Version, threads and locations stay, and are the caller's to keep.
 #[derive(Clone, Copy)]
 pub struct Step {
+    pub row: usize,
     pub stretch: u16,
     pub counted: bool,
 }
@@ -32,9 +32,11 @@ impl Machine {
 
     // The event passes.
     pub(crate) fn pass(self, counted: bool) -> Step
-        ensures { result ≡ record { stretch = self.stretch; counted = counted } }
+        requires { self.row < 32768 }
+        ensures { result ≡ record { row = self.row + 16; stretch = self.stretch; counted = counted } }
     {
         Step {
+            row: self.row + 16,
             stretch: self.stretch,
             counted,
         }

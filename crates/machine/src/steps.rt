@@ -4,29 +4,15 @@
 ghost use Rattle.std.specs.Prelude.{◌≡◌, List, ℕ, ◌+◌, ◌≤◌, ◌<◌, length};
 ghost use Rattle.machine.specs.Twin.{state_of, world, admits, admitted};
 ghost use Rattle.machine.specs.Turning.{Fits};
-ghost use Rattle.machine.specs.Outcomes.{outcome, issue_o, commit_o, only_o, plain_o, memory_o, load_o};
+ghost use Rattle.machine.specs.Outcomes.{outcome, issue_o, commit_o, only_o, across_o, memory_o, load_o};
 ghost use Rattle.machine.specs.Outcomes.{flush_o, fence_on_o, crash_o, switch_o, signal_o, wait_o, open_o};
 ghost use Rattle.machine.specs.Outcomes.{locked_o, close_o, step_o};
-ghost use Rattle.machine.specs.Effects.{aside_tables, aside_work};
 
 use crate::forbidden::Forbidden;
 use crate::state::{Machine, Step};
 use crate::tables::Tables;
 use crate::{effects, regions, rules, tables, threads};
 use record::Fields;
-
-// Behind a crossing load of thread t that passed and does not count: if the thread is in no skip, it is open, and the
-// load is held. This hands nothing back, and is asked where a load does not count: so it costs other loads nothing.
-#[tactic(auto, unfolding(crate::specs::Effects::aside_tables, crate::specs::Effects::aside_work))]
-fn set_aside(tables: &mut Tables, work: &mut [u16], row: usize, t: u16, x: u16, s: u16)
-    requires { (t < 8) × (x < 256) × (row < 32768) × (row + 16 ≤ length work.old) }
-    ensures tables_after { tables.new ≡ aside_tables tables.old row t }
-    ensures work_after { work.new ≡ aside_work tables.old work.old row t x s }
-{
-    if !threads::thread_of(tables, t).skip {
-        effects::hold(tables, work, row, t, x, s);
-    }
-}
 
 impl Machine {
     #[tactic(auto, using(crate::proofs::RuleLaws::number_some), unfolding(crate::specs::Outcomes::by_rule, crate::specs::Twin::ticked, crate::specs::Effects::issue_w))]
@@ -95,8 +81,10 @@ impl Machine {
         true
     }
 
-    // A crossing load, which brings no clock. It counts if its thread is in no skip and not open.
-    #[tactic(auto, using(crate::proofs::RuleLaws::number_some, crate::proofs::RuleLaws::plain_stays), unfolding(crate::specs::Outcomes::by_rule, crate::specs::Twin::ticked, crate::specs::Twin::admitted))]
+    // A crossing load, which brings no clock. It counts if its thread is in no skip and not open; in no skip and open, it
+    // is held.
+    #[tactic(auto, using(crate::proofs::RuleLaws::number_some, crate::proofs::RuleLaws::plain_stays, crate::proofs::RuleLaws::skip_stays, crate::proofs::RuleLaws::source_noted), unfolding(crate::specs::Outcomes::by_rule, crate::specs::Twin::ticked, crate::specs::Twin::admitted, crate::specs::Effects::cross_w))]
+    #[inline(always)]
     fn load_across(
         self,
         tables: &mut Tables,
@@ -107,13 +95,19 @@ impl Machine {
     ) -> Result<Step, Forbidden>
         requires { Fits self (length work.old) × (self.row < 32768) × (t < 8) × (x < 256) }
         ensures { outcome self result tables.new work.new
-            ≡ plain_o (world (state_of self) tables.old work.old) t x s }
+            ≡ across_o (world (state_of self) tables.old work.old) t x s }
     {
         if !self.admit(tables, work, x, s) {
             return Err(Forbidden::WrongSource);
         }
         area::no_store(work, self.row);
-        Ok(self.pass(regions::is_plain(tables, t)))
+        if regions::is_plain(tables, t) {
+            return Ok(self.pass(true));
+        }
+        if !threads::thread_of(tables, t).skip {
+            effects::hold(tables, work, self.row, t, x, s);
+        }
+        Ok(self.pass(false))
     }
 
     // A load where no store of its thread waits at the location: the last one committed in the stretch, or a crossing
@@ -136,11 +130,7 @@ impl Machine {
             let q = tables[tables::last(x)];
             return self.load_only(tables, work, t, s, q);
         }
-        let r = self.load_across(tables, work, t, x, s)?;
-        if !r.counted {
-            set_aside(tables, work, self.row, t, x, s);
-        }
-        Ok(r)
+        self.load_across(tables, work, t, x, s)
     }
 
     // The load rule: the newest waiting store, or what is in memory.
