@@ -38,7 +38,7 @@ use Rattle.model.proofs.NoBytes.{begun_none, begun_away, no_begin_first}
 use Rattle.area.specs.Cells.{event_at}
 use Rattle.area.specs.Rows.{HeldLinked}
 use Rattle.machine.specs.Tables.{held_in}
-use Rattle.machine.specs.Twin.{World, world, started}
+use Rattle.machine.specs.Twin.{State, World, world, started}
 use Rattle.machine.specs.Turning.{refusal_w, counts_w, begin_refusal}
 use Rattle.machine.specs.Effects.{step_w}
 use Rattle.std.specs.Prelude.{Result, Ok, Err}
@@ -305,6 +305,28 @@ module _ (bytes : List ℕ) where
             subst (Sim ev (suc n)) (sym (step_is ∙ ap (step_w w) (sym event_n)))
             (step_next ev n w reached.state passes)
 
+    -- the machine's step keeps the begin, which the run knows, and goes on to the next row
+    known_begin :
+        (x : Event) (past : ℕ) → read_at bytes at ≡ event x past → refusal_w w x ≡ 0
+        → (st : State) (tables' work' : List ℕ) → world st tables' work' ≡ step_w w x
+        → world_of bytes version threads locations st.stretch (t.row + 16) tables' work' ≡ step_w w x
+    known_begin x past is_read is st tables' work' step_is =
+        let event_n = at_event x past is_read in
+        let next = subst (Sim (events bytes) (suc n)) (sym (step_is ∙ ap (step_w w) (sym event_n)))
+        (step_next (events bytes) n w reached.state (rule_is x past is_read ∙ is))
+        in
+        let row : t.row + 16 ≡ st.row = omega (arith, next.numbers.row_is, reached.state.numbers.row_is) in
+        same st row (reached.state.numbers.version_is ∙ sym next.numbers.version_is)
+        (reached.state.numbers.threads_is ∙ sym next.numbers.threads_is)
+        (reached.state.numbers.locations_is ∙ sym next.numbers.locations_is)
+        ∙ step_is
+      where
+        same :
+            (st : State) → t.row + 16 ≡ st.row → version ≡ st.version → threads ≡ st.threads
+            → locations ≡ st.locations
+            → world_of bytes version threads locations st.stretch (t.row + 16) tables' work' ≡ world st tables' work'
+        same st row version_is threads_is locations_is = rw (row, version_is, threads_is, locations_is) refl
+
     -- ---- by the record's scan
 
     pub scanned_unread :
@@ -334,13 +356,14 @@ module _ (bytes : List ℕ) where
             (s : Step) → given (Ok s) ≡ step_o w r.kind r.fields
             → (m' : Marks) → JudgedTo r.kind r.fields s.counted tables' work' m'
             → Reached bytes version threads locations (suc n)
-            (cursor s.stretch s.row r.next) tables' m' work'
+            (cursor s.machine.stretch (t.row + 16) r.next) tables' m' work'
         scanned_passes s step_is m' judged_to =
             let (x, (read_is, kind_is, fields_are)) = scan_read bytes at r is in
             let told : given (Ok s) ≡ step_o w (kind_of x) (fields_of x) = rw (← kind_is, ← fields_are) step_is in
-            later_passes x r.next read_is (refusal_told w x (given (Ok s)) told) s.stretch s.row
+            let passes = refusal_told w x (given (Ok s)) told in
+            later_passes x r.next read_is passes s.machine.stretch (t.row + 16)
             s.counted tables' m' work' (counted_told w x (given (Ok s)) told refl)
-            (after_told w x (given (Ok s)) told refl)
+            (known_begin x r.next read_is passes _ tables' work' (after_told w x (given (Ok s)) told refl))
             (subst (λ (f : Fields). JudgedTo (kind_of x) f s.counted tables' work' m') fields_are
             (subst (λ (k : ℕ). JudgedTo k r.fields s.counted tables' work' m') kind_is judged_to))
 

@@ -147,8 +147,8 @@ fn judge_record(
     };
     loads::judge_event(tables, marks, flags, s.counted, work, e.kind, row, f);
     Next::On(Cursor {
-        stretch: s.stretch,
-        row: s.row,
+        stretch: s.machine.stretch,
+        row: row + 16,
         at: e.next,
     })
 }

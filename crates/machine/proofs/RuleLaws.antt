@@ -35,11 +35,6 @@ use Rattle.machine.specs.Outcomes.{Outcome, counted_by, state_after, outcome, tu
 use Rattle.machine.specs.Outcomes.{memory_o, load_o, locked_o}
 use Rattle.machine.proofs.TableLaws.{plain_is}
 
--- ---- the work area
-
-pub row_inside : (m : Machine) (size : ℕ) → Fits m size → m.row < 32768 → m.row + 16 ≤ size
-row_inside m size fits early = omega (arith, fits.inside early)
-
 -- ---- answers
 
 -- no rule has number 0
@@ -61,22 +56,6 @@ number_some NoOutcome = refl
 pub number_not_0 : (e : Forbidden) → number_of e ≢ 0
 number_not_0 e is = false_true (sym (number_some e) ∙ eq-eqb (number_of e) 0 is)
 
-module _ (m : Machine) (tables l : List ℕ) (counted : Bool) (after : World) where
-  -- a rule turns the event away
-  pub stopped :
-      (rule : ℕ) (e : Forbidden) → rule ≡ number_of e
-      → outcome m (Err e) tables l ≡ by_rule rule (world (state_of m) tables l) counted after
-  unfolding by_rule
-  stopped rule e is = rw (is, number_some e) refl
-
-  -- none does
-  pub passes :
-      (rule : ℕ) (w : World) (s : Step) → rule ≡ 0 → after ≡ world (ticked (state_of m)) tables l
-      → s ≡ record { row = m.row + 16; stretch = m.stretch; counted = counted }
-      → outcome m (Ok s) tables l ≡ by_rule rule w counted after
-  unfolding by_rule ticked
-  passes rule w s is effect answer = rw (is, effect, answer) refl
-
 -- an outcome by a rule has the rule's number
 pub rule_told : (k : ℕ) (w after : World) (counted : Bool) → (by_rule k w counted after).refusal ≡ k
 unfolding by_rule
@@ -97,12 +76,6 @@ module _ (w : World) (t x s : ℕ) where
       → only_o w t s p ≡ load_o w t x s
   unfolding fits_w load_w
   load_waits on p p_is some = rw (on _, ← p_is, ne_eqb p 0 some) refl
-
-  pub memory_here : here_w w x ≡ true → only_o w t s (last_w w x) ≡ memory_o w t x s
-  memory_here here = rw here refl
-
-  pub memory_crosses : here_w w x ≡ false → across_o w t x s ≡ memory_o w t x s
-  memory_crosses not_here = rw not_here refl
 
   -- none does: the load is the load rule's
   by_load_rule :
@@ -186,17 +159,14 @@ locked_passes m tables l t x s on none r tables₁ l₁ is tables₂ l₂ tables
     let world_is : world (state_after m (Ok r)) tables₁ l₁ ≡ load_w w t x s = ap (λ (o : Outcome). o.after) after in
     let tables_loaded : tables₁ ≡ (load_w w t x s).tables = ap (λ (v : World). v.tables) world_is in
     let l_loaded : l₁ ≡ (load_w w t x s).work = ap (λ (v : World). v.work) world_is in
-    let state_is : state_after m (Ok r) ≡ (load_w w t x s).state = ap (λ (v : World). v.state) world_is in
     let rule_is : on_place (state_of m) t x (locked_rule w t x s) ≡ 0 =
     its_rule w t x s on none ∙ number_is w t x s on none (outcome m (Ok r) tables₁ l₁) is
     in
-    let row_is : r.row ≡ m.row + 16 =
-    ap (λ (st : State). st.row) (state_is ∙ load_ticks w t x s)
+    let state_is : state_after m (Ok r) ≡ ticked (state_of m) =
+    ap (λ (v : World). v.state) world_is ∙ load_ticks w t x s
     in
-    let stretch_is : r.stretch ≡ m.stretch =
-    ap (λ (st : State). st.stretch) (state_is ∙ load_ticks w t x s)
-    in
-    rw (rule_is, counted_is, tables_are, l_is, ← tables_loaded, ← l_loaded, row_is, stretch_is) refl
+    ap (λ (st : State). record { refusal = 0; counted = r.counted; after = world st tables₂ l₂ }) state_is
+    ∙ rw (rule_is, counted_is, tables_are, l_is, ← tables_loaded, ← l_loaded) refl
 
 -- a crossing load's source is noted if it may be
 module _ (j row : ℕ) (tables l : List ℕ) (x s : ℕ) where
@@ -233,102 +203,3 @@ unfolding thread_of region_of
 plain_stays tables t x s few =
     rw (get_or-set_other tables (source_cell x) (thread_cell t 12) s 0 (λ same. omega arith))
     (plain_is (of_thread tables t 12))
-
--- ---- a crossing load, behind the step r that does not hold it yet
-
-module _
-    (m : Machine) (tables l : List ℕ) (t x s : ℕ) (few : t < 8) (r : Result Step Forbidden) (tables₁ l₁ : List ℕ)
-    (is : outcome m r tables₁ l₁ ≡ plain_o (world (state_of m) tables l) t x s) where
-  abbrev before : World
-  before = world (state_of m) tables l
-
-  abbrev noted : List ℕ
-  noted = set tables (source_cell x) s
-
-  abbrev fits : Bool
-  fits = admits m.stretch m.row tables l x s
-
-  abbrev skips : Bool
-  skips = (thread_of tables t).skip
-
-  abbrev opens : Bool
-  opens = (region_of tables t).opened
-
-  -- what it left, if the source may be
-  left_by :
-      (b : Bool) → fits ≡ b
-      → outcome m r tables₁ l₁
-      ≡ by_rule (b gives 0 else 9) before (at_once_w before t) (pass_with before noted)
-  left_by b fits_is = is ∙ rw fits_is refl
-
-  -- it is turned away
-  pub away : turned_by r ≢ 0 → outcome m r tables₁ l₁ ≡ across_o before t x s
-  unfolding by_rule
-  away some = by_test fits refl
-    where
-      by_test : (b : Bool) → fits ≡ b → outcome m r tables₁ l₁ ≡ across_o before t x s
-      by_test true on = absurd (some (ap (λ (o : Outcome). o.refusal) (left_by true on)))
-      by_test false off = is ∙ rw off refl
-
-  -- it counts, so its thread is in no skip and not open
-  pub at_once : counted_by r ≡ true → outcome m r tables₁ l₁ ≡ across_o before t x s
-  unfolding cross_w by_rule
-  at_once counts = by_test fits refl skips refl opens refl
-    where
-      by_test :
-          (b : Bool) → fits ≡ b → (skip : Bool) → skips ≡ skip → (open_now : Bool) → opens ≡ open_now
-          → outcome m r tables₁ l₁ ≡ across_o before t x s
-      by_test true on false no_skip false shut = is ∙ rw (on, no_skip, shut) refl
-      by_test false off skip skip_is open_now open_is = is ∙ rw off refl
-      by_test true on true in_skip open_now open_is = is ∙ rw (on, in_skip) refl
-      by_test true on false no_skip true is_open =
-          let counted_is : counted_by r ≡ false =
-          ap (λ (o : Outcome). o.counted) (left_by true on) ∙ rw (no_skip, is_open) refl
-          in
-          false_true (sym counted_is ∙ counts)
-
-  -- it does not: then it is in a skip, or held
-  pub aside :
-      turned_by r ≡ 0 → counted_by r ≡ false → (tables₂ l₂ : List ℕ) → tables₂ ≡ aside_tables tables₁ m.row t
-      → l₂ ≡ aside_work tables₁ l₁ m.row t x s → outcome m r tables₂ l₂ ≡ across_o before t x s
-  unfolding cross_w by_rule aside_tables aside_work
-  aside passed_it no_count tables₂ l₂ tables_are l_is = by_test fits refl skips refl opens refl
-    where
-      -- the step's answer with other tables and another work area
-      with_tables : List ℕ → List ℕ → Outcome → Outcome
-      with_tables v k o =
-          record { refusal = o.refusal; counted = o.counted; after = world o.after.state v k }
-
-      left :
-          {A : Type 0} (read : Outcome → A) (b : Bool) → fits ≡ b
-          → read (outcome m r tables₁ l₁)
-          ≡ read (by_rule (b gives 0 else 9) before (at_once_w before t) (pass_with before noted))
-      left read b fits_is = ap read (left_by b fits_is)
-
-      by_test :
-          (b : Bool) → fits ≡ b → (skip : Bool) → skips ≡ skip → (open_now : Bool) → opens ≡ open_now
-          → outcome m r tables₂ l₂ ≡ across_o before t x s
-      by_test false off skip skip_is open_now open_is =
-          let refused : turned_by r ≡ 9 = left (λ (o : Outcome). o.refusal) false off in
-          absurd (omega arith)
-      by_test true on true in_skip open_now open_is =
-          let tables₁_are = left (λ (o : Outcome). o.after.tables) true on in
-          let l₁_is = left (λ (o : Outcome). o.after.work) true on in
-          let skip₁ : (thread_of tables₁ t).skip ≡ true = rw tables₁_are (skip_stays tables t x s few ∙ in_skip) in
-          let tables₂_are : tables₂ ≡ noted = tables_are ∙ rw (skip₁, tables₁_are) refl in
-          let l₂_is : l₂ ≡ no_store l m.row = l_is ∙ rw (skip₁, l₁_is) refl in
-          left (with_tables tables₂ l₂) true on ∙ rw (on, in_skip, tables₂_are, l₂_is) refl
-      by_test true on false no_skip true is_open =
-          let tables₁_are = left (λ (o : Outcome). o.after.tables) true on in
-          let l₁_is = left (λ (o : Outcome). o.after.work) true on in
-          let skip₁ : (thread_of tables₁ t).skip ≡ false = rw tables₁_are (skip_stays tables t x s few ∙ no_skip) in
-          let tables₂_are : tables₂ ≡ held_tables noted m.row t = tables_are ∙ rw (skip₁, tables₁_are) refl in
-          let l₂_is : l₂ ≡ held_work noted (no_store l m.row) m.row t x s =
-          l_is ∙ rw (skip₁, tables₁_are, l₁_is) refl
-          in
-          left (with_tables tables₂ l₂) true on ∙ rw (on, no_skip, is_open, tables₂_are, l₂_is) refl
-      by_test true on false no_skip false shut =
-          let counted_is : counted_by r ≡ true =
-          left (λ (o : Outcome). o.counted) true on ∙ rw (no_skip, shut) refl
-          in
-          false_true (sym no_count ∙ counted_is)

@@ -27,15 +27,15 @@ abbrev pub counted_by : Result Step Forbidden → Bool
 counted_by (Ok s) = s.counted
 counted_by (Err e) = false
 
--- the state after an event that led to r
+-- the state after an event that led to r: one that passes is followed by the next row
 abbrev pub state_after : Machine → Result Step Forbidden → State
 state_after m (Ok s) =
     record {
-      row = s.row;
-      stretch = s.stretch;
-      version = m.version;
-      threads = m.threads;
-      locations = m.locations;
+      row = s.machine.row + 16;
+      stretch = s.machine.stretch;
+      version = s.machine.version;
+      threads = s.machine.threads;
+      locations = s.machine.locations;
     }
 state_after m (Err e) = state_of m
 

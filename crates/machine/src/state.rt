@@ -12,12 +12,11 @@ pub struct Machine {
     pub locations: u16,
 }
 
-// After an event that passes: where the next event's row begins, the stretch, and whether loads count as of it: a load
-// itself, or at a close those that its thread holds. Version, threads and locations stay, and are the caller's to keep.
+// After an event that passes: the machine, which the caller takes on to the next row, and whether loads count as of the
+// event: a load itself, or at a close those that its thread holds.
 #[derive(Clone, Copy)]
 pub struct Step {
-    pub row: usize,
-    pub stretch: u16,
+    pub machine: Machine,
     pub counted: bool,
 }
 
@@ -32,12 +31,10 @@ impl Machine {
 
     // The event passes.
     pub(crate) fn pass(self, counted: bool) -> Step
-        requires { self.row < 32768 }
-        ensures { result ≡ record { row = self.row + 16; stretch = self.stretch; counted = counted } }
+        ensures { result ≡ record { machine = self; counted = counted } }
     {
         Step {
-            row: self.row + 16,
-            stretch: self.stretch,
+            machine: self,
             counted,
         }
     }

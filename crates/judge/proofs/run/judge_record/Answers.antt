@@ -44,6 +44,11 @@ judge_event-requires c =
       omega (arith, c.step.auto.work, state.rows.room),
     )
 
+pub overflow_add-result : goal.overflow_add-result
+overflow_add-result c =
+    let state = c.requires.state in
+    omega (arith, state.numbers.row_is, state.limits.few_events)
+
 pub returns : goal.returns
 returns c =
     let args = c.args in

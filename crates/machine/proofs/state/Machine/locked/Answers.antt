@@ -18,5 +18,5 @@ returns-in_err-r c =
 pub returns : goal.returns
 returns c =
     let none = rw c.thread_of.ensures at c.if-thread_of-ne0.false in
-    locked_passes _ _ _ _ _ _ c.in_ok-on_place.ensures.0 none _ _ _ c.in_ok-r.ensures _ _
+    locked_passes _ _ _ _ _ _ c.in_ok-on_place.ensures.0 none c.in_ok-r.r _ _ c.in_ok-r.ensures _ _
     c.exchange.ensures.tables_after c.exchange.ensures.work_after
