@@ -19,7 +19,6 @@ use Rattle.record.specs.declared.scanning.Scan.{Scan}
 use Rattle.record.specs.declared.scanning.Scanned.TheVariants as scanned
 use Rattle.record.specs.Answers.{Answer, event, refused, read_answer, scan_of}
 use Rattle.record.specs.Reading.{read_at}
-use Rattle.record.specs.Tests.{◌gives◌else◌}
 use Rattle.record.specs.Parts.{start}
 use Rattle.record.specs.Versions.{later_refusal}
 use Rattle.record.specs.Events.{kind_of}

@@ -1,4 +1,4 @@
--- A flag as a number, in a sum of columns.
+-- A flag as a number: of a column of its own, and as a part of column 12.
 use mathlib.Core.Path.{◌≡◌, refl}
 use mathlib.Core.Bool.{Bool, true, false}
 use Prim.Native.Nat.{ℕ, ◌+◌, ◌*◌, ◌/◌, ◌%◌}

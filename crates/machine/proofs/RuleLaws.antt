@@ -4,7 +4,7 @@ use mathlib.Core.Path.{◌≡◌, refl, sym, ap, ◌∙◌}
 use mathlib.Core.Bool.{Bool, true, false, ◌&&◌, not}
 use mathlib.Core.Logic.{◌≢◌}
 use mathlib.Core.List.{List}
-use Prim.Native.Nat.{ℕ, ◌+◌, ◌≤◌, ◌<◌}
+use Prim.Native.Nat.{ℕ, ◌<◌}
 use native.Mathlib.Omega.{arith}
 use borrow.Author.Tests.{eqb-true, eq-eqb, ne_eqb}
 use lib.Dec.{eqb, leb}
@@ -13,7 +13,7 @@ use lib.Seq.{get_or-set_other}
 use Rattle.record.specs.Tests.{◌gives◌else◌}
 use Rattle.model.proofs.Searching.{false_true}
 use Rattle.area.specs.Cells.{no_store, joined}
-use Rattle.std.specs.Prelude.{Result, Ok, Err}
+use Rattle.std.specs.Prelude.{Result, Ok}
 use Rattle.machine.specs.declared.forbidden.Forbidden.{Forbidden}
 use Rattle.machine.specs.declared.forbidden.Forbidden.TheVariants.{NoBegin, UnknownKind, LaterBegin, OutOfRange}
 use Rattle.machine.specs.declared.forbidden.Forbidden.TheVariants.{NoThread, NoLocation, WrongSource, EmptyQueue}
@@ -26,8 +26,8 @@ use Rattle.machine.specs.Tables.{thread_cell, source_cell}
 use Rattle.machine.specs.Threads.{thread_of, of_thread}
 use Rattle.machine.specs.Regions.{region_of, plain_in}
 use Rattle.machine.specs.Twin.{State, World, state_of, world, thread_at, ticked, admits, admitted}
-use Rattle.machine.specs.Twin.{waiting_in, waiting_w, last_w, here_w, crossing_w, fits_w}
-use Rattle.machine.specs.Turning.{Fits, on_place, load_rule, locked_rule}
+use Rattle.machine.specs.Twin.{waiting_in, waiting_w, here_w, crossing_w, fits_w}
+use Rattle.machine.specs.Turning.{place_refusal, on_place, load_rule, locked_rule}
 use Rattle.machine.specs.Turning.{at_once_w, holds_w, counted_w}
 use Rattle.machine.specs.Effects.{pass_with, meet_w, held_tables, held_work, cross_w, load_w, exchanged_tables}
 use Rattle.machine.specs.Effects.{aside_tables, aside_work, exchanged_work, locked_w}
@@ -55,6 +55,15 @@ number_some NoOutcome = refl
 
 pub number_not_0 : (e : Forbidden) → number_of e ≢ 0
 number_not_0 e is = false_true (sym (number_some e) ∙ eq-eqb (number_of e) 0 is)
+
+-- where one of the tests of the place fails, the number is that of a rule
+refusal_is_some : (threads row t : ℕ) → place_refusal threads row t ≢ 0
+refusal_is_some threads row t = by_tests (leb 32768 row) (leb threads t)
+  where
+    by_tests : (late none : Bool) → ◌≢◌ {A = ℕ} (late gives 13 else none gives 7 else 8) 0
+    by_tests true none is = omega arith
+    by_tests false true is = omega arith
+    by_tests false false is = omega arith
 
 -- an outcome by a rule has the rule's number
 pub rule_told : (k : ℕ) (w after : World) (counted : Bool) → (by_rule k w counted after).refusal ≡ k
@@ -203,3 +212,99 @@ unfolding thread_of region_of
 plain_stays tables t x s few =
     rw (get_or-set_other tables (source_cell x) (thread_cell t 12) s 0 (λ same. omega arith))
     (plain_is (of_thread tables t 12))
+
+-- ---- a crossing load, behind the step r that does not hold it yet
+
+module _
+    (m : Machine) (tables l : List ℕ) (t x s : ℕ) (few : t < 8) (r : Result Step Forbidden) (tables₁ l₁ : List ℕ)
+    (is : outcome m r tables₁ l₁ ≡ plain_o (world (state_of m) tables l) t x s) where
+  abbrev before : World
+  before = world (state_of m) tables l
+
+  abbrev noted : List ℕ
+  noted = set tables (source_cell x) s
+
+  abbrev fits : Bool
+  fits = admits m.stretch m.row tables l x s
+
+  abbrev skips : Bool
+  skips = (thread_of tables t).skip
+
+  abbrev opens : Bool
+  opens = (region_of tables t).opened
+
+  -- what it left, if the source may be
+  left_by :
+      (b : Bool) → fits ≡ b
+      → outcome m r tables₁ l₁
+      ≡ by_rule (b gives 0 else 9) before (at_once_w before t) (pass_with before noted)
+  left_by b fits_is = is ∙ rw fits_is refl
+
+  -- it counts, so its thread is in no skip and not open
+  pub at_once : counted_by r ≡ true → outcome m r tables₁ l₁ ≡ across_o before t x s
+  unfolding cross_w by_rule
+  at_once counts = by_test fits refl skips refl opens refl
+    where
+      by_test :
+          (b : Bool) → fits ≡ b → (skip : Bool) → skips ≡ skip → (open_now : Bool) → opens ≡ open_now
+          → outcome m r tables₁ l₁ ≡ across_o before t x s
+      by_test true on false no_skip false shut = is ∙ rw (on, no_skip, shut) refl
+      by_test false off skip skip_is open_now open_is = is ∙ rw off refl
+      by_test true on true in_skip open_now open_is = is ∙ rw (on, in_skip) refl
+      by_test true on false no_skip true is_open =
+          let counted_is : counted_by r ≡ false =
+          ap (λ (o : Outcome). o.counted) (left_by true on) ∙ rw (no_skip, is_open) refl
+          in
+          false_true (sym counted_is ∙ counts)
+
+  -- it does not: then it is turned away, in a skip, or held
+  pub aside :
+      counted_by r ≡ false → (tables₂ l₂ : List ℕ) → tables₂ ≡ aside_tables tables₁ m.row t (turned_by r)
+      → l₂ ≡ aside_work tables₁ l₁ m.row t x s (turned_by r) → outcome m r tables₂ l₂ ≡ across_o before t x s
+  unfolding cross_w by_rule aside_tables aside_work
+  aside no_count tables₂ l₂ tables_are l_is = by_test fits refl skips refl opens refl
+    where
+      -- the step's answer with other tables and another work area
+      with_tables : List ℕ → List ℕ → Outcome → Outcome
+      with_tables v k o =
+          record { refusal = o.refusal; counted = o.counted; after = world o.after.state v k }
+
+      left :
+          {A : Type 0} (read : Outcome → A) (b : Bool) → fits ≡ b
+          → read (outcome m r tables₁ l₁)
+          ≡ read (by_rule (b gives 0 else 9) before (at_once_w before t) (pass_with before noted))
+      left read b fits_is = ap read (left_by b fits_is)
+
+      by_test :
+          (b : Bool) → fits ≡ b → (skip : Bool) → skips ≡ skip → (open_now : Bool) → opens ≡ open_now
+          → outcome m r tables₂ l₂ ≡ across_o before t x s
+      by_test false off skip skip_is open_now open_is =
+          let refused = left (λ (o : Outcome). o.refusal) false off in
+          let tables₁_are = left (λ (o : Outcome). o.after.tables) false off in
+          let l₁_is = left (λ (o : Outcome). o.after.work) false off in
+          let tables₂_are : tables₂ ≡ tables = tables_are ∙ rw (refused, tables₁_are) refl in
+          let l₂_is : l₂ ≡ l = l_is ∙ rw (refused, l₁_is) refl in
+          left (with_tables tables₂ l₂) false off ∙ rw (off, tables₂_are, l₂_is) refl
+      by_test true on true in_skip open_now open_is =
+          let passed_it = left (λ (o : Outcome). o.refusal) true on in
+          let tables₁_are = left (λ (o : Outcome). o.after.tables) true on in
+          let l₁_is = left (λ (o : Outcome). o.after.work) true on in
+          let skip₁ : (thread_of tables₁ t).skip ≡ true = rw tables₁_are (skip_stays tables t x s few ∙ in_skip) in
+          let tables₂_are : tables₂ ≡ noted = tables_are ∙ rw (passed_it, skip₁, tables₁_are) refl in
+          let l₂_is : l₂ ≡ no_store l m.row = l_is ∙ rw (passed_it, skip₁, l₁_is) refl in
+          left (with_tables tables₂ l₂) true on ∙ rw (on, in_skip, tables₂_are, l₂_is) refl
+      by_test true on false no_skip true is_open =
+          let passed_it = left (λ (o : Outcome). o.refusal) true on in
+          let tables₁_are = left (λ (o : Outcome). o.after.tables) true on in
+          let l₁_is = left (λ (o : Outcome). o.after.work) true on in
+          let skip₁ : (thread_of tables₁ t).skip ≡ false = rw tables₁_are (skip_stays tables t x s few ∙ no_skip) in
+          let tables₂_are : tables₂ ≡ held_tables noted m.row t = tables_are ∙ rw (passed_it, skip₁, tables₁_are) refl in
+          let l₂_is : l₂ ≡ held_work noted (no_store l m.row) m.row t x s =
+          l_is ∙ rw (passed_it, skip₁, tables₁_are, l₁_is) refl
+          in
+          left (with_tables tables₂ l₂) true on ∙ rw (on, no_skip, is_open, tables₂_are, l₂_is) refl
+      by_test true on false no_skip false shut =
+          let counted_is : counted_by r ≡ true =
+          left (λ (o : Outcome). o.counted) true on ∙ rw (no_skip, shut) refl
+          in
+          false_true (sym no_count ∙ counted_is)

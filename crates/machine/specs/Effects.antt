@@ -109,12 +109,14 @@ held_work tables l row t x s =
     let with_source = set (set l (row + 9) x) (row + 13) s in
     set (set with_source (row + 14) (get_or tables (last_cell x) 0)) (row + 15) (region_of tables t).newest
 
--- a crossing load that passed and does not count: it is held if its thread is in no skip
-unfoldable pub aside_tables : List ℕ → ℕ → ℕ → List ℕ
-aside_tables tables row t = (thread_of tables t).skip gives tables else held_tables tables row t
+-- a crossing load that does not count and led to that refusal: it is held if it passed and its thread is in no skip
+unfoldable pub aside_tables : List ℕ → ℕ → ℕ → ℕ → List ℕ
+aside_tables tables row t refusal =
+    (eqb refusal 0 && not (thread_of tables t).skip) gives held_tables tables row t else tables
 
-unfoldable pub aside_work : List ℕ → List ℕ → ℕ → ℕ → ℕ → ℕ → List ℕ
-aside_work tables l row t x s = (thread_of tables t).skip gives l else held_work tables l row t x s
+unfoldable pub aside_work : List ℕ → List ℕ → ℕ → ℕ → ℕ → ℕ → ℕ → List ℕ
+aside_work tables l row t x s refusal =
+    (eqb refusal 0 && not (thread_of tables t).skip) gives held_work tables l row t x s else l
 
 -- a crossing load by thread t at location x from s, which is noted; it is held if the thread is open and in no skip
 unfoldable pub cross_w : World → ℕ → ℕ → ℕ → World

@@ -1,7 +1,7 @@
 // What turns an event away, in the documents' order, and the searches of the load rule and of the rule of waits. A test
 // of the place first asks whether the event passes, and only then by which number it does not: one that answers its
 // number at once is slower.
-ghost use Rattle.std.specs.Prelude.{◌≡◌, ℕ, ◌<◌, ◌≤◌, MatchResult, MatchOption, ◌≢◌};
+ghost use Rattle.std.specs.Prelude.{◌≡◌, ℕ, ◌<◌, ◌≤◌, MatchResult, MatchOption, ◌≢◌, ◌⊎◌};
 ghost use Rattle.machine.specs.Forbidden.{number_of, turned_by};
 ghost use Rattle.machine.specs.Twin.{state_of, waiting_in, past_in, across_in, signalled_in};
 ghost use Rattle.machine.specs.Turning.{thread_fits, place_fits, place_refusal, on_thread, on_place, on_new};
@@ -102,7 +102,7 @@ impl Machine {
     pub(crate) fn on_thread(self, t: u16) -> Result<(), Forbidden>
         ensures { MatchResult result
             (λ _. ((later : ℕ) → on_thread (state_of self) t later ≡ later)
-                × (self.row < 32768) × (t < self.threads))
+            × (self.row < 32768) × (t < self.threads))
             (λ e. (later : ℕ) → on_thread (state_of self) t later ≡ number_of e) }
     {
         if self.thread_fits(t) {
@@ -116,7 +116,7 @@ impl Machine {
     pub(crate) fn on_place(self, t: u16, x: u16) -> Result<(), Forbidden>
         ensures { MatchResult result
             (λ _. ((later : ℕ) → on_place (state_of self) t x later ≡ later)
-                × (self.row < 32768) × (t < self.threads) × (x < self.locations))
+            × (self.row < 32768) × (t < self.threads) × (x < self.locations))
             (λ e. (later : ℕ) → on_place (state_of self) t x later ≡ number_of e) }
     {
         if self.place_fits(t, x) {
@@ -131,7 +131,7 @@ impl Machine {
         requires { self.threads ≤ 8 }
         ensures { MatchResult result
             (λ r. ((later : ℕ) → on_new (state_of self) (on_thread (state_of self) t later) ≡ later)
-                × (self.row < 32768) × (t < self.threads) × (r ≡ region_of tables.now t))
+            × (self.row < 32768) × (t < self.threads) × (r ≡ region_of tables.now t))
             (λ e. (later : ℕ) → on_new (state_of self) (on_thread (state_of self) t later) ≡ number_of e) }
     {
         if self.version < 2 {
@@ -193,16 +193,26 @@ pub(crate) fn close_counts(outcome: u16, newest: u16) -> bool
 
 // ---- the begin
 
-// "begin field out of range".
-#[tactic(auto, unfolding(crate::specs::Turning::begin_rule))]
-fn begin_rule(version: u16, threads: u16, locations: u16) -> Result<(), Forbidden>
-    ensures { turned_by result ≡ begin_rule version threads locations }
+// "begin field out of range": from 1 to `top`.
+fn in_range(x: u16, top: u16) -> Result<(), Forbidden>
+    ensures { MatchResult result (λ _. (1 ≤ x) × (x ≤ top))
+        (λ e. (number_of e ≡ 6) × ((x < 1) ⊎ (top < x))) }
 {
-    if (1..=2).contains(&version) && (1..=8).contains(&threads) && (1..=256).contains(&locations) {
+    if (1..=top).contains(&x) {
         Ok(())
     } else {
         Err(Forbidden::OutOfRange)
     }
+}
+
+// So of all fields.
+#[tactic(auto, unfolding(crate::specs::Turning::begin_rule))]
+fn begin_rule(version: u16, threads: u16, locations: u16) -> Result<(), Forbidden>
+    ensures { turned_by result ≡ begin_rule version threads locations }
+{
+    in_range(version, 2)?;
+    in_range(threads, 8)?;
+    in_range(locations, 256)
 }
 
 // What turns the first record away, by its kind and fields.

@@ -7,12 +7,26 @@ ghost use Rattle.machine.specs.Turning.{Fits};
 ghost use Rattle.machine.specs.Outcomes.{outcome, issue_o, commit_o, only_o, across_o, memory_o, load_o};
 ghost use Rattle.machine.specs.Outcomes.{flush_o, fence_on_o, crash_o, switch_o, signal_o, wait_o, open_o};
 ghost use Rattle.machine.specs.Outcomes.{locked_o, close_o, step_o};
+ghost use Rattle.machine.specs.Effects.{aside_tables, aside_work};
 
 use crate::forbidden::Forbidden;
 use crate::state::{Machine, Step};
 use crate::tables::Tables;
 use crate::{effects, regions, rules, tables, threads};
 use record::Fields;
+
+// Behind a crossing load of thread t that passed and does not count: if the thread is in no skip, it is open, and the
+// load is held.
+#[tactic(auto, unfolding(crate::specs::Effects::aside_tables, crate::specs::Effects::aside_work))]
+fn set_aside(tables: &mut Tables, work: &mut [u16], row: usize, t: u16, x: u16, s: u16)
+    requires { (t < 8) × (x < 256) × (row < 32768) × (row + 16 ≤ length work.old) }
+    ensures tables_after { tables.new ≡ aside_tables tables.old row t 0 }
+    ensures work_after { work.new ≡ aside_work tables.old work.old row t x s 0 }
+{
+    if !threads::thread_of(tables, t).skip {
+        effects::hold(tables, work, row, t, x, s);
+    }
+}
 
 impl Machine {
     #[tactic(auto, using(crate::proofs::RuleLaws::number_some), unfolding(crate::specs::Outcomes::by_rule, crate::specs::Twin::ticked, crate::specs::Effects::issue_w))]
@@ -83,8 +97,8 @@ impl Machine {
 
     // A crossing load, which brings no clock. It counts if its thread is in no skip and not open; in no skip and open, it
     // is held.
-    #[tactic(auto, using(crate::proofs::RuleLaws::number_some, crate::proofs::RuleLaws::plain_stays, crate::proofs::RuleLaws::skip_stays, crate::proofs::RuleLaws::source_noted), unfolding(crate::specs::Outcomes::by_rule, crate::specs::Twin::ticked, crate::specs::Twin::admitted, crate::specs::Effects::cross_w))]
     #[inline(always)]
+    #[tactic(auto, using(crate::proofs::RuleLaws::number_some, crate::proofs::RuleLaws::plain_stays, crate::proofs::RuleLaws::skip_stays, crate::proofs::RuleLaws::source_noted), unfolding(crate::specs::Outcomes::by_rule, crate::specs::Twin::ticked, crate::specs::Twin::admitted, crate::specs::Effects::cross_w, crate::specs::Effects::aside_tables, crate::specs::Effects::aside_work))]
     fn load_across(
         self,
         tables: &mut Tables,
@@ -104,9 +118,7 @@ impl Machine {
         if regions::is_plain(tables, t) {
             return Ok(self.pass(true));
         }
-        if !threads::thread_of(tables, t).skip {
-            effects::hold(tables, work, self.row, t, x, s);
-        }
+        set_aside(tables, work, self.row, t, x, s);
         Ok(self.pass(false))
     }
 
@@ -190,7 +202,13 @@ impl Machine {
 
     // An sfence, or an mfence.
     #[tactic(auto, using(crate::proofs::RuleLaws::number_some), unfolding(crate::specs::Outcomes::by_rule, crate::specs::Twin::ticked, crate::specs::Effects::pass_w))]
-    fn fence(self, tables: &Tables, work: &mut [u16], t: u16, sfence: bool) -> Result<Step, Forbidden>
+    fn fence(
+        self,
+        tables: &Tables,
+        work: &mut [u16],
+        t: u16,
+        sfence: bool,
+    ) -> Result<Step, Forbidden>
         requires { Fits self (length work.old) }
         ensures { outcome self result tables.now work.new
             ≡ fence_on_o (world (state_of self) tables.now work.old) sfence t }
@@ -217,7 +235,13 @@ impl Machine {
 
     // A skip starts or ends.
     #[tactic(auto, using(crate::proofs::RuleLaws::number_some), unfolding(crate::specs::Outcomes::by_rule, crate::specs::Twin::ticked, crate::specs::Effects::skip_w))]
-    fn skip(self, tables: &mut Tables, work: &mut [u16], t: u16, on: bool) -> Result<Step, Forbidden>
+    fn skip(
+        self,
+        tables: &mut Tables,
+        work: &mut [u16],
+        t: u16,
+        on: bool,
+    ) -> Result<Step, Forbidden>
         requires { Fits self (length work.old) }
         ensures { outcome self result tables.new work.new
             ≡ switch_o (world (state_of self) tables.old work.old) on t }

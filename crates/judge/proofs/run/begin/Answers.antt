@@ -3,7 +3,6 @@
 use mathlib.Core.Path.{sym}
 use mathlib.Core.List.{List}
 use Prim.Native.Nat.{ℕ}
-use native.Mathlib.Omega.{arith}
 use Rattle.machine.specs.Forbidden.{number_of}
 use Rattle.machine.proofs.RuleLaws.{number_not_0}
 use Rattle.judge.proofs.Records.{was_refused, was_read, first_unread, first_forbidden, first_passes}

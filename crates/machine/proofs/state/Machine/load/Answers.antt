@@ -1,5 +1,5 @@
 -- The load rule's cases, behind the tests of the place.
-use mathlib.Core.Path.{sym, ◌∙◌}
+use mathlib.Core.Path.{◌∙◌}
 use Rattle.machine.specs.Twin.{state_of, world}
 use Rattle.machine.proofs.RuleLaws.{load_waits, load_memory_is}
 use Rattle.machine.proofs.state.Machine.load.Goals as goal

@@ -1,5 +1,4 @@
 -- Behind the tests of the place and of the queue: the load rule; then the load's effect is followed by the store's.
-use mathlib.Core.Path.{refl, sym, ap, ◌∙◌}
 use Rattle.std.proofs.lemmas.Result.{err_from_is_err_and}
 use Rattle.machine.specs.Twin.{state_of, world}
 use Rattle.machine.proofs.RuleLaws.{number_not_0, locked_refused, locked_passes}
