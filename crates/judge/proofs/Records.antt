@@ -19,7 +19,6 @@ use Rattle.record.specs.declared.scanning.Scan.{Scan}
 use Rattle.record.specs.declared.scanning.Scanned.TheVariants as scanned
 use Rattle.record.specs.Answers.{Answer, event, refused, read_answer, scan_of}
 use Rattle.record.specs.Reading.{read_at}
-use Rattle.record.specs.Tests.{◌gives◌else◌}
 use Rattle.record.specs.Parts.{start}
 use Rattle.record.specs.Versions.{later_refusal}
 use Rattle.record.specs.Events.{kind_of}
@@ -38,10 +37,14 @@ use Rattle.model.proofs.NoBytes.{begun_none, begun_away, no_begin_first}
 use Rattle.area.specs.Cells.{event_at}
 use Rattle.area.specs.Rows.{HeldLinked}
 use Rattle.machine.specs.Tables.{held_in}
-use Rattle.machine.specs.Twin.{World, world, started}
+use Rattle.machine.specs.Twin.{State, World, world, started}
 use Rattle.machine.specs.Turning.{refusal_w, counts_w, begin_refusal}
 use Rattle.machine.specs.Effects.{step_w}
+use Rattle.std.specs.Prelude.{Result, Ok, Err}
+use Rattle.machine.specs.declared.forbidden.Forbidden.{Forbidden}
 use Rattle.machine.specs.declared.state.Step.{Step}
+use Rattle.machine.specs.Forbidden.{number_of}
+use Rattle.machine.proofs.RuleLaws.{number_not_0}
 use Rattle.machine.specs.Outcomes.{Outcome, outcome, step_o}
 use Rattle.machine.specs.Sim.{Sim}
 use Rattle.machine.proofs.Refusals.{refusals, begin_refusals}
@@ -301,6 +304,28 @@ module _ (bytes : List ℕ) where
             subst (Sim ev (suc n)) (sym (step_is ∙ ap (step_w w) (sym event_n)))
             (step_next ev n w reached.state passes)
 
+    -- the machine's step keeps the begin, which the run knows, and goes on to the next row
+    known_begin :
+        (x : Event) (past : ℕ) → read_at bytes at ≡ event x past → refusal_w w x ≡ 0
+        → (st : State) (tables' work' : List ℕ) → world st tables' work' ≡ step_w w x
+        → world_of bytes version threads locations st.stretch (t.row + 16) tables' work' ≡ step_w w x
+    known_begin x past is_read is st tables' work' step_is =
+        let event_n = at_event x past is_read in
+        let next = subst (Sim (events bytes) (suc n)) (sym (step_is ∙ ap (step_w w) (sym event_n)))
+        (step_next (events bytes) n w reached.state (rule_is x past is_read ∙ is))
+        in
+        let row : t.row + 16 ≡ st.row = omega (arith, next.numbers.row_is, reached.state.numbers.row_is) in
+        same st row (reached.state.numbers.version_is ∙ sym next.numbers.version_is)
+        (reached.state.numbers.threads_is ∙ sym next.numbers.threads_is)
+        (reached.state.numbers.locations_is ∙ sym next.numbers.locations_is)
+        ∙ step_is
+      where
+        same :
+            (st : State) → t.row + 16 ≡ st.row → version ≡ st.version → threads ≡ st.threads
+            → locations ≡ st.locations
+            → world_of bytes version threads locations st.stretch (t.row + 16) tables' work' ≡ world st tables' work'
+        same st row version_is threads_is locations_is = rw (row, version_is, threads_is, locations_is) refl
+
     -- ---- by the record's scan
 
     pub scanned_unread :
@@ -310,35 +335,34 @@ module _ (bytes : List ℕ) where
 
     -- what the machine's step gave
     module _
-        (r : Scan) (is : scanned.Record r ≡ scan_of (read_at bytes at)) (s : Step) (tables' work' : List ℕ)
-        (step_is :
-        outcome (machine_in bytes version threads locations t.stretch) t.row s tables' work'
-        ≡ step_o w r.kind r.fields)
+        (r : Scan) (is : scanned.Record r ≡ scan_of (read_at bytes at)) (tables' work' : List ℕ)
       where
-        abbrev given : Outcome
-        given = outcome (machine_in bytes version threads locations t.stretch) t.row s tables' work'
+        abbrev given : Result Step Forbidden → Outcome
+        given a = outcome (machine_in bytes version threads locations t.stretch t.row) a tables' work'
 
+        -- a rule turned the event away
         pub scanned_forbidden :
-            s.refusal ≢ 0 → (tables'' : List ℕ) (m' : Marks) (work'' : List ℕ)
-            → Stopped bytes version threads locations n s.refusal tables'' m' work''
-        scanned_forbidden some tables'' m' work'' =
+            (e : Forbidden) → given (Err e) ≡ step_o w r.kind r.fields
+            → (tables'' : List ℕ) (m' : Marks) (work'' : List ℕ)
+            → Stopped bytes version threads locations n (number_of e) tables'' m' work''
+        scanned_forbidden e step_is tables'' m' work'' =
             let (x, (read_is, kind_is, fields_are)) = scan_read bytes at r is in
-            later_forbidden s.refusal tables'' m' work'' x r.next read_is
-            (refusal_told w x given (rw (← kind_is, ← fields_are) step_is)) some
+            later_forbidden (number_of e) tables'' m' work'' x r.next read_is
+            (refusal_told w x (given (Err e)) (rw (← kind_is, ← fields_are) step_is)) (number_not_0 e)
 
+        -- it passed
         pub scanned_passes :
-            s.refusal ≡ 0 → (m' : Marks) → JudgedTo r.kind r.fields s.counted tables' work' m'
+            (s : Step) → given (Ok s) ≡ step_o w r.kind r.fields
+            → (m' : Marks) → JudgedTo r.kind r.fields s.counted tables' work' m'
             → Reached bytes version threads locations (suc n)
-            (cursor s.stretch (t.row + 16) r.next) tables' m' work'
-        scanned_passes passes m' judged_to =
+            (cursor s.machine.stretch (t.row + 16) r.next) tables' m' work'
+        scanned_passes s step_is m' judged_to =
             let (x, (read_is, kind_is, fields_are)) = scan_read bytes at r is in
-            let told : given ≡ step_o w (kind_of x) (fields_of x) = rw (← kind_is, ← fields_are) step_is in
-            let next_row : (eqb s.refusal 0 gives t.row + 16 else t.row) ≡ t.row + 16 = rw passes refl in
-            later_passes x r.next read_is (refusal_told w x given told ∙ passes) s.stretch (t.row + 16)
-            s.counted tables' m' work' (counted_told w x given told passes)
-            (subst
-            (λ (e : ℕ). world_of bytes version threads locations s.stretch e tables' work' ≡ step_w w x)
-            next_row (after_told w x given told passes))
+            let told : given (Ok s) ≡ step_o w (kind_of x) (fields_of x) = rw (← kind_is, ← fields_are) step_is in
+            let passes = refusal_told w x (given (Ok s)) told in
+            later_passes x r.next read_is passes s.machine.stretch (t.row + 16)
+            s.counted tables' m' work' (counted_told w x (given (Ok s)) told refl)
+            (known_begin x r.next read_is passes _ tables' work' (after_told w x (given (Ok s)) told refl))
             (subst (λ (f : Fields). JudgedTo (kind_of x) f s.counted tables' work' m') fields_are
             (subst (λ (k : ℕ). JudgedTo k r.fields s.counted tables' work' m') kind_is judged_to))
 

@@ -42,13 +42,14 @@ no_marks = marks_of (replicate 648 0) (replicate 2048 0)
 module _ (bytes : List ℕ) where
   -- what the begin says
   module _ (version threads locations : ℕ) where
-    -- the machine in stretch j
-    abbrev pub machine_in : ℕ → Machine
-    machine_in j = record { stretch = j; version = version; threads = threads; locations = locations }
+    -- the machine in stretch j, where the next event's row begins at `row`
+    abbrev pub machine_in : ℕ → ℕ → Machine
+    machine_in j row =
+        record { row = row; stretch = j; version = version; threads = threads; locations = locations }
 
     -- the machine's whole state: the stretch, where the next event's row begins, its tables and the work area
     abbrev pub world_of : ℕ → ℕ → List ℕ → List ℕ → World
-    world_of j row tables work = world (state_of (machine_in j) row) tables work
+    world_of j row tables work = world (state_of (machine_in j row)) tables work
 
     -- before record n, which starts at the cursor's position
     pub record Reached (n : ℕ) (t : Cursor) (tables : List ℕ) (m : Marks) (work : List ℕ) : Type 0 where

@@ -95,9 +95,8 @@ fn begin(trace: &[u8]) -> Begun
         return Begun::refuse(number_of(r));
     };
     let f = record::fields_of(e);
-    let k = machine::begin_refusal(record::kind_of(e), f);
-    if k != 0 {
-        return Begun::refuse(k);
+    if let Err(k) = machine::begin_refusal(record::kind_of(e), f) {
+        return Begun::refuse(k.number());
     }
     Begun {
         version: f.version,
@@ -134,18 +133,19 @@ fn judge_record(
     };
     let f = e.fields;
     let m = Machine {
+        row,
         stretch: t.stretch,
         version,
         threads,
         locations,
     };
-    let s = machine::step(m, row, tables, work, e.kind, f);
-    if s.refusal != 0 {
-        return Next::Ended(s.refusal);
-    }
+    let s = match m.step(tables, work, e.kind, f) {
+        Ok(s) => s,
+        Err(k) => return Next::Ended(k.number()),
+    };
     loads::judge_event(tables, marks, s.counted, work, e.kind, row, f);
     Next::On(Cursor {
-        stretch: s.stretch,
+        stretch: s.machine.stretch,
         row: row + 16,
         at: e.next,
     })

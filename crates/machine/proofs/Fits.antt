@@ -11,9 +11,9 @@ use Rattle.machine.specs.Turning.{Fits}
 use Rattle.machine.specs.Sim.{Sim}
 
 pub sim_fits :
-    (ev : ℕ → Event) (n : ℕ) (m : Machine) (row : ℕ) (tables l : List ℕ) → Sim ev n (world (state_of m row) tables l)
-    → Fits m row (length l)
-sim_fits ev n m row tables l sim =
+    (ev : ℕ → Event) (n : ℕ) (m : Machine) (tables l : List ℕ) → Sim ev n (world (state_of m) tables l)
+    → Fits m (length l)
+sim_fits ev n m tables l sim =
     let numbers = sim.numbers in
     let limits = sim.limits in
     record {

@@ -1,13 +1,12 @@
--- What the functions' proofs cite: which arm a match takes (ArmLaws), one rule after the other (RuleLaws), one turn of
--- each loop (Loops). Then that the machine's state follows the definitions: what is read after a step (Storing,
--- TableLaws, RowLaws), what an event leaves (Keep; of regions Holding), the load rule (Searches); by role, what loads,
--- commits and issues change, and at each file's end the step of its kinds (Quiet, Crashes, Meeting, Loads, Commits,
--- Issues, Locked, HandOver). The theorems that others cite: `refusals`, `begin_refusals` (Refusals), `step_next`,
--- `counts_is` (Simulation), `refusal_told`, `counted_told`, `after_told` (Taken), `sim_start` (Start), `sim_fits`
--- (Fits), `store_is`, `order_is` (Standings), `last_is`, `committed_is` (Closing).
-pub mod ArmLaws
+-- What the functions' proofs cite: one rule after the other (RuleLaws), flags as numbers (Flags). Then that the
+-- machine's state follows the definitions: what is read after a step (Storing, TableLaws, RowLaws), what an event
+-- leaves (Keep; of regions Holding), the load rule (Searches); by role, what loads, commits and issues change, and at
+-- each file's end the step of its kinds (Quiet, Crashes, Meeting, Loads, Commits, Issues, Locked, HandOver). The
+-- theorems that others cite: `refusals`, `begin_refusals` (Refusals), `step_next`, `counts_is` (Simulation),
+-- `refusal_told`, `counted_told`, `after_told` (Taken), `sim_start` (Start), `sim_fits` (Fits), `store_is`, `order_is`
+-- (Standings), `last_is`, `committed_is` (Closing), `number_not_0` (RuleLaws).
 pub mod RuleLaws
-pub mod Loops
+pub mod Flags
 pub mod Storing
 pub mod TableLaws
 pub mod RowLaws

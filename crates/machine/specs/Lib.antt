@@ -1,5 +1,6 @@
 -- The code's steps as total functions, which its contracts cite (Tables, Threads, Regions, Twin, Arms, Turning,
 -- Effects, Outcomes, Orders), and what ties them to the definitions (Sim).
+pub mod Forbidden
 pub mod Tables
 pub mod Threads
 pub mod Regions

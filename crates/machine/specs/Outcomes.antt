@@ -1,14 +1,16 @@
 -- What the code's functions give for an event: the rule that turns it away first, or its effect. What a step leaves is
 -- the state that it hands back, the machine's tables and the work area.
-use Rattle.std.specs.Prelude.{ℕ, ◌+◌, Bool, false, List, eqb, set}
+use Rattle.std.specs.Prelude.{ℕ, ◌+◌, Bool, false, List, Result, Ok, Err, eqb, set}
 use Rattle.record.specs.declared.events.Fields.{Fields}
 use Rattle.record.specs.Tests.{◌gives◌else◌}
+use Rattle.machine.specs.declared.forbidden.Forbidden.{Forbidden}
 use Rattle.machine.specs.declared.state.Step.{Step}
 use Rattle.machine.specs.Arms.{by_kind}
+use Rattle.machine.specs.Forbidden.{turned_by}
 use Rattle.machine.specs.declared.state.Machine.{Machine}
 use Rattle.machine.specs.Tables.{source_cell}
-use Rattle.machine.specs.Twin.{State, World, world, region_at, last_w, here_w, admits_w}
-use Rattle.machine.specs.Turning.{commit_rule, load_rule, locked_rule, fence_rule, crash_rule, skip_rule, signal_rule}
+use Rattle.machine.specs.Twin.{State, World, state_of, world, thread_at, region_at, last_w, here_w, admits_w}
+use Rattle.machine.specs.Turning.{commit_rule, load_rule, locked_rule, fence_on, crash_rule, switch_by, signal_rule}
 use Rattle.machine.specs.Turning.{wait_rule, open_rule, close_rule, close_counts, on_thread, on_place, on_new}
 use Rattle.machine.specs.Turning.{at_once_w, counted_w}
 use Rattle.machine.specs.Effects.{issue_w, commit_w, pass_with, pass_w, meet_w, cross_w, load_w, locked_w, crash_w}
@@ -20,20 +22,26 @@ pub record Outcome : Type 0 where
   pub counted : Bool
   pub after : World
 
--- the state after the event whose row begins at `row`, which led to r: an event that passes is followed by the next row
-abbrev pub state_after : Machine → ℕ → Step → State
-state_after m row r =
-    record {
-      row = eqb r.refusal 0 gives row + 16 else row;
-      stretch = r.stretch;
-      version = m.version;
-      threads = m.threads;
-      locations = m.locations;
-    }
+-- loads count as of an event that led to r
+abbrev pub counted_by : Result Step Forbidden → Bool
+counted_by (Ok s) = s.counted
+counted_by (Err e) = false
 
-abbrev pub outcome : Machine → ℕ → Step → List ℕ → List ℕ → Outcome
-outcome m row r tables l =
-    record { refusal = r.refusal; counted = r.counted; after = world (state_after m row r) tables l }
+-- the state after an event that led to r: one that passes is followed by the next row
+abbrev pub state_after : Machine → Result Step Forbidden → State
+state_after m (Ok s) =
+    record {
+      row = s.machine.row + 16;
+      stretch = s.machine.stretch;
+      version = s.machine.version;
+      threads = s.machine.threads;
+      locations = s.machine.locations;
+    }
+state_after m (Err e) = state_of m
+
+abbrev pub outcome : Machine → Result Step Forbidden → List ℕ → List ℕ → Outcome
+outcome m r tables l =
+    record { refusal = turned_by r; counted = counted_by r; after = world (state_after m r) tables l }
 
 -- the rule of number k turns the event away, and all is as it was
 abbrev pub turned : ℕ → World → Outcome
@@ -79,15 +87,21 @@ locked_o w t x s = by_rule (on_place w.state t x (locked_rule w t x s)) w (count
 abbrev pub flush_o : World → ℕ → ℕ → Outcome
 flush_o w t x = by_rule (on_place w.state t x 0) w false (pass_w w)
 
+abbrev pub fence_on_o : World → Bool → ℕ → Outcome
+fence_on_o w sfence t = by_rule (on_thread w.state t (fence_on sfence (thread_at w t))) w false (pass_w w)
+
 abbrev pub fence_o : World → ℕ → ℕ → Outcome
-fence_o w kind t = by_rule (on_thread w.state t (fence_rule w kind t)) w false (pass_w w)
+fence_o w kind t = fence_on_o w (eqb kind 7) t
 
 abbrev pub crash_o : World → Outcome
 crash_o w = by_rule (crash_rule w.state) w false (crash_w w)
 
+abbrev pub switch_o : World → Bool → ℕ → Outcome
+switch_o w on t =
+    by_rule (on_thread w.state t (switch_by on (thread_at w t).skip)) w false (skip_w w t on)
+
 abbrev pub skip_o : World → ℕ → ℕ → Outcome
-skip_o w kind t =
-    by_rule (on_thread w.state t (skip_rule w kind t)) w false (skip_w w t (eqb kind 10))
+skip_o w kind t = switch_o w (eqb kind 10) t
 
 abbrev pub signal_o : World → ℕ → Outcome
 signal_o w t = by_rule (on_thread w.state t (signal_rule w t)) w false (signal_w w t)

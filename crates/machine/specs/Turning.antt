@@ -10,13 +10,13 @@ use Rattle.machine.specs.declared.state.Machine.{Machine}
 use Rattle.machine.specs.Arms.{by_kind}
 use Rattle.machine.specs.Twin.{State, World, thread_at, region_at, crossing_w, fits_w, signalled_w}
 
--- what a step asks of its caller: the begin's numbers are in range, and `row` is where a row begins, or behind the last
--- row of the work area, which has `size` numbers
-pub record Fits (m : Machine) (row size : ℕ) : Type 0 where
+-- what a step asks of its caller: the begin's numbers are in range, and the machine's row is where a row begins, or
+-- behind the last row of the work area, which has `size` numbers
+pub record Fits (m : Machine) (size : ℕ) : Type 0 where
   pub few_threads : m.threads ≤ 8
   pub few_locations : m.locations ≤ 256
   pub room : 32768 ≤ size
-  pub inside : row < 32768 → row + 16 ≤ 32768
+  pub inside : m.row < 32768 → m.row + 16 ≤ 32768
 
 -- ---- the kinds' own rules
 
@@ -35,9 +35,13 @@ commit_rule w t = empty (thread_at w t) gives 10 else 0
 abbrev pub locked_rule : World → ℕ → ℕ → ℕ → ℕ
 locked_rule w t x s = eqb (thread_at w t).oldest 0 gives load_rule w t x s else 11
 
--- of a fence, kind 7 or 8: an mfence, 8, needs an empty queue
+-- of a fence: an mfence, which is no sfence, needs an empty queue
+abbrev pub fence_on : Bool → Thread → ℕ
+fence_on sfence own = sfence gives 0 else empty own gives 0 else 11
+
+-- so of kind 7 or 8, an mfence
 abbrev pub fence_by : ℕ → Thread → ℕ
-fence_by kind own = eqb kind 7 gives 0 else empty own gives 0 else 11
+fence_by kind own = fence_on (eqb kind 7) own
 
 abbrev pub fence_rule : World → ℕ → ℕ → ℕ
 fence_rule w kind t = fence_by kind (thread_at w t)
@@ -53,9 +57,13 @@ wait_rule w s = signalled_w w s gives 0 else 18
 abbrev pub crash_rule : State → ℕ
 crash_rule st = leb 32768 st.row gives 13 else eqb st.stretch 8 gives 13 else 0
 
--- of a skip on or off, kind 10 or 11, by a thread that is in a skip or not
+-- of a skip on or off by a thread that is in a skip or not
+abbrev pub switch_by : Bool → Bool → ℕ
+switch_by on skip = on gives (skip gives 12 else 0) else (skip gives 0 else 12)
+
+-- so of kind 10, on, or 11
 abbrev pub skip_by : ℕ → Bool → ℕ
-skip_by kind skip = eqb kind 10 gives (skip gives 12 else 0) else (skip gives 0 else 12)
+skip_by kind skip = switch_by (eqb kind 10) skip
 
 abbrev pub skip_rule : World → ℕ → ℕ → ℕ
 skip_rule w kind t = skip_by kind (thread_at w t).skip

@@ -23,10 +23,10 @@ pub record World : Type 0 where
   pub tables : List ℕ
   pub work : List ℕ
 
-abbrev pub state_of : Machine → ℕ → State
-state_of m row =
+abbrev pub state_of : Machine → State
+state_of m =
     record {
-      row = row;
+      row = m.row;
       stretch = m.stretch;
       version = m.version;
       threads = m.threads;
@@ -47,10 +47,10 @@ region_at w t = region_of w.tables t
 -- after an accepted begin
 abbrev pub begun : ℕ → ℕ → ℕ → Machine
 begun version threads locations =
-    record { stretch = 1; version = version; threads = threads; locations = locations }
+    record { row = 0; stretch = 1; version = version; threads = threads; locations = locations }
 
 abbrev pub started : ℕ → ℕ → ℕ → State
-started version threads locations = state_of (begun version threads locations) 0
+started version threads locations = state_of (begun version threads locations)
 
 -- before the next event
 unfoldable pub ticked : State → State
@@ -67,6 +67,7 @@ ticked st =
 abbrev pub next_stretch : Machine → Machine
 next_stretch m =
     record {
+      row = m.row;
       stretch = up m.stretch;
       version = m.version;
       threads = m.threads;

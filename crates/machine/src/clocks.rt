@@ -6,21 +6,21 @@ use crate::tables;
 use crate::tables::Tables;
 
 // The clock of a row, which begins at `row`: what thread t has seen, with `own` for t itself.
+#[tactic(auto, unfolding(crate::specs::Effects::clocked, crate::specs::Effects::with_clock))]
 pub(crate) fn write_clock(tables: &Tables, t: u16, work: &mut [u16], row: usize, own: u16)
     requires { (t < 8) × (row + 16 ≤ length work.old) }
     ensures { work.new ≡ with_clock tables.now t row own work.old }
 {
     let from = tables::thread(t, 0);
-    let mut u: usize = 0;
-    while u < 8 {
+    for u in 0..8 {
         work[row + u] = tables[from + u];
-        u += 1;
     }
-    work[row + (t as usize)] = own;
+    work[row + usize::from(t)] = own;
 }
 
 // A store's row, which begins at `row`: its clock; its thread, location and stretch; that it is no signal; and no next
 // store yet.
+#[tactic(auto, unfolding(crate::specs::Effects::with_store))]
 pub(crate) fn write_row(
     tables: &Tables,
     t: u16,

@@ -13,6 +13,7 @@ use crate::{clocks, regions, tables, threads};
 // "the store joins its thread's queue": its row, the link of the store before it, and the newest store at the location.
 // A thread's first store of a stretch has none before it: the link then goes to row 2,048, whose event has not come, or
 // is this one, and its own row is written behind the link.
+#[tactic(auto, unfolding(crate::specs::Effects::issued_tables, crate::specs::Effects::issued_work, crate::specs::Threads::issued_t))]
 pub(crate) fn issue(tables: &mut Tables, work: &mut [u16], row: usize, t: u16, x: u16, j: u16)
     requires { (t < 8) × (x < 256) × (row < 32768) × (row + 16 ≤ length work.old) }
     ensures tables_after { tables.new ≡ issued_tables tables.old row t x }
@@ -38,6 +39,7 @@ fn head(tables: &mut Tables, p: u16, x: u16, j: u16)
 
 // "the oldest waiting store of the thread takes effect": it heads its location's chain, links to the head so far, and
 // keeps where the row of this event begins.
+#[tactic(auto, unfolding(crate::specs::Effects::committed_tables, crate::specs::Effects::committed_work))]
 pub(crate) fn commit(tables: &mut Tables, work: &mut [u16], row: usize, t: u16, j: u16)
     requires { (t < 8) × (row < 32768) × (row + 16 ≤ length work.old) }
     ensures tables_after { tables.new ≡ committed_tables tables.old work.old t j }
@@ -57,6 +59,7 @@ pub(crate) fn commit(tables: &mut Tables, work: &mut [u16], row: usize, t: u16, 
 
 // A locked operation's store, behind its load from s: it joins the queue, which is empty, and takes effect. It is this
 // event's own, whose row stays that of a store, so it links itself; and it keeps its source, held or not.
+#[tactic(auto, unfolding(crate::specs::Effects::exchanged_tables, crate::specs::Effects::exchanged_work))]
 pub(crate) fn exchange(
     tables: &mut Tables,
     work: &mut [u16],
@@ -80,6 +83,7 @@ pub(crate) fn exchange(
 
 // A signal of thread t in stretch j: its row keeps the clock that a store issued in its place would have, that store
 // itself not counted.
+#[tactic(auto, unfolding(crate::specs::Effects::signalled_work))]
 pub(crate) fn signal(tables: &Tables, work: &mut [u16], row: usize, t: u16, j: u16)
     requires { (t < 8) × (row + 16 ≤ length work.old) }
     ensures { work.new ≡ signalled_work tables.now work.old row t j }
@@ -102,6 +106,7 @@ pub(crate) fn meet(tables: &mut Tables, work: &mut [u16], row: usize, t: u16, s:
 
 // A crossing load of thread t, which is open, at location x from s is held: its row has its location and source, the
 // last store committed there, and the load held before it.
+#[tactic(auto, unfolding(crate::specs::Effects::held_tables, crate::specs::Effects::held_work))]
 pub(crate) fn hold(tables: &mut Tables, work: &mut [u16], row: usize, t: u16, x: u16, s: u16)
     requires { (t < 8) × (x < 256) × (row < 32768) × (row + 16 ≤ length work.old) }
     ensures tables_after { tables.new ≡ held_tables tables.old row t }
@@ -116,6 +121,7 @@ pub(crate) fn hold(tables: &mut Tables, work: &mut [u16], row: usize, t: u16, x:
 }
 
 // Stretch j is finished: the commits of thread t go to their table, and the thread starts afresh.
+#[tactic(auto, unfolding(crate::specs::Effects::finished_thread))]
 fn finish_thread(tables: &mut Tables, j: u16, t: u16)
     requires { t < 8 }
     ensures { tables.new ≡ finished_thread tables.old j t }
@@ -128,12 +134,11 @@ fn finish_thread(tables: &mut Tables, j: u16, t: u16)
 }
 
 // So of all threads.
+#[tactic(auto, unfolding(crate::specs::Effects::finished))]
 pub(crate) fn finish(tables: &mut Tables, j: u16)
     ensures { tables.new ≡ finished 8 tables.old j }
 {
-    let mut t: u16 = 0;
-    while t < 8 {
+    for t in 0..8 {
         finish_thread(tables, j, t);
-        t += 1;
     }
 }

@@ -2,7 +2,7 @@
 // row. The methods hand the new state back. The held loads are linked in the work area; here is the newest.
 ghost use Rattle.std.specs.Prelude.{◌≡◌, ◌<◌};
 ghost use Rattle.machine.specs.Regions.{began_r, held_r, ended_r, crashed_r, region_of, plain_in};
-ghost use Rattle.machine.specs.Regions.{open_set, put_region, put_held};
+ghost use Rattle.machine.specs.Regions.{put_region, put_held};
 
 use crate::tables;
 use crate::tables::Tables;
@@ -17,6 +17,7 @@ pub struct Region {
 
 impl Region {
     // An open: nothing is held yet.
+    #[tactic(auto, unfolding(crate::specs::Regions::began_r))]
     pub(crate) fn begin(mut self) -> Region
         ensures { result ≡ began_r self }
     {
@@ -26,6 +27,7 @@ impl Region {
     }
 
     // Load e is held.
+    #[tactic(auto, unfolding(crate::specs::Regions::held_r))]
     pub(crate) fn hold(mut self, e: u16) -> Region
         ensures { result ≡ held_r self e }
     {
@@ -34,6 +36,7 @@ impl Region {
     }
 
     // A close.
+    #[tactic(auto, unfolding(crate::specs::Regions::ended_r))]
     pub(crate) fn end(mut self) -> Region
         ensures { result ≡ ended_r self }
     {
@@ -52,6 +55,7 @@ impl Region {
 }
 
 // Thread t's region.
+#[tactic(auto, unfolding(crate::specs::Regions::region_of))]
 pub(crate) fn region_of(tables: &Tables, t: u16) -> Region
     requires { t < 8 }
     ensures { result ≡ region_of tables.now t }
@@ -70,24 +74,19 @@ pub(crate) fn is_plain(tables: &Tables, t: u16) -> bool
     tables[tables::thread(t, 12)] == 0
 }
 
-// Column 12 with another open state.
-fn with_open(c: u16, opened: bool) -> u16
-    ensures { result ≡ open_set c opened }
-{
-    if opened { c % 2 + 2 } else { c % 2 }
-}
-
 // Thread t's region becomes r.
+#[tactic(auto, using(crate::proofs::Flags::open_set_is), unfolding(crate::specs::Regions::put_region))]
 pub(crate) fn put_region(tables: &mut Tables, t: u16, r: Region)
     requires { t < 8 }
     ensures { tables.new ≡ put_region tables.old t r }
 {
     let i = tables::thread(t, 12);
-    tables[i] = with_open(tables[i], r.opened);
+    tables[i] = tables[i] % 2 + 2 * u16::from(r.opened);
     tables[tables::thread(t, 13)] = r.newest;
 }
 
 // What a held load changes of it; or a crash, which has ended the open state already.
+#[tactic(auto, unfolding(crate::specs::Regions::put_held))]
 pub(crate) fn put_held(tables: &mut Tables, t: u16, r: Region)
     requires { t < 8 }
     ensures { tables.new ≡ put_held tables.old t r }

@@ -1,196 +1,227 @@
-// What turns an event away, by the documents' numbers and in their order, and the searches of the load rule and of the
-// rule of waits. First it is asked whether an event passes, and only then by which number it does not: a rule that
-// answers its number at once is slower.
-ghost use Rattle.std.specs.Prelude.{◌≡◌, true, ◌<◌};
-ghost use Rattle.machine.specs.Twin.{waiting_in, past_in, across_in, signalled_in};
-ghost use Rattle.machine.specs.Turning.{thread_fits, place_fits, place_refusal, fence_by, skip_by, close_by};
-ghost use Rattle.machine.specs.Turning.{close_counts};
+// What turns an event away, in the documents' order, and the searches of the load rule and of the rule of waits. A test
+// of the place first asks whether the event passes, and only then by which number it does not: one that answers its
+// number at once is slower.
+ghost use Rattle.std.specs.Prelude.{◌≡◌, ℕ, ◌<◌, ◌≤◌, MatchResult, MatchOption, ◌≢◌, ◌⊎◌};
+ghost use Rattle.machine.specs.Forbidden.{number_of, turned_by};
+ghost use Rattle.machine.specs.Twin.{state_of, waiting_in, past_in, across_in, signalled_in};
+ghost use Rattle.machine.specs.Turning.{thread_fits, place_fits, place_refusal, on_thread, on_place, on_new};
+ghost use Rattle.machine.specs.Turning.{fence_on, switch_by, close_by, close_counts};
 ghost use Rattle.machine.specs.Turning.{begin_rule, begin_k};
+ghost use Rattle.machine.specs.Regions.{region_of};
 
+use crate::forbidden::Forbidden;
+use crate::regions::Region;
 use crate::state::Machine;
 use crate::tables::Tables;
 use crate::threads::Thread;
-use crate::{tables, threads};
+use crate::{regions, tables, threads};
 use record::Fields;
 
 // ---- the load rule
 
-// The newest waiting store of thread t at location x, 0 if there is none: the thread's newest store there, unless the
-// oldest that waits came later.
-pub(crate) fn waiting(tables: &Tables, t: u16, x: u16) -> u16
+// The newest waiting store of thread t at location x: the thread's newest store there, unless the oldest that waits
+// came later.
+#[tactic(auto, unfolding(crate::specs::Twin::waiting_in))]
+pub(crate) fn waiting(tables: &Tables, t: u16, x: u16) -> Option<u16>
     requires { (t < 8) × (x < 256) }
-    ensures { result ≡ waiting_in tables.now t x }
+    ensures { MatchOption result (waiting_in tables.now t x ≡ 0)
+        (λ p. (p ≡ waiting_in tables.now t x) × (p ≢ 0)) }
 {
     let own = threads::thread_of(tables, t);
     if own.oldest == 0 {
-        return 0;
+        return None;
     }
     let p = tables[tables::newest(x, t)];
-    if own.oldest <= p { p } else { 0 }
+    if own.oldest <= p { Some(p) } else { None }
 }
 
-// Store s is to location x and committed in an earlier stretch.
-fn past(m: Machine, tables: &Tables, work: &[u16], x: u16, s: u16) -> bool
-    ensures { result ≡ past_in m.stretch tables.now work.now x s }
-{
-    let j = area::row_get(work, s, 10);
-    let t = area::row_get(work, s, 8);
-    if j == 0 {
-        return false;
+impl Machine {
+    // Store s is to location x and committed in an earlier stretch.
+    #[tactic(auto, unfolding(crate::specs::Twin::past_in))]
+    fn past(self, tables: &Tables, work: &[u16], x: u16, s: u16) -> bool
+        ensures { result ≡ past_in self.stretch tables.now work.now x s }
+    {
+        let j = area::row_get(work, s, 10);
+        let t = area::row_get(work, s, 8);
+        j != 0
+            && j < self.stretch
+            && area::row_get(work, s, 9) == x
+            && area::row_get(work, s, t) <= tables[tables::commits(j, t)]
     }
-    if m.stretch <= j {
-        return false;
-    }
-    if area::row_get(work, s, 9) != x {
-        return false;
-    }
-    area::row_get(work, s, t) <= tables[tables::commits(j, t)]
-}
 
-// A crossing load at location x, whose row begins at `row`, may have source s: none, or an earlier event that is a
-// store to x, committed in an earlier stretch.
-pub(crate) fn fits_across(
-    m: Machine,
-    row: usize,
-    tables: &Tables,
-    work: &[u16],
-    x: u16,
-    s: u16,
-) -> bool
-    ensures { result ≡ across_in m.stretch row tables.now work.now x s }
-{
-    if s == 0 {
-        return true;
+    // A crossing load at location x may have source s: none, or an earlier event that is a store to x, committed in an
+    // earlier stretch.
+    #[tactic(auto, unfolding(crate::specs::Twin::across_in))]
+    pub(crate) fn fits_across(self, tables: &Tables, work: &[u16], x: u16, s: u16) -> bool
+        ensures { result ≡ across_in self.stretch self.row tables.now work.now x s }
+    {
+        s == 0 || (16 * usize::from(s) <= self.row && self.past(tables, work, x, s))
     }
-    if row < 16 * (s as usize) {
-        return false;
-    }
-    past(m, tables, work, x, s)
-}
 
-// ---- the rules that kinds share
+    // ---- waits
 
-// The event whose row begins at `row` is at most the 2,048th, and there is such a thread.
-pub(crate) fn thread_fits(m: Machine, row: usize, t: u16) -> bool
-    ensures value { result ≡ thread_fits m.threads row t }
-    ensures row_bound { result ≡ true → (row < 32768) × (t < m.threads) }
-{
-    if 32768 <= row {
-        return false;
+    // The source of a wait is an earlier signal of its stretch.
+    #[tactic(auto, unfolding(crate::specs::Twin::signalled_in))]
+    pub(crate) fn signalled(self, work: &[u16], s: u16) -> bool
+        ensures { result ≡ signalled_in self.stretch self.row work.now s }
+    {
+        s != 0 && 16 * usize::from(s) <= self.row && area::row_get(work, s, 11) == self.stretch
     }
-    t < m.threads
-}
 
-// And there is such a location.
-pub(crate) fn place_fits(m: Machine, row: usize, t: u16, x: u16) -> bool
-    ensures value { result ≡ place_fits m.threads m.locations row t x }
-    ensures row_bound { result ≡ true → (row < 32768) × (t < m.threads) × (x < m.locations) }
-{
-    if !thread_fits(m, row, t) {
-        return false;
-    }
-    x < m.locations
-}
+    // ---- the rules that kinds share
 
-// What turns an event away for which one of these tests failed: 13: "event 2,049"; 7: "no such thread"; 8: "no such
-// location".
-pub(crate) fn place_refusal(m: Machine, row: usize, t: u16) -> u16
-    ensures { result ≡ place_refusal m.threads row t }
-{
-    if row < 32768 {
-        return if m.threads <= t { 7 } else { 8 };
+    // The event is at most the 2,048th, and there is such a thread.
+    fn thread_fits(self, t: u16) -> bool
+        ensures { result ≡ thread_fits self.threads self.row t }
+    {
+        self.row < 32768 && t < self.threads
     }
-    13
+
+    // And there is such a location.
+    fn place_fits(self, t: u16, x: u16) -> bool
+        ensures { result ≡ place_fits self.threads self.locations self.row t x }
+    {
+        self.thread_fits(t) && x < self.locations
+    }
+
+    // What turns an event away for which one of these tests failed.
+    fn place_refusal(self, t: u16) -> Forbidden
+        ensures { number_of result ≡ place_refusal self.threads self.row t }
+    {
+        if self.row < 32768 {
+            return if self.threads <= t {
+                Forbidden::NoThread
+            } else {
+                Forbidden::NoLocation
+            };
+        }
+        Forbidden::PastLimit
+    }
+
+    // What turns an event of thread t away before any rule of its kind.
+    pub(crate) fn on_thread(self, t: u16) -> Result<(), Forbidden>
+        ensures { MatchResult result
+            (λ _. ((later : ℕ) → on_thread (state_of self) t later ≡ later)
+            × (self.row < 32768) × (t < self.threads))
+            (λ e. (later : ℕ) → on_thread (state_of self) t later ≡ number_of e) }
+    {
+        if self.thread_fits(t) {
+            Ok(())
+        } else {
+            Err(self.place_refusal(t))
+        }
+    }
+
+    // So of an event at location x.
+    pub(crate) fn on_place(self, t: u16, x: u16) -> Result<(), Forbidden>
+        ensures { MatchResult result
+            (λ _. ((later : ℕ) → on_place (state_of self) t x later ≡ later)
+            × (self.row < 32768) × (t < self.threads) × (x < self.locations))
+            (λ e. (later : ℕ) → on_place (state_of self) t x later ≡ number_of e) }
+    {
+        if self.place_fits(t, x) {
+            Ok(())
+        } else {
+            Err(self.place_refusal(t))
+        }
+    }
+
+    // So of an open or a close, which version 2 admits; else thread t's region.
+    pub(crate) fn region(self, tables: &Tables, t: u16) -> Result<Region, Forbidden>
+        requires { self.threads ≤ 8 }
+        ensures { MatchResult result
+            (λ r. ((later : ℕ) → on_new (state_of self) (on_thread (state_of self) t later) ≡ later)
+            × (self.row < 32768) × (t < self.threads) × (r ≡ region_of tables.now t))
+            (λ e. (later : ℕ) → on_new (state_of self) (on_thread (state_of self) t later) ≡ number_of e) }
+    {
+        if self.version < 2 {
+            return Err(Forbidden::UnknownKind);
+        }
+        self.on_thread(t)?;
+        Ok(regions::region_of(tables, t))
+    }
 }
 
 // ---- fences
 
-// 11: "mfence, queue not empty". An sfence, kind 7, has no rule of its own.
-pub(crate) fn fence_rule(kind: u16, own: Thread) -> u16
-    ensures { result ≡ fence_by kind own }
+// "mfence, queue not empty". An sfence has no rule of its own.
+pub(crate) fn fence_rule(sfence: bool, own: Thread) -> Result<(), Forbidden>
+    ensures { turned_by result ≡ fence_on sfence own }
 {
-    if kind == 7 {
-        return 0;
+    if sfence || own.issued == own.committed {
+        Ok(())
+    } else {
+        Err(Forbidden::QueueNotEmpty)
     }
-    if own.issued == own.committed { 0 } else { 11 }
-}
-
-// ---- waits
-
-// The source of a wait whose row begins at `row` is an earlier signal of its stretch.
-pub(crate) fn signalled(m: Machine, row: usize, work: &[u16], s: u16) -> bool
-    ensures { result ≡ signalled_in m.stretch row work.now s }
-{
-    if s == 0 {
-        return false;
-    }
-    if row < 16 * (s as usize) {
-        return false;
-    }
-    area::row_get(work, s, 11) == m.stretch
 }
 
 // ---- skips
 
-// 12: "skip already on, or already off", kinds 10 and 11.
-pub(crate) fn skip_rule(kind: u16, skip: bool) -> u16
-    ensures { result ≡ skip_by kind skip }
+// "skip already on, or already off".
+pub(crate) fn skip_rule(on: bool, skip: bool) -> Result<(), Forbidden>
+    ensures { turned_by result ≡ switch_by on skip }
 {
-    if kind == 10 {
-        return if skip { 12 } else { 0 };
+    if skip == on {
+        Err(Forbidden::SwitchedAlready)
+    } else {
+        Ok(())
     }
-    if skip { 0 } else { 12 }
 }
 
 // ---- regions under a checksum
 
-// 19: another outcome than 0 or 1; 12: "close when not" open.
-pub(crate) fn close_rule(outcome: u16, opened: bool) -> u16
-    ensures { result ≡ close_by outcome opened }
+// Another outcome than 0 or 1; "close when not" open.
+pub(crate) fn close_rule(outcome: u16, opened: bool) -> Result<(), Forbidden>
+    ensures { turned_by result ≡ close_by outcome opened }
 {
     if 1 < outcome {
-        return 19;
+        return Err(Forbidden::NoOutcome);
     }
-    if opened { 0 } else { 12 }
+    if opened {
+        Ok(())
+    } else {
+        Err(Forbidden::SwitchedAlready)
+    }
 }
 
 // Loads count as of a close: its outcome is 1, and something is held.
 pub(crate) fn close_counts(outcome: u16, newest: u16) -> bool
     ensures { result ≡ close_counts outcome newest }
 {
-    if outcome == 1 { newest != 0 } else { false }
+    outcome == 1 && newest != 0
 }
 
 // ---- the begin
 
-// 6: "begin field out of range".
-fn begin_rule(version: u16, threads: u16, locations: u16) -> u16
-    ensures { result ≡ begin_rule version threads locations }
+// "begin field out of range": from 1 to `top`.
+fn in_range(x: u16, top: u16) -> Result<(), Forbidden>
+    ensures { MatchResult result (λ _. (1 ≤ x) × (x ≤ top))
+        (λ e. (number_of e ≡ 6) × ((x < 1) ⊎ (top < x))) }
 {
-    if version < 1 {
-        return 6;
+    if (1..=top).contains(&x) {
+        Ok(())
+    } else {
+        Err(Forbidden::OutOfRange)
     }
-    if 2 < version {
-        return 6;
-    }
-    if threads < 1 {
-        return 6;
-    }
-    if 8 < threads {
-        return 6;
-    }
-    if locations < 1 {
-        return 6;
-    }
-    if 256 < locations { 6 } else { 0 }
 }
 
-// What turns the first record away, by its kind and fields: 1 if it is no begin, 6, or 0.
-pub fn begin_refusal(kind: u16, f: Fields) -> u16
-    ensures { result ≡ begin_k kind f }
+// So of all fields.
+#[tactic(auto, unfolding(crate::specs::Turning::begin_rule))]
+fn begin_rule(version: u16, threads: u16, locations: u16) -> Result<(), Forbidden>
+    ensures { turned_by result ≡ begin_rule version threads locations }
+{
+    in_range(version, 2)?;
+    in_range(threads, 8)?;
+    in_range(locations, 256)
+}
+
+// What turns the first record away, by its kind and fields.
+#[tactic(auto, unfolding(crate::specs::Turning::begin_k))]
+pub fn begin_refusal(kind: u16, f: Fields) -> Result<(), Forbidden>
+    ensures { turned_by result ≡ begin_k kind f }
 {
     if kind != 1 {
-        return 1;
+        return Err(Forbidden::NoBegin);
     }
     begin_rule(f.version, f.threads, f.locations)
 }

@@ -1,22 +1,22 @@
-// The machine's state by value: the stretch, and what the begin said. And what an event makes of it.
-ghost use Rattle.std.specs.Prelude.{◌≡◌, false};
+// The machine's state by value, and what an event that passes makes of it.
+ghost use Rattle.std.specs.Prelude.{◌≡◌, ◌+◌, ◌<◌};
 ghost use Rattle.machine.specs.Twin.{next_stretch};
 
+// Where the row of the next event begins, the stretch, and what the begin said.
 #[derive(Clone, Copy)]
 pub struct Machine {
+    pub row: usize,
     pub stretch: u16,
     pub version: u16,
     pub threads: u16,
     pub locations: u16,
 }
 
-// After an event: the stretch, refusal 0, and whether loads count as of it: a load itself, or at a close those that its
-// thread holds. Or the number of what turns the event away, with the stretch as it was. The rest of the state is the
-// caller's to keep: version, threads and locations stay, and an event that passes is followed by the next row.
+// After an event that passes: the machine, which the caller takes on to the next row, and whether loads count as of the
+// event: a load itself, or at a close those that its thread holds.
 #[derive(Clone, Copy)]
 pub struct Step {
-    pub stretch: u16,
-    pub refusal: u16,
+    pub machine: Machine,
     pub counted: bool,
 }
 
@@ -29,24 +29,12 @@ impl Machine {
         self
     }
 
-    // The event is turned away.
-    pub(crate) fn refuse(self, refusal: u16) -> Step
-        ensures { result ≡ record { stretch = self.stretch; refusal = refusal; counted = false } }
-    {
-        Step {
-            stretch: self.stretch,
-            refusal,
-            counted: false,
-        }
-    }
-
     // The event passes.
     pub(crate) fn pass(self, counted: bool) -> Step
-        ensures { result ≡ record { stretch = self.stretch; refusal = 0; counted = counted } }
+        ensures { result ≡ record { machine = self; counted = counted } }
     {
         Step {
-            stretch: self.stretch,
-            refusal: 0,
+            machine: self,
             counted,
         }
     }

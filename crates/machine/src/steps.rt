@@ -1,402 +1,351 @@
-// The steps: each function makes the tests of its kind, in document 01's order, and turns the event away by the first
-// that fails; else the event takes effect. An event that is turned away changes nothing. `row` is where the event's row
-// begins: the caller sees to it that it is a row's begin, and that the begin's numbers are in range (`Fits`).
+// The steps: each makes the tests of its kind, in document 01's order, and turns the event away by the first that
+// fails; else the event takes effect. An event that is turned away changes nothing. The caller sees to it that the
+// machine's row is a row's begin, and that the begin's numbers are in range (`Fits`).
 ghost use Rattle.std.specs.Prelude.{◌≡◌, List, ℕ, ◌+◌, ◌≤◌, ◌<◌, length};
 ghost use Rattle.machine.specs.Twin.{state_of, world, admits, admitted};
 ghost use Rattle.machine.specs.Turning.{Fits};
-ghost use Rattle.machine.specs.Outcomes.{outcome, issue_o, commit_o, only_o, plain_o, memory_o, load_o};
-ghost use Rattle.machine.specs.Outcomes.{flush_o, fence_o, crash_o, skip_o, signal_o, wait_o, open_o};
+ghost use Rattle.machine.specs.Outcomes.{outcome, issue_o, commit_o, only_o, across_o, memory_o, load_o};
+ghost use Rattle.machine.specs.Outcomes.{flush_o, fence_on_o, crash_o, switch_o, signal_o, wait_o, open_o};
 ghost use Rattle.machine.specs.Outcomes.{locked_o, close_o, step_o};
 ghost use Rattle.machine.specs.Effects.{aside_tables, aside_work};
 
+use crate::forbidden::Forbidden;
 use crate::state::{Machine, Step};
 use crate::tables::Tables;
 use crate::{effects, regions, rules, tables, threads};
 use record::Fields;
 
-fn issue(m: Machine, row: usize, tables: &mut Tables, work: &mut [u16], t: u16, x: u16) -> Step
-    requires { Fits m row (length work.old) }
-    ensures { outcome m row result tables.new work.new
-        ≡ issue_o (world (state_of m row) tables.old work.old) t x }
-{
-    if !rules::place_fits(m, row, t, x) {
-        return m.refuse(rules::place_refusal(m, row, t));
-    }
-    effects::issue(tables, work, row, t, x, m.stretch);
-    m.pass(false)
-}
-
-// 10: "commit, empty queue".
-fn commit(m: Machine, row: usize, tables: &mut Tables, work: &mut [u16], t: u16) -> Step
-    requires { Fits m row (length work.old) }
-    ensures { outcome m row result tables.new work.new
-        ≡ commit_o (world (state_of m row) tables.old work.old) t }
-{
-    if !rules::thread_fits(m, row, t) {
-        return m.refuse(rules::place_refusal(m, row, t));
-    }
-    let own = threads::thread_of(tables, t);
-    if own.issued == own.committed {
-        return m.refuse(10);
-    }
-    effects::commit(tables, work, row, t, m.stretch);
-    m.pass(false)
-}
-
-// A load whose source must be store `only`, of the stretch. 9: "source against the load rule".
-fn load_only(
-    m: Machine,
-    row: usize,
-    tables: &mut Tables,
-    work: &mut [u16],
-    t: u16,
-    s: u16,
-    only: u16,
-) -> Step
-    requires { Fits m row (length work.old) × (row < 32768) × (t < 8) }
-    ensures { outcome m row result tables.new work.new
-        ≡ only_o (world (state_of m row) tables.old work.old) t s only }
-{
-    if s != only {
-        return m.refuse(9);
-    }
-    effects::meet(tables, work, row, t, s);
-    m.pass(false)
-}
-
-// A crossing load at location x may have source s, which is then noted: the source that is noted, or one that fits. The
-// first is one of the second too; it is asked first since that is cheap.
-fn admit(m: Machine, row: usize, tables: &mut Tables, work: &[u16], x: u16, s: u16) -> bool
-    requires { x < 256 }
-    ensures value { result ≡ admits m.stretch row tables.old work.now x s }
-    ensures tables_after { tables.new
-        ≡ admitted m.stretch row tables.old work.now x s }
-{
-    if s == tables[tables::source(x)] {
-        return true;
-    }
-    if !rules::fits_across(m, row, tables, work, x, s) {
-        return false;
-    }
-    tables[tables::source(x)] = s;
-    true
-}
-
-// A crossing load, which brings no clock. It counts if its thread is in no skip and not open.
-fn load_across(
-    m: Machine,
-    row: usize,
-    tables: &mut Tables,
-    work: &mut [u16],
-    t: u16,
-    x: u16,
-    s: u16,
-) -> Step
-    requires { Fits m row (length work.old) × (row < 32768) × (t < 8) × (x < 256) }
-    ensures { outcome m row result tables.new work.new
-        ≡ plain_o (world (state_of m row) tables.old work.old) t x s }
-{
-    if !admit(m, row, tables, work, x, s) {
-        return m.refuse(9);
-    }
-    area::no_store(work, row);
-    m.pass(regions::is_plain(tables, t))
-}
-
-// Behind a crossing load that does not count: if it passed, and its thread is in no skip, the thread is open, and the
-// load is held. This hands nothing back, and is asked where a load does not count: so it costs other loads nothing.
-fn set_aside(
-    tables: &mut Tables,
-    work: &mut [u16],
-    row: usize,
-    t: u16,
-    x: u16,
-    s: u16,
-    refusal: u16,
-)
+// Behind a crossing load of thread t that passed and does not count: if the thread is in no skip, it is open, and the
+// load is held.
+#[tactic(auto, unfolding(crate::specs::Effects::aside_tables, crate::specs::Effects::aside_work))]
+fn set_aside(tables: &mut Tables, work: &mut [u16], row: usize, t: u16, x: u16, s: u16)
     requires { (t < 8) × (x < 256) × (row < 32768) × (row + 16 ≤ length work.old) }
-    ensures tables_after { tables.new ≡ aside_tables tables.old row t refusal }
-    ensures work_after { work.new ≡ aside_work tables.old work.old row t x s refusal }
+    ensures tables_after { tables.new ≡ aside_tables tables.old row t 0 }
+    ensures work_after { work.new ≡ aside_work tables.old work.old row t x s 0 }
 {
-    if refusal != 0 {
-        return;
+    if !threads::thread_of(tables, t).skip {
+        effects::hold(tables, work, row, t, x, s);
     }
-    let own = threads::thread_of(tables, t);
-    if own.skip {
-        return;
-    }
-    effects::hold(tables, work, row, t, x, s);
 }
 
-// A load where no store of its thread waits at the location. `load` makes these two cases in its own body: with two
-// callers the compiler would not take this into the judge's loop.
-fn load_memory(
-    m: Machine,
-    row: usize,
-    tables: &mut Tables,
-    work: &mut [u16],
-    t: u16,
-    x: u16,
-    s: u16,
-) -> Step
-    requires { Fits m row (length work.old) × (row < 32768) × (t < 8) × (x < 256) }
-    ensures { outcome m row result tables.new work.new
-        ≡ memory_o (world (state_of m row) tables.old work.old) t x s }
-{
-    let committed = tables[tables::stretch(x)];
-    if committed != m.stretch {
-        let r = load_across(m, row, tables, work, t, x, s);
-        if r.counted {
-            return r;
+impl Machine {
+    #[tactic(auto, using(crate::proofs::RuleLaws::number_some), unfolding(crate::specs::Outcomes::by_rule, crate::specs::Twin::ticked, crate::specs::Effects::issue_w))]
+    fn issue(self, tables: &mut Tables, work: &mut [u16], t: u16, x: u16) -> Result<Step, Forbidden>
+        requires { Fits self (length work.old) }
+        ensures { outcome self result tables.new work.new
+            ≡ issue_o (world (state_of self) tables.old work.old) t x }
+    {
+        self.on_place(t, x)?;
+        effects::issue(tables, work, self.row, t, x, self.stretch);
+        Ok(self.pass(false))
+    }
+
+    #[tactic(auto, using(crate::proofs::RuleLaws::number_some), unfolding(crate::specs::Outcomes::by_rule, crate::specs::Twin::ticked, crate::specs::Effects::commit_w))]
+    fn commit(self, tables: &mut Tables, work: &mut [u16], t: u16) -> Result<Step, Forbidden>
+        requires { Fits self (length work.old) }
+        ensures { outcome self result tables.new work.new
+            ≡ commit_o (world (state_of self) tables.old work.old) t }
+    {
+        self.on_thread(t)?;
+        let own = threads::thread_of(tables, t);
+        if own.issued == own.committed {
+            return Err(Forbidden::EmptyQueue);
         }
-        set_aside(tables, work, row, t, x, s, r.refusal);
-        return r;
+        effects::commit(tables, work, self.row, t, self.stretch);
+        Ok(self.pass(false))
     }
-    let q = tables[tables::last(x)];
-    load_only(m, row, tables, work, t, s, q)
-}
 
-// The load rule: the newest waiting store, the last one committed in the stretch, or a crossing load. Which store was
-// committed last is asked only where the load must read it; the judge asks it for a crossing load that counts.
-fn load(
-    m: Machine,
-    row: usize,
-    tables: &mut Tables,
-    work: &mut [u16],
-    t: u16,
-    x: u16,
-    s: u16,
-) -> Step
-    requires { Fits m row (length work.old) }
-    ensures { outcome m row result tables.new work.new
-        ≡ load_o (world (state_of m row) tables.old work.old) t x s }
-{
-    if !rules::place_fits(m, row, t, x) {
-        return m.refuse(rules::place_refusal(m, row, t));
+    // A load whose source must be store `only`, of the stretch.
+    #[tactic(auto, using(crate::proofs::RuleLaws::number_some), unfolding(crate::specs::Outcomes::by_rule, crate::specs::Twin::ticked, crate::specs::Effects::meet_w))]
+    fn load_only(
+        self,
+        tables: &mut Tables,
+        work: &mut [u16],
+        t: u16,
+        s: u16,
+        only: u16,
+    ) -> Result<Step, Forbidden>
+        requires { Fits self (length work.old) × (self.row < 32768) × (t < 8) }
+        ensures { outcome self result tables.new work.new
+            ≡ only_o (world (state_of self) tables.old work.old) t s only }
+    {
+        if s != only {
+            return Err(Forbidden::WrongSource);
+        }
+        effects::meet(tables, work, self.row, t, s);
+        Ok(self.pass(false))
     }
-    let p = rules::waiting(tables, t, x);
-    if p != 0 {
-        return load_only(m, row, tables, work, t, s, p);
-    }
-    if tables[tables::stretch(x)] == m.stretch {
-        let q = tables[tables::last(x)];
-        return load_only(m, row, tables, work, t, s, q);
-    }
-    let r = load_across(m, row, tables, work, t, x, s);
-    if r.counted {
-        return r;
-    }
-    set_aside(tables, work, row, t, x, s, r.refusal);
-    r
-}
 
-// A locked operation: a load, then an issue and a commit. 11: its thread "has a waiting store".
-fn locked(
-    m: Machine,
-    row: usize,
-    tables: &mut Tables,
-    work: &mut [u16],
-    t: u16,
-    x: u16,
-    s: u16,
-) -> Step
-    requires { Fits m row (length work.old) }
-    ensures { outcome m row result tables.new work.new
-        ≡ locked_o (world (state_of m row) tables.old work.old) t x s }
-{
-    if !rules::place_fits(m, row, t, x) {
-        return m.refuse(rules::place_refusal(m, row, t));
+    // A crossing load at location x may have source s, which is then noted: the source that is noted, or one that fits.
+    // The first is one of the second too; it is asked first since that is cheap.
+    #[tactic(auto, unfolding(crate::specs::Twin::admits, crate::specs::Twin::admitted))]
+    fn admit(self, tables: &mut Tables, work: &[u16], x: u16, s: u16) -> bool
+        requires { x < 256 }
+        ensures value { result ≡ admits self.stretch self.row tables.old work.now x s }
+        ensures tables_after { tables.new
+            ≡ admitted self.stretch self.row tables.old work.now x s }
+    {
+        if s == tables[tables::source(x)] {
+            return true;
+        }
+        if !self.fits_across(tables, work, x, s) {
+            return false;
+        }
+        tables[tables::source(x)] = s;
+        true
     }
-    let own = threads::thread_of(tables, t);
-    if own.oldest != 0 {
-        return m.refuse(11);
-    }
-    let r = load_memory(m, row, tables, work, t, x, s);
-    if r.refusal != 0 {
-        return r;
-    }
-    effects::exchange(tables, work, row, t, x, s, m.stretch);
-    r
-}
 
-fn flush(m: Machine, row: usize, work: &mut [u16], t: u16, x: u16) -> Step
-    requires { Fits m row (length work.old) }
-    ensures { (tables : List ℕ) → outcome m row result tables work.new
-        ≡ flush_o (world (state_of m row) tables work.old) t x }
-{
-    if !rules::place_fits(m, row, t, x) {
-        return m.refuse(rules::place_refusal(m, row, t));
+    // A crossing load, which brings no clock. It counts if its thread is in no skip and not open; in no skip and open, it
+    // is held.
+    #[inline(always)]
+    #[tactic(auto, using(crate::proofs::RuleLaws::number_some, crate::proofs::RuleLaws::plain_stays, crate::proofs::RuleLaws::skip_stays, crate::proofs::RuleLaws::source_noted), unfolding(crate::specs::Outcomes::by_rule, crate::specs::Twin::ticked, crate::specs::Twin::admitted, crate::specs::Effects::cross_w, crate::specs::Effects::aside_tables, crate::specs::Effects::aside_work))]
+    fn load_across(
+        self,
+        tables: &mut Tables,
+        work: &mut [u16],
+        t: u16,
+        x: u16,
+        s: u16,
+    ) -> Result<Step, Forbidden>
+        requires { Fits self (length work.old) × (self.row < 32768) × (t < 8) × (x < 256) }
+        ensures { outcome self result tables.new work.new
+            ≡ across_o (world (state_of self) tables.old work.old) t x s }
+    {
+        if !self.admit(tables, work, x, s) {
+            return Err(Forbidden::WrongSource);
+        }
+        area::no_store(work, self.row);
+        if regions::is_plain(tables, t) {
+            return Ok(self.pass(true));
+        }
+        set_aside(tables, work, self.row, t, x, s);
+        Ok(self.pass(false))
     }
-    area::no_store(work, row);
-    m.pass(false)
-}
 
-// An sfence or mfence, kind 7 or 8.
-fn fence(m: Machine, row: usize, tables: &Tables, work: &mut [u16], kind: u16, t: u16) -> Step
-    requires { Fits m row (length work.old) }
-    ensures { outcome m row result tables.now work.new
-        ≡ fence_o (world (state_of m row) tables.now work.old) kind t }
-{
-    if !rules::thread_fits(m, row, t) {
-        return m.refuse(rules::place_refusal(m, row, t));
+    // A load where no store of its thread waits at the location: the last one committed in the stretch, or a crossing
+    // load. Which store was committed last is asked only where the load must read it; the judge asks it for a crossing
+    // load that counts. Marked, since with two callers the compiler would not take this into the judge's loop.
+    #[inline(always)]
+    fn load_memory(
+        self,
+        tables: &mut Tables,
+        work: &mut [u16],
+        t: u16,
+        x: u16,
+        s: u16,
+    ) -> Result<Step, Forbidden>
+        requires { Fits self (length work.old) × (self.row < 32768) × (t < 8) × (x < 256) }
+        ensures { outcome self result tables.new work.new
+            ≡ memory_o (world (state_of self) tables.old work.old) t x s }
+    {
+        if tables[tables::stretch(x)] == self.stretch {
+            let q = tables[tables::last(x)];
+            return self.load_only(tables, work, t, s, q);
+        }
+        self.load_across(tables, work, t, x, s)
     }
-    let own = threads::thread_of(tables, t);
-    let k = rules::fence_rule(kind, own);
-    if k != 0 {
-        return m.refuse(k);
-    }
-    area::no_store(work, row);
-    m.pass(false)
-}
 
-// 13: "event 2,049, or eighth crash".
-fn crash(m: Machine, row: usize, tables: &mut Tables, work: &mut [u16]) -> Step
-    requires { Fits m row (length work.old) }
-    ensures { outcome m row result tables.new work.new
-        ≡ crash_o (world (state_of m row) tables.old work.old) }
-{
-    if 32768 <= row {
-        return m.refuse(13);
+    // The load rule: the newest waiting store, or what is in memory.
+    #[tactic(auto, using(crate::proofs::RuleLaws::number_some), unfolding(crate::specs::Outcomes::by_rule))]
+    fn load(
+        self,
+        tables: &mut Tables,
+        work: &mut [u16],
+        t: u16,
+        x: u16,
+        s: u16,
+    ) -> Result<Step, Forbidden>
+        requires { Fits self (length work.old) }
+        ensures { outcome self result tables.new work.new
+            ≡ load_o (world (state_of self) tables.old work.old) t x s }
+    {
+        self.on_place(t, x)?;
+        if let Some(p) = rules::waiting(tables, t, x) {
+            return self.load_only(tables, work, t, s, p);
+        }
+        self.load_memory(tables, work, t, x, s)
     }
-    if m.stretch == 8 {
-        return m.refuse(13);
-    }
-    area::no_store(work, row);
-    effects::finish(tables, m.stretch);
-    let after = m.next_stretch();
-    after.pass(false)
-}
 
-// A skip on or off, kind 10 or 11.
-fn skip(m: Machine, row: usize, tables: &mut Tables, work: &mut [u16], kind: u16, t: u16) -> Step
-    requires { Fits m row (length work.old) }
-    ensures { outcome m row result tables.new work.new
-        ≡ skip_o (world (state_of m row) tables.old work.old) kind t }
-{
-    if !rules::thread_fits(m, row, t) {
-        return m.refuse(rules::place_refusal(m, row, t));
+    // A locked operation: a load, then an issue and a commit. Its thread may have no waiting store.
+    #[tactic(auto, using(crate::proofs::RuleLaws::number_some), unfolding(crate::specs::Outcomes::by_rule))]
+    fn locked(
+        self,
+        tables: &mut Tables,
+        work: &mut [u16],
+        t: u16,
+        x: u16,
+        s: u16,
+    ) -> Result<Step, Forbidden>
+        requires { Fits self (length work.old) }
+        ensures { outcome self result tables.new work.new
+            ≡ locked_o (world (state_of self) tables.old work.old) t x s }
+    {
+        self.on_place(t, x)?;
+        if threads::thread_of(tables, t).oldest != 0 {
+            return Err(Forbidden::QueueNotEmpty);
+        }
+        let r = self.load_memory(tables, work, t, x, s)?;
+        effects::exchange(tables, work, self.row, t, x, s, self.stretch);
+        Ok(r)
     }
-    let old = threads::thread_of(tables, t);
-    let k = rules::skip_rule(kind, old.skip);
-    if k != 0 {
-        return m.refuse(k);
-    }
-    area::no_store(work, row);
-    let new = old.with_skip(kind == 10);
-    threads::put_skip(tables, t, new);
-    m.pass(false)
-}
 
-// 11: a signal with waiting stores.
-fn signal(m: Machine, row: usize, tables: &Tables, work: &mut [u16], t: u16) -> Step
-    requires { Fits m row (length work.old) }
-    ensures { outcome m row result tables.now work.new
-        ≡ signal_o (world (state_of m row) tables.now work.old) t }
-{
-    if !rules::thread_fits(m, row, t) {
-        return m.refuse(rules::place_refusal(m, row, t));
+    #[tactic(auto, using(crate::proofs::RuleLaws::number_some), unfolding(crate::specs::Outcomes::by_rule, crate::specs::Twin::ticked, crate::specs::Effects::pass_w))]
+    fn flush(self, work: &mut [u16], t: u16, x: u16) -> Result<Step, Forbidden>
+        requires { Fits self (length work.old) }
+        ensures { (tables : List ℕ) → outcome self result tables work.new
+            ≡ flush_o (world (state_of self) tables work.old) t x }
+    {
+        self.on_place(t, x)?;
+        area::no_store(work, self.row);
+        Ok(self.pass(false))
     }
-    let own = threads::thread_of(tables, t);
-    if own.oldest != 0 {
-        return m.refuse(11);
-    }
-    effects::signal(tables, work, row, t, m.stretch);
-    m.pass(false)
-}
 
-// 18: a wait whose source is no earlier signal of the same stretch.
-fn wait(m: Machine, row: usize, tables: &mut Tables, work: &mut [u16], t: u16, s: u16) -> Step
-    requires { Fits m row (length work.old) }
-    ensures { outcome m row result tables.new work.new
-        ≡ wait_o (world (state_of m row) tables.old work.old) t s }
-{
-    if !rules::thread_fits(m, row, t) {
-        return m.refuse(rules::place_refusal(m, row, t));
+    // An sfence, or an mfence.
+    #[tactic(auto, using(crate::proofs::RuleLaws::number_some), unfolding(crate::specs::Outcomes::by_rule, crate::specs::Twin::ticked, crate::specs::Effects::pass_w))]
+    fn fence(
+        self,
+        tables: &Tables,
+        work: &mut [u16],
+        t: u16,
+        sfence: bool,
+    ) -> Result<Step, Forbidden>
+        requires { Fits self (length work.old) }
+        ensures { outcome self result tables.now work.new
+            ≡ fence_on_o (world (state_of self) tables.now work.old) sfence t }
+    {
+        self.on_thread(t)?;
+        rules::fence_rule(sfence, threads::thread_of(tables, t))?;
+        area::no_store(work, self.row);
+        Ok(self.pass(false))
     }
-    if !rules::signalled(m, row, work, s) {
-        return m.refuse(18);
-    }
-    effects::meet(tables, work, row, t, s);
-    m.pass(false)
-}
 
-// An open, kind 15. 3: the trace's version does not know it; 12: "open when open".
-fn open_region(m: Machine, row: usize, tables: &mut Tables, work: &mut [u16], t: u16) -> Step
-    requires { Fits m row (length work.old) }
-    ensures { outcome m row result tables.new work.new
-        ≡ open_o (world (state_of m row) tables.old work.old) t }
-{
-    if m.version < 2 {
-        return m.refuse(3);
+    #[tactic(auto, using(crate::proofs::RuleLaws::number_some), unfolding(crate::specs::Outcomes::by_rule, crate::specs::Twin::ticked, crate::specs::Effects::crash_w, crate::specs::Twin::crashed))]
+    fn crash(self, tables: &mut Tables, work: &mut [u16]) -> Result<Step, Forbidden>
+        requires { Fits self (length work.old) }
+        ensures { outcome self result tables.new work.new
+            ≡ crash_o (world (state_of self) tables.old work.old) }
+    {
+        if 32768 <= self.row || self.stretch == 8 {
+            return Err(Forbidden::PastLimit);
+        }
+        area::no_store(work, self.row);
+        effects::finish(tables, self.stretch);
+        Ok(self.next_stretch().pass(false))
     }
-    if !rules::thread_fits(m, row, t) {
-        return m.refuse(rules::place_refusal(m, row, t));
-    }
-    let old = regions::region_of(tables, t);
-    if old.opened {
-        return m.refuse(12);
-    }
-    area::no_store(work, row);
-    regions::put_region(tables, t, old.begin());
-    m.pass(false)
-}
 
-// A close, kind 16, with its outcome, `result`: at 1 the loads that its thread holds count, if there is one.
-fn close_region(
-    m: Machine,
-    row: usize,
-    tables: &mut Tables,
-    work: &mut [u16],
-    t: u16,
-    res: u16,
-) -> Step
-    requires { Fits m row (length work.old) }
-    ensures { outcome m row result tables.new work.new
-        ≡ close_o (world (state_of m row) tables.old work.old) t res }
-{
-    if m.version < 2 {
-        return m.refuse(3);
+    // A skip starts or ends.
+    #[tactic(auto, using(crate::proofs::RuleLaws::number_some), unfolding(crate::specs::Outcomes::by_rule, crate::specs::Twin::ticked, crate::specs::Effects::skip_w))]
+    fn skip(
+        self,
+        tables: &mut Tables,
+        work: &mut [u16],
+        t: u16,
+        on: bool,
+    ) -> Result<Step, Forbidden>
+        requires { Fits self (length work.old) }
+        ensures { outcome self result tables.new work.new
+            ≡ switch_o (world (state_of self) tables.old work.old) on t }
+    {
+        self.on_thread(t)?;
+        let old = threads::thread_of(tables, t);
+        rules::skip_rule(on, old.skip)?;
+        area::no_store(work, self.row);
+        threads::put_skip(tables, t, old.with_skip(on));
+        Ok(self.pass(false))
     }
-    if !rules::thread_fits(m, row, t) {
-        return m.refuse(rules::place_refusal(m, row, t));
-    }
-    let old = regions::region_of(tables, t);
-    let k = rules::close_rule(res, old.opened);
-    if k != 0 {
-        return m.refuse(k);
-    }
-    area::no_store(work, row);
-    regions::put_region(tables, t, old.end());
-    m.pass(rules::close_counts(res, old.newest))
-}
 
-// A later event, by its kind and fields. 5: a begin.
-pub fn step(
-    m: Machine,
-    row: usize,
-    tables: &mut Tables,
-    work: &mut [u16],
-    kind: u16,
-    f: Fields,
-) -> Step
-    requires { Fits m row (length work.old) }
-    ensures { outcome m row result tables.new work.new
-        ≡ step_o (world (state_of m row) tables.old work.old) kind f }
-{
-    let t = f.thread;
-    match kind {
-        2 => issue(m, row, tables, work, t, f.location),
-        3 => commit(m, row, tables, work, t),
-        4 => load(m, row, tables, work, t, f.location, f.source),
-        5..=6 => flush(m, row, work, t, f.location),
-        7..=8 => fence(m, row, tables, work, kind, t),
-        9 => crash(m, row, tables, work),
-        10..=11 => skip(m, row, tables, work, kind, t),
-        12 => locked(m, row, tables, work, t, f.location, f.source),
-        13 => signal(m, row, tables, work, t),
-        14 => wait(m, row, tables, work, t, f.source),
-        15 => open_region(m, row, tables, work, t),
-        16 => close_region(m, row, tables, work, t, f.outcome),
-        _ => m.refuse(5),
+    // The thread may have no waiting stores.
+    #[tactic(auto, using(crate::proofs::RuleLaws::number_some), unfolding(crate::specs::Outcomes::by_rule, crate::specs::Twin::ticked, crate::specs::Effects::signal_w))]
+    fn signal(self, tables: &Tables, work: &mut [u16], t: u16) -> Result<Step, Forbidden>
+        requires { Fits self (length work.old) }
+        ensures { outcome self result tables.now work.new
+            ≡ signal_o (world (state_of self) tables.now work.old) t }
+    {
+        self.on_thread(t)?;
+        if threads::thread_of(tables, t).oldest != 0 {
+            return Err(Forbidden::QueueNotEmpty);
+        }
+        effects::signal(tables, work, self.row, t, self.stretch);
+        Ok(self.pass(false))
+    }
+
+    #[tactic(auto, using(crate::proofs::RuleLaws::number_some), unfolding(crate::specs::Outcomes::by_rule, crate::specs::Twin::ticked, crate::specs::Effects::meet_w))]
+    fn wait(self, tables: &mut Tables, work: &mut [u16], t: u16, s: u16) -> Result<Step, Forbidden>
+        requires { Fits self (length work.old) }
+        ensures { outcome self result tables.new work.new
+            ≡ wait_o (world (state_of self) tables.old work.old) t s }
+    {
+        self.on_thread(t)?;
+        if !self.signalled(work, s) {
+            return Err(Forbidden::NoSignal);
+        }
+        effects::meet(tables, work, self.row, t, s);
+        Ok(self.pass(false))
+    }
+
+    #[tactic(auto, using(crate::proofs::RuleLaws::number_some), unfolding(crate::specs::Outcomes::by_rule, crate::specs::Twin::ticked, crate::specs::Effects::open_w))]
+    fn open_region(self, tables: &mut Tables, work: &mut [u16], t: u16) -> Result<Step, Forbidden>
+        requires { Fits self (length work.old) }
+        ensures { outcome self result tables.new work.new
+            ≡ open_o (world (state_of self) tables.old work.old) t }
+    {
+        let old = self.region(tables, t)?;
+        if old.opened {
+            return Err(Forbidden::SwitchedAlready);
+        }
+        area::no_store(work, self.row);
+        regions::put_region(tables, t, old.begin());
+        Ok(self.pass(false))
+    }
+
+    // A close with its outcome, `res`: at 1 the loads that its thread holds count, if there is one.
+    #[tactic(auto, using(crate::proofs::RuleLaws::number_some), unfolding(crate::specs::Outcomes::by_rule, crate::specs::Twin::ticked, crate::specs::Effects::close_w))]
+    fn close_region(
+        self,
+        tables: &mut Tables,
+        work: &mut [u16],
+        t: u16,
+        res: u16,
+    ) -> Result<Step, Forbidden>
+        requires { Fits self (length work.old) }
+        ensures { outcome self result tables.new work.new
+            ≡ close_o (world (state_of self) tables.old work.old) t res }
+    {
+        let old = self.region(tables, t)?;
+        rules::close_rule(res, old.opened)?;
+        area::no_store(work, self.row);
+        regions::put_region(tables, t, old.end());
+        Ok(self.pass(rules::close_counts(res, old.newest)))
+    }
+
+    // A later event, by its kind and fields.
+    #[tactic(auto, unfolding(crate::specs::Outcomes::step_o, crate::specs::Arms::by_kind))]
+    pub fn step(
+        self,
+        tables: &mut Tables,
+        work: &mut [u16],
+        kind: u16,
+        f: Fields,
+    ) -> Result<Step, Forbidden>
+        requires { Fits self (length work.old) }
+        ensures { outcome self result tables.new work.new
+            ≡ step_o (world (state_of self) tables.old work.old) kind f }
+    {
+        let t = f.thread;
+        match kind {
+            2 => self.issue(tables, work, t, f.location),
+            3 => self.commit(tables, work, t),
+            4 => self.load(tables, work, t, f.location, f.source),
+            5..=6 => self.flush(work, t, f.location),
+            7..=8 => self.fence(tables, work, t, kind == 7),
+            9 => self.crash(tables, work),
+            10..=11 => self.skip(tables, work, t, kind == 10),
+            12 => self.locked(tables, work, t, f.location, f.source),
+            13 => self.signal(tables, work, t),
+            14 => self.wait(tables, work, t, f.source),
+            15 => self.open_region(tables, work, t),
+            16 => self.close_region(tables, work, t, f.outcome),
+            _ => Err(Forbidden::LaterBegin),
+        }
     }
 }

@@ -11,28 +11,28 @@ pub type Tables = [u16; 3008];
 pub(crate) fn thread(t: u16, k: u16) -> usize
     ensures { result ≡ thread_cell t k }
 {
-    16 * (t as usize) + (k as usize)
+    16 * usize::from(t) + usize::from(k)
 }
 
 // The last store committed at location x.
 pub(crate) fn last(x: u16) -> usize
     ensures { result ≡ last_cell x }
 {
-    128 + (x as usize)
+    128 + usize::from(x)
 }
 
 // The source of the last crossing load of location x that passed.
 pub(crate) fn source(x: u16) -> usize
     ensures { result ≡ source_cell x }
 {
-    384 + (x as usize)
+    384 + usize::from(x)
 }
 
 // The commits of thread t in stretch j, once a crash has finished it.
 pub(crate) fn commits(j: u16, t: u16) -> usize
     ensures { (result ≡ commits_cell j t) × (result < 704) }
 {
-    640 + (8 * (j as usize) + (t as usize)) % 64
+    640 + (8 * usize::from(j) + usize::from(t)) % 64
 }
 
 // The newest store of thread t at location x.
@@ -40,14 +40,14 @@ pub(crate) fn newest(x: u16, t: u16) -> usize
     requires { (t < 8) × (x < 256) }
     ensures { result ≡ newest_cell x t }
 {
-    704 + ((8 * x + t) as usize)
+    704 + usize::from(8 * x + t)
 }
 
 // The stretch in which the last store of location x was committed.
 pub(crate) fn stretch(x: u16) -> usize
     ensures { result ≡ stretch_cell x }
 {
-    2752 + (x as usize)
+    2752 + usize::from(x)
 }
 
 // ---- what the judge asks

@@ -2,9 +2,8 @@
 // last of which it shares with the open state (regions.rt), so that a load asks one number whether it counts. The
 // methods hand the thread's new state back. The queue's stores are linked in the work area; here are its ends.
 ghost use Rattle.std.specs.Prelude.{◌≡◌, ◌<◌};
-ghost use Rattle.model.specs.Search.{bit};
-ghost use Rattle.machine.specs.Threads.{first_of, issued_t, committed_t, skipped_t, crashed_t, thread_of};
-ghost use Rattle.machine.specs.Threads.{KeepsOldest, put_issued, put_committed, skip_set, put_skip, put_oldest};
+ghost use Rattle.machine.specs.Threads.{issued_t, committed_t, skipped_t, crashed_t, thread_of};
+ghost use Rattle.machine.specs.Threads.{KeepsOldest, put_issued, put_committed, put_skip, put_oldest};
 ghost use Rattle.machine.specs.Threads.{unseen, restarted};
 
 use crate::tables;
@@ -20,30 +19,22 @@ pub struct Thread {
     pub skip: bool,
 }
 
-fn first_of(a: u16, b: u16) -> u16
-    ensures { result ≡ first_of a b }
-{
-    if a == 0 { b } else { a }
-}
-
-fn bit(b: bool) -> u16
-    ensures { result ≡ bit b }
-{
-    if b { 1 } else { 0 }
-}
-
 impl Thread {
     // Store e joins the queue.
+    #[tactic(auto, unfolding(crate::specs::Threads::issued_t, crate::specs::Threads::first_of))]
     pub(crate) fn issue(mut self, e: u16) -> Thread
         ensures { result ≡ issued_t self e }
     {
         self.issued = area::numbers::next_number(self.issued);
-        self.oldest = first_of(self.oldest, e);
+        if self.oldest == 0 {
+            self.oldest = e;
+        }
         self.newest = e;
         self
     }
 
     // The oldest store leaves the queue, and `next` is then the oldest.
+    #[tactic(auto, unfolding(crate::specs::Threads::committed_t))]
     pub(crate) fn commit(mut self, next: u16) -> Thread
         ensures { result ≡ committed_t self next }
     {
@@ -53,6 +44,7 @@ impl Thread {
     }
 
     // A skip starts or ends.
+    #[tactic(auto, unfolding(crate::specs::Threads::skipped_t))]
     pub(crate) fn with_skip(mut self, on: bool) -> Thread
         ensures { result ≡ skipped_t self on }
     {
@@ -74,6 +66,7 @@ impl Thread {
 }
 
 // Thread t's state.
+#[tactic(auto, unfolding(crate::specs::Threads::thread_of))]
 pub(crate) fn thread_of(tables: &Tables, t: u16) -> Thread
     requires { t < 8 }
     ensures { result ≡ thread_of tables.now t }
@@ -100,6 +93,7 @@ fn put_oldest(tables: &mut Tables, t: u16, oldest: u16)
 }
 
 // Thread t's state becomes s: what an issue changes of it.
+#[tactic(auto, unfolding(crate::specs::Threads::put_issued))]
 pub(crate) fn put_issued(tables: &mut Tables, t: u16, s: Thread)
     requires { (t < 8) × KeepsOldest tables.old t s.oldest }
     ensures { tables.new ≡ put_issued tables.old t s }
@@ -110,6 +104,7 @@ pub(crate) fn put_issued(tables: &mut Tables, t: u16, s: Thread)
 }
 
 // What a commit changes.
+#[tactic(auto, unfolding(crate::specs::Threads::put_committed))]
 pub(crate) fn put_committed(tables: &mut Tables, t: u16, s: Thread)
     requires { t < 8 }
     ensures { tables.new ≡ put_committed tables.old t s }
@@ -118,36 +113,30 @@ pub(crate) fn put_committed(tables: &mut Tables, t: u16, s: Thread)
     tables[tables::thread(t, 11)] = s.committed;
 }
 
-// Column 12 with another skip.
-fn with_skip(c: u16, skip: bool) -> u16
-    ensures { result ≡ skip_set c skip }
-{
-    if skip { c / 2 * 2 + 1 } else { c / 2 * 2 }
-}
-
 // What a skip changes.
+#[tactic(auto, using(crate::proofs::Flags::skip_set_is), unfolding(crate::specs::Threads::put_skip))]
 pub(crate) fn put_skip(tables: &mut Tables, t: u16, s: Thread)
     requires { t < 8 }
     ensures { tables.new ≡ put_skip tables.old t s }
 {
     let i = tables::thread(t, 12);
-    tables[i] = with_skip(tables[i], s.skip);
+    tables[i] = tables[i] / 2 * 2 + u16::from(s.skip);
 }
 
 // Thread t has seen nothing.
+#[tactic(auto, unfolding(crate::specs::Threads::unseen))]
 fn forget_seen(tables: &mut Tables, t: u16)
     requires { t < 8 }
     ensures { tables.new ≡ unseen 8 tables.old t }
 {
     let from = tables::thread(t, 0);
-    let mut u: usize = 0;
-    while u < 8 {
+    for u in 0..8 {
         tables[from + u] = 0;
-        u += 1;
     }
 }
 
 // What a crash changes: thread t has seen nothing, all of its state is s, and it is not open.
+#[tactic(auto, using(crate::proofs::Flags::bit_is), unfolding(crate::specs::Threads::restarted))]
 pub(crate) fn restart(tables: &mut Tables, t: u16, s: Thread)
     requires { t < 8 }
     ensures { tables.new ≡ restarted tables.old t s }
@@ -157,5 +146,5 @@ pub(crate) fn restart(tables: &mut Tables, t: u16, s: Thread)
     tables[tables::thread(t, 9)] = s.newest;
     tables[tables::thread(t, 10)] = s.issued;
     tables[tables::thread(t, 11)] = s.committed;
-    tables[tables::thread(t, 12)] = bit(s.skip);
+    tables[tables::thread(t, 12)] = u16::from(s.skip);
 }

@@ -3,7 +3,8 @@
 use mathlib.Core.Path.{sym}
 use mathlib.Core.List.{List}
 use Prim.Native.Nat.{ℕ}
-use native.Mathlib.Omega.{arith}
+use Rattle.machine.specs.Forbidden.{number_of}
+use Rattle.machine.proofs.RuleLaws.{number_not_0}
 use Rattle.judge.proofs.Records.{was_refused, was_read, first_unread, first_forbidden, first_passes}
 use Rattle.judge.proofs.run.begin.Goals as goal
 
@@ -17,16 +18,16 @@ returns-in_default c =
     in
     rw c.refuse.ensures (first_unread bytes k unread)
 
-pub returns-then-k-ne0 : goal.returns-then-k-ne0
-returns-then-k-ne0 c =
+pub returns-in-Err : goal.returns-in-Err
+returns-in-Err c =
     let bytes : List ℕ = c.args.trace.now in
     let x = c.in-Record.e in
     let past = c.in-Record.next in
     let is_read = was_read bytes c.read_at-r.result 0 x past c.read_at-r.ensures c.in-Record.is in
-    rw c.refuse-then-k-ne0.ensures
-    (first_forbidden bytes c.begin_refusal-k.result x past is_read
+    rw (c.refuse-in-Err.ensures, c.number.ensures)
+    (first_forbidden bytes (number_of c.in-Err.k) x past is_read
     (rw (sym c.kind_of.ensures, sym c.fields_of-f.ensures)
-    (sym c.begin_refusal-k.ensures)) (λ none. omega arith))
+    (sym c.in-Err.ensures)) (number_not_0 c.in-Err.k))
 
 pub returns : goal.returns
 returns c =
@@ -37,4 +38,4 @@ returns c =
     rw c.fields_of-f.ensures
     (first_passes bytes x past is_read
     (rw (sym c.kind_of.ensures, sym c.fields_of-f.ensures)
-    (omega (arith, c.begin_refusal-k.ensures))))
+    (sym c.in_default-begin_refusal.ensures)))

@@ -20,14 +20,14 @@ returns-in_default c =
     args.tables.now args.marks.now args.work.now c.requires c.in_default.field-0
     (sym c.in_default.is ∙ c.scan_at-d.ensures))
 
-pub returns-then-s-ne0 : goal.returns-then-s-ne0
-returns-then-s-ne0 c =
+pub returns-in-Err : goal.returns-in-Err
+returns-in-Err c =
     let args = c.args in
-    scanned_forbidden args.trace.now args.version args.threads args.locations (event_at args.t.row)
+    rw c.number.ensures
+    (scanned_forbidden args.trace.now args.version args.threads args.locations (event_at args.t.row)
     args.t
     args.tables.now args.marks.now args.work.now c.requires c.in-Record.e
-    (sym c.in-Record.is ∙ c.scan_at-d.ensures) c.step-s.result _ _ c.step-s.ensures
-    (λ none. omega arith) _ _ _
+    (sym c.in-Record.is ∙ c.scan_at-d.ensures) _ _ c.in-Err.k c.in-Err.ensures _ _ _)
 
 pub returns : goal.returns
 returns c =
@@ -35,5 +35,5 @@ returns c =
     scanned_passes args.trace.now args.version args.threads args.locations (event_at args.t.row)
     args.t
     args.tables.now args.marks.now args.work.now c.requires c.in-Record.e
-    (sym c.in-Record.is ∙ c.scan_at-d.ensures) c.step-s.result _ _ c.step-s.ensures
-    (omega (arith, c.if-s-ne0.false)) _ (c.judge_event.ensures (events args.trace.now))
+    (sym c.in-Record.is ∙ c.scan_at-d.ensures) _ _ c.in-Ok.s c.in-Ok.ensures
+    _ (c.judge_event.ensures (events args.trace.now))

@@ -1,14 +1,12 @@
--- The calls and stores, one after the other; a queue that is not empty keeps its oldest store.
+-- A queue that is not empty keeps its oldest store.
 use mathlib.Core.Path.{◌≡◌, refl}
 use mathlib.Core.List.{List}
 use Prim.Native.Nat.{ℕ}
 use borrow.Author.Tests.{ne_eqb}
 use Rattle.machine.specs.Threads.{first_of, issued_t, thread_of, of_thread, KeepsOldest}
-use Rattle.machine.specs.Effects.{issued_tables, issued_work}
 use Rattle.machine.specs.declared.threads.Thread.{Thread}
 use Rattle.machine.proofs.effects.issue.Goals as goal
 
--- a queue that is not empty keeps its oldest store
 issue_keeps :
     (tables : List ℕ) (t e : ℕ) (old new : Thread) → old ≡ thread_of tables t → new ≡ issued_t old e
     → KeepsOldest tables t new.oldest
@@ -18,23 +16,3 @@ issue_keeps tables t e old new old-is new_is some = rw (new_is, old-is, ne_eqb (
 pub put_issued-requires : goal.put_issued-requires
 put_issued-requires c =
     (c.requires.0, issue_keeps _ _ _ _ _ c.thread_of-old.ensures c.issue-new.ensures)
-
-pub returns : goal.returns
-unfolding issued_tables issued_work issued_t
-returns c =
-    record {
-      tables_after = rw (
-        c.newest.ensures,
-        c.put_issued.ensures,
-        c.issue-new.ensures,
-        c.thread_of-old.ensures,
-        c.event_at-store.ensures,
-      ) refl;
-      work_after = rw (
-        c.write_row.ensures,
-        c.row_put.ensures,
-        c.issue-new.ensures,
-        c.thread_of-old.ensures,
-        c.event_at-store.ensures,
-      ) refl;
-    }
