@@ -47,6 +47,7 @@ pub(crate) const KINDS: [[u16; 10]; 17] = [
 // The row of a kind; zeros where there is no such kind. Each arm indexes the table by a constant: an index that is
 // known only at run time would have the whole table copied at each call. The table is named once, for the check of a
 // function takes longer the oftener the table stands in it.
+#[tactic(auto, using(crate::proofs::Rows::zeros_else), unfolding(crate::specs::Table::row_of))]
 pub(crate) fn row_of(kind: u16) -> [u16; 10]
     ensures { result ≡ row_of kind }
 {

@@ -1,23 +1,22 @@
 // Where record number e stands in a trace, the record as a part of it, and what a record at a position says of its
 // source.
-ghost use Rattle.std.specs.Prelude.{◌≡◌, ◌+◌, ◌≤◌, length, eqb, ◌||◌};
+ghost use Rattle.std.specs.Prelude.{◌≡◌, ◌≢◌, ◌+◌, ◌≤◌, length, eqb, ◌||◌};
 ghost use Rattle.record.specs.Fields.{RowFits};
 ghost use Rattle.record.specs.Parts.{size_at, place_of, record_part, no_source, source_if, source_at};
 
-use crate::bytes::{wide, word_at};
+use crate::bytes::word_at;
 use crate::kinds::{KINDS, LENGTH, SOURCE, THREAD};
-use crate::reading::{Frame, frame_of};
+use crate::reading::frame_of;
 
-// The size of the record at a position, its length bytes included; 0 where it cannot be framed.
+// The size of the record at a position, its length bytes included; 0 where it cannot be framed, as past the end.
 pub(crate) fn size_at(trace: &[u8], at: usize) -> usize
-    requires { at ≤ length trace.now }
-    ensures { (result ≡ size_at trace.now at) × (at + result ≤ length trace.now) }
+    ensures value { result ≡ size_at trace.now at }
+    ensures within { result ≢ 0 → (4 ≤ result) × (at + result ≤ length trace.now) }
 {
-    let f = frame_of(&trace[at..]);
-    match f {
-        Frame::Size(n) => n,
-        Frame::Unframed(_) => 0,
-    }
+    let Some(rest) = trace.get(at..) else {
+        return 0;
+    };
+    frame_of(rest).unwrap_or(0)
 }
 
 // Where a record stands in its trace: the position of its length bytes, and its size with them.
@@ -32,18 +31,18 @@ pub fn place_of(trace: &[u8], e: usize) -> Place
     ensures value { result ≡ place_of trace.now e }
     ensures size_in_bounds { result.start + result.size ≤ length trace.now }
 {
-    let mut at: usize = 0;
-    let mut i: usize = 0;
-    while i < e {
+    let mut at = 0;
+    for i in 0..e {
         let n = size_at(trace, at);
         if n == 0 {
             return Place { start: at, size: 0 };
         }
         at += n;
-        i += 1;
     }
-    let size = size_at(trace, at);
-    Place { start: at, size }
+    Place {
+        start: at,
+        size: size_at(trace, at),
+    }
 }
 
 // Record number e of the trace, its length bytes included. Empty exactly if records 0 to e cannot all be framed.
@@ -51,18 +50,20 @@ pub fn part(trace: &[u8], e: usize) -> &[u8]
     ensures { result.now ≡ record_part trace.now e }
 {
     let p = place_of(trace, e);
-    let start = p.start;
-    let end = start + p.size;
-    &trace[start..end]
+    &trace[p.start..p.start + p.size]
 }
 
-// What the record at a position says if its kind has a source: its thread and its source; and the position past the
-// record.
-#[derive(Clone, Copy)]
-pub struct SourceAt {
-    pub sourced: bool,
+// What a record whose kind has a source says of it.
+#[derive(Clone, Copy, Debug, PartialEq, Eq)]
+pub struct Source {
     pub thread: u16,
     pub source: u16,
+}
+
+// The source of the record at a position, if its kind has one, and the position past the record.
+#[derive(Clone, Copy, Debug, PartialEq, Eq)]
+pub struct SourceAt {
+    pub source: Option<Source>,
     pub next: usize,
 }
 
@@ -70,12 +71,7 @@ pub struct SourceAt {
 fn no_source(next: usize) -> SourceAt
     ensures { result ≡ no_source next }
 {
-    SourceAt {
-        sourced: false,
-        thread: 0,
-        source: 0,
-        next,
-    }
+    SourceAt { source: None, next }
 }
 
 // The record of that size at a position, if its kind has a source: its thread and source stand where the row says.
@@ -86,10 +82,12 @@ fn source_if(sourced: bool, trace: &[u8], at: usize, size: usize, row: [u16; 10]
     if !sourced {
         return no_source(at + size);
     }
+    let source = Source {
+        thread: word_at(trace, at + usize::from(row[THREAD])),
+        source: word_at(trace, at + usize::from(row[SOURCE])),
+    };
     SourceAt {
-        sourced: true,
-        thread: word_at(trace, at + wide(row[THREAD])),
-        source: word_at(trace, at + wide(row[SOURCE])),
+        source: Some(source),
         next: at + size,
     }
 }
@@ -98,10 +96,7 @@ fn source_if(sourced: bool, trace: &[u8], at: usize, size: usize, row: [u16; 10]
 fn loads(kind: u16) -> bool
     ensures { result ≡ (eqb kind 4 || eqb kind 12) }
 {
-    if kind == 4 {
-        return true;
-    }
-    kind == 12
+    kind == 4 || kind == 12
 }
 
 // The record at a position, by its length bytes: for a pass over a trace that was read before, and that wants the
@@ -110,16 +105,13 @@ fn loads(kind: u16) -> bool
 pub fn source_at(trace: &[u8], at: usize) -> SourceAt
     ensures { result ≡ source_at trace.now at }
 {
-    if trace.len() < at {
-        return no_source(at);
-    }
     let load = KINDS[4];
     let wait = KINDS[14];
     let size = size_at(trace, at);
-    if size == wide(load[LENGTH]) + 2 {
+    if size == usize::from(load[LENGTH]) + 2 {
         return source_if(loads(word_at(trace, at + 2)), trace, at, size, load);
     }
-    if size == wide(wait[LENGTH]) + 2 {
+    if size == usize::from(wait[LENGTH]) + 2 {
         return source_if(word_at(trace, at + 2) == 14, trace, at, size, wait);
     }
     no_source(at + size)
