@@ -79,15 +79,12 @@ fn source_if(sourced: bool, trace: &[u8], at: usize, size: usize, row: [u16; 10]
     requires { (at + size ≤ length trace.now) × RowFits row size }
     ensures { result ≡ source_if sourced trace.now at size row }
 {
-    if !sourced {
-        return no_source(at + size);
-    }
-    let source = Source {
+    let source = sourced.then(|| Source {
         thread: word_at(trace, at + usize::from(row[THREAD])),
         source: word_at(trace, at + usize::from(row[SOURCE])),
-    };
+    });
     SourceAt {
-        source: Some(source),
+        source,
         next: at + size,
     }
 }

@@ -22,6 +22,7 @@ fn put_field(out: &mut [u8], at: u16, v: u16)
 }
 
 // Stores the fields where a row of the table places them.
+#[tactic(auto, unfolding(crate::specs::Fields::put_fields))]
 fn put_fields(out: &mut [u8], row: [u16; 10], f: Fields)
     requires { RowFits row (length out.old) }
     ensures { out.new ≡ put_fields out.old row f }
