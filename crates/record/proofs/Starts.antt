@@ -98,13 +98,25 @@ module _ (s : List ℕ) (at : ℕ) (rest : List ℕ) (rest_is : rest ≡ take (l
   pub size_of_rest :
       (f : Result ℕ Refusal) → at ≤ length s → f ≡ frame rest
       → (size_of f ≡ size_at s at) × (size_of f ≢ 0 → (4 ≤ size_of f) × (at + size_of f ≤ length s))
-  size_of_rest f inside is = (size_is f is, λ some. rw (size_is f is) (size_enough s at
-      (λ none. some (size_is f is ∙ none)), size_inside s at inside))
+  size_of_rest f inside is = (
+    size_is f is,
+    λ some. rw (size_is f is) (
+      size_enough s at
+          (λ none. some (size_is f is ∙ none)),
+      size_inside s at inside,
+    ),
+  )
 
   -- what reading them answers gives what reading at the position answers
-  pub read_of_rest : (a : Answer) → a ≡ read_first rest → from at a ≡ read_at s at
+  of_rest : (a : Answer) → a ≡ read_first rest → from at a ≡ read_at s at
   unfolding read_at
-  read_of_rest a is = ap (from at) (is ∙ ap read_first rest_lem)
+  of_rest a is = ap (from at) (is ∙ ap read_first rest_lem)
+
+  pub event_of_rest : (e : Event) (n : ℕ) → event e n ≡ read_first rest → event e (at + n) ≡ read_at s at
+  event_of_rest e n is = of_rest (event e n) is
+
+  pub refusal_of_rest : (k : ℕ) → refused k 0 ≡ read_first rest → refused k 0 ≡ read_at s at
+  refusal_of_rest k is = of_rest (refused k 0) is
 
   -- a record that was read ends within them
   pub read_inside : (e : Event) (n : ℕ) → event e n ≡ read_first rest → n ≤ length s - at

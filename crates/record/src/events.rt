@@ -114,12 +114,39 @@ pub fn fields_of(e: Event) -> Fields
 {
     let none = Fields::default();
     match e {
-        Event::Begin { version, threads, locations } => Fields { version, threads, locations, ..none },
+        Event::Begin {
+            version,
+            threads,
+            locations,
+        } => Fields {
+            version,
+            threads,
+            locations,
+            ..none
+        },
         Event::Issue { thread, location }
         | Event::Clflush { thread, location }
-        | Event::Clwb { thread, location } => Fields { thread, location, ..none },
-        Event::Load { thread, location, source } | Event::Locked { thread, location, source } => {
-            Fields { thread, location, source, ..none }
+        | Event::Clwb { thread, location } => Fields {
+            thread,
+            location,
+            ..none
+        },
+        Event::Load {
+            thread,
+            location,
+            source,
+        }
+        | Event::Locked {
+            thread,
+            location,
+            source,
+        } => {
+            Fields {
+                thread,
+                location,
+                source,
+                ..none
+            }
         }
         Event::Commit { thread }
         | Event::Sfence { thread }
@@ -129,8 +156,16 @@ pub fn fields_of(e: Event) -> Fields
         | Event::Signal { thread }
         | Event::Open { thread } => Fields { thread, ..none },
         Event::Crash => none,
-        Event::Wait { thread, source } => Fields { thread, source, ..none },
-        Event::Close { thread, outcome } => Fields { thread, outcome, ..none },
+        Event::Wait { thread, source } => Fields {
+            thread,
+            source,
+            ..none
+        },
+        Event::Close { thread, outcome } => Fields {
+            thread,
+            outcome,
+            ..none
+        },
     }
 }
 

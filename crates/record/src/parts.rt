@@ -9,6 +9,7 @@ use crate::kinds::{KINDS, LENGTH, SOURCE, THREAD};
 use crate::reading::frame_of;
 
 // The size of the record at a position, its length bytes included; 0 where it cannot be framed, as past the end.
+#[tactic(auto, using(crate::proofs::Starts::no_size, crate::proofs::Starts::size_of_rest))]
 pub(crate) fn size_at(trace: &[u8], at: usize) -> usize
     ensures value { result ≡ size_at trace.now at }
     ensures within { result ≢ 0 → (4 ≤ result) × (at + result ≤ length trace.now) }
@@ -27,6 +28,7 @@ pub struct Place {
 }
 
 // Where record number e stands. Its size is 0 exactly if records 0 to e cannot all be framed.
+#[tactic(auto, using(crate::proofs::Starts::start_more, crate::proofs::Starts::place_is, crate::proofs::Starts::place_inside, crate::proofs::Starts::place_stays), unfolding(crate::specs::Parts::start))]
 pub fn place_of(trace: &[u8], e: usize) -> Place
     ensures value { result ≡ place_of trace.now e }
     ensures size_in_bounds { result.start + result.size ≤ length trace.now }
@@ -46,6 +48,7 @@ pub fn place_of(trace: &[u8], e: usize) -> Place
 }
 
 // Record number e of the trace, its length bytes included. Empty exactly if records 0 to e cannot all be framed.
+#[tactic(auto, using(crate::proofs::Starts::part_is))]
 pub fn part(trace: &[u8], e: usize) -> &[u8]
     ensures { result.now ≡ record_part trace.now e }
 {
@@ -99,6 +102,7 @@ fn loads(kind: u16) -> bool
 // The record at a position, by its length bytes: for a pass over a trace that was read before, and that wants the
 // sources alone. A record that cannot be framed has no size, so the position past it is its own. Loads, locked
 // operations and waits have a source; no other kind does.
+#[tactic(auto, using(crate::proofs::Sources::ten_there, crate::proofs::Sources::eight_there, crate::proofs::Sources::other_there), unfolding(crate::specs::Table::row_of))]
 pub fn source_at(trace: &[u8], at: usize) -> SourceAt
     ensures { result ≡ source_at trace.now at }
 {

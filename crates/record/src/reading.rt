@@ -23,7 +23,11 @@ fn field(s: &[u8], at: u16) -> u16
     requires { at + 2 ≤ length s.now }
     ensures { result ≡ field_at s.now at }
 {
-    if at == 0 { 0 } else { word_at(s, usize::from(at)) }
+    if at == 0 {
+        0
+    } else {
+        word_at(s, usize::from(at))
+    }
 }
 
 // The values of the fields that a row of the table places in a record.
@@ -96,6 +100,7 @@ pub fn read_first(bytes: &[u8]) -> Result<Read, Refusal>
 }
 
 // The same of the record at a position of a trace, with the position past it.
+#[tactic(auto, using(crate::proofs::Starts::read_past_end, crate::proofs::Starts::event_of_rest, crate::proofs::Starts::refusal_of_rest, crate::proofs::Starts::read_inside))]
 pub(crate) fn step_at(trace: &[u8], at: usize) -> Result<Read, Refusal>
     ensures { read_answer result ≡ read_at trace.now at }
 {

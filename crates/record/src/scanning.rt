@@ -31,6 +31,7 @@ fn refusal_at(trace: &[u8], at: usize) -> Refusal
 
 // What refuses the record at a position where fewer bytes are left than the longest record has, if something does. If
 // not, the record's kind is there, and as many bytes as the kind's record has.
+#[tactic(auto, using(crate::proofs::Scans::room_for_ten, crate::proofs::Scans::past_end, crate::proofs::Scans::read_room))]
 fn end_refusal(trace: &[u8], at: usize) -> Result<(), Refusal>
     ensures refusal { IfErr result (λ k. Err (number_of k) ≡ scan_of (read_at trace.now at)) }
     ensures at_in_bounds { IfOk result (λ _. (at + 4 ≤ length trace.now)
@@ -47,6 +48,7 @@ fn end_refusal(trace: &[u8], at: usize) -> Result<(), Refusal>
 }
 
 // The record of that kind at a position, by the kind's row of the table; as many bytes as it has are there.
+#[tactic(auto, using(crate::proofs::Scans::scan_known, crate::proofs::Scans::wrong_length))]
 fn scan_kind(trace: &[u8], at: usize, kind: u16) -> Result<Scan, Refusal>
     requires { (kind ≡ word trace.now (at + 2)) × (length_of kind ≢ 0)
         × (at + length_of kind + 2 ≤ length trace.now) }
@@ -65,7 +67,7 @@ fn scan_kind(trace: &[u8], at: usize, kind: u16) -> Result<Scan, Refusal>
 }
 
 // The record at a position: what `step_at` answers, as numbers.
-#[tactic(auto, using(crate::proofs::Scans::known_at))]
+#[tactic(auto, using(crate::proofs::Scans::known_at, crate::proofs::Scans::unknown_kind))]
 pub(crate) fn scan_step(trace: &[u8], at: usize) -> Result<Scan, Refusal>
     ensures { numbered result ≡ scan_of (read_at trace.now at) }
 {
