@@ -2,6 +2,8 @@
 -- and the windows that this gives. The numbers found are thread t's first place at t and its last at 8 + t, 0 for none
 -- yet.
 use Rattle.std.specs.Prelude.{ℕ, zero, suc, ◌+◌, ◌-◌, ◌%◌, Bool, not, ◌&&◌, List, get_or, set, replicate, eqb, leb}
+use Rattle.std.specs.Prelude.{Option, Some, None}
+use Rattle.record.specs.declared.parts.Source.{Source}
 use Rattle.record.specs.declared.parts.SourceAt.{SourceAt}
 use Rattle.record.specs.Parts.{start, source_at}
 use Rattle.record.specs.Tests.{◌gives◌else◌}
@@ -35,12 +37,16 @@ unfoldable pub noted_source : List ℕ → ℕ → List ℕ → ℕ → ℕ → 
 noted_source work p found e t s =
     (eqb (get_or found (t % 8) 0) 0 && brings_w work p s) gives set found (t % 8) (up e) else found
 
+-- event e, if it has a source
+abbrev pub noted_source_if : List ℕ → ℕ → List ℕ → ℕ → Option Source → List ℕ
+noted_source_if work p found e None = found
+noted_source_if work p found e (Some said) = noted_source work p found e said.thread said.source
+
 -- event e, with what its record says if it has a source: its store first, since the first place that its own load
 -- gives the thread is behind it
 unfoldable pub noted : List ℕ → ℕ → ℕ → List ℕ → ℕ → SourceAt → List ℕ
 noted work p q found e said =
-    let stored = noted_store work q found e in
-    said.sourced gives noted_source work p stored e said.thread said.source else stored
+    noted_source_if work p (noted_store work q found e) e said.source
 
 -- ---- the records
 

@@ -8,26 +8,24 @@ use record::SourceAt;
 
 // Event e, with what its record says if it has a source. Of an event that stores and loads the store is noted first:
 // the first place that its own load gives the thread is behind it, so the store cannot end that window.
+#[tactic(auto, unfolding(crate::specs::Finding::noted))]
 fn note(found: &mut Found, work: &[u16], p: u16, q: u16, e: u16, said: SourceAt)
     ensures { found.new ≡ noted work.now p q found.old e said }
 {
     found::note_store(found, work, q, e);
-    if !said.sourced {
-        return;
+    if let Some(source) = said.source {
+        found::note_source(found, work, p, e, source.thread, source.source);
     }
-    found::note_source(found, work, p, e, said.thread, said.source);
 }
 
 // Records p + 1 to q, one after the other.
 pub(crate) fn look(trace: &[u8], work: &[u16], p: u16, q: u16, found: &mut Found)
     ensures { found.new ≡ looked trace.now work.now p q found.old }
 {
-    let mut e = p;
-    let mut at = record::place_of(trace, (p as usize) + 1).start;
-    while e < q {
-        e += 1;
+    let mut at = record::place_of(trace, usize::from(p) + 1).start;
+    for e in p..q {
         let said = record::source_at(trace, at);
-        note(found, work, p, q, e, said);
+        note(found, work, p, q, e + 1, said);
         at = said.next;
     }
 }

@@ -1,13 +1,9 @@
--- Invariant: the records that are left, looked at from here, give what all of them give from the start. Measure: how
--- many are left.
-use mathlib.Core.Path.{◌≡◌, refl, ◌∙◌}
+-- Each turn looks at one record more; at q none is left.
+use mathlib.Core.Path.{◌≡◌, ◌∙◌}
 use Prim.Native.Nat.{suc, ◌+◌}
 use native.Mathlib.Omega.{arith}
 use Rattle.windows.proofs.Looking.{none_left, one_more, whole_is}
 use Rattle.windows.proofs.records.look.Goals as goal
-
-pub loop-e-init : goal.loop-e-init
-loop-e-init c = refl
 
 pub loop-e-preserved : goal.loop-e-preserved
 loop-e-preserved c =
@@ -17,6 +13,6 @@ loop-e-preserved c =
 
 pub returns : goal.returns
 returns c =
-    let next : c.args.p + 1 ≡ suc c.args.p = omega arith in
+    let next : c.from.result + 1 ≡ suc c.args.p = omega (arith, c.from.ensures) in
     none_left _ _ _ _ _ _ _ c.loop-e.found c.loop-e.invariant c.loop-e-test.false
     ∙ whole_is _ _ _ _ _ _ _ next c.place_of-at.ensures.value

@@ -1,5 +1,4 @@
--- Invariant: the records that are left, looked at from here, give what all of them give from the start. Measure: how
--- many are left.
+-- Invariant: the records that are left, looked at from here, give what all of them give from the start.
 use Prim.Native.Nat.{◌-◌}
 use Rattle.windows.specs.Finding.{looked_from}
 use Rattle.windows.proofs.Looking.{Left}
@@ -9,6 +8,3 @@ abbrev pub invariant-loop-e : goal.invariant-loop-e
 invariant-loop-e l =
     Left l.trace l.work l.p l.q
     (looked_from l.trace l.work l.p l.q (l.q - l.initial.e) l.initial.e l.initial.at l.initial.found) l.e l.at l.found
-
-abbrev pub decreases-loop-e : goal.decreases-loop-e
-decreases-loop-e l = l.q - l.e
