@@ -118,7 +118,9 @@ fn judge_record(
         tables.new (marks_of marks.new flags.new) work.new }
 {
     let row = t.row;
-    let scanned = record::scan_at(trace, t.at).map_err(|refusal| refusal.later(version, trace, t.at));
+    let scanned = record::scan_at(trace, t.at).map_err(|refusal| refusal.later(
+        version, trace, t.at,
+    ));
     let Ok(e) = scanned else {
         return Next::Ended(record::refusal_of(scanned));
     };

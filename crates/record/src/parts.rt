@@ -2,7 +2,7 @@
 // source.
 ghost use Rattle.std.specs.Prelude.{◌≡◌, ◌≢◌, ◌+◌, ◌≤◌, length, eqb, ◌||◌};
 ghost use Rattle.record.specs.Fields.{RowFits};
-ghost use Rattle.record.specs.Parts.{size_at, place_of, record_part, no_source, source_if, source_at};
+ghost use Rattle.record.specs.Parts.{size_at, place_of, record_part, source_if, source_at};
 
 use crate::bytes::word_at;
 use crate::kinds::{KINDS, LENGTH, SOURCE, THREAD};
@@ -20,8 +20,9 @@ pub(crate) fn size_at(trace: &[u8], at: usize) -> usize
     frame_of(rest).unwrap_or(0)
 }
 
-// Where a record stands in its trace: the position of its length bytes, and its size with them.
-#[derive(Clone, Copy)]
+// Where a record stands in its trace: the position of its length bytes, and its size with them. `gorbuzte_frame` hands
+// out both, so a record that is not framed has size 0, and is no `None`.
+#[derive(Clone, Copy, Debug, PartialEq, Eq)]
 pub struct Place {
     pub start: usize,
     pub size: usize,
@@ -70,13 +71,6 @@ pub struct SourceAt {
     pub next: usize,
 }
 
-// A record without a source.
-fn no_source(next: usize) -> SourceAt
-    ensures { result ≡ no_source next }
-{
-    SourceAt { source: None, next }
-}
-
 // The record of that size at a position, if its kind has a source: its thread and source stand where the row says.
 fn source_if(sourced: bool, trace: &[u8], at: usize, size: usize, row: [u16; 10]) -> SourceAt
     requires { (at + size ≤ length trace.now) × RowFits row size }
@@ -115,5 +109,8 @@ pub fn source_at(trace: &[u8], at: usize) -> SourceAt
     if size == usize::from(wait[LENGTH]) + 2 {
         return source_if(word_at(trace, at + 2) == 14, trace, at, size, wait);
     }
-    no_source(at + size)
+    SourceAt {
+        source: None,
+        next: at + size,
+    }
 }

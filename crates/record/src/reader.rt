@@ -1,6 +1,6 @@
-// A lent trace and a position in it, for reading record by record. The functions over the struct are thin: `next` and
-// `scan` take it apart and call `step_at` and `scan_step` on the slice and the number; `read_at` and `scan_at`, whose
-// parameters are plain, read through the struct and serve every other caller.
+// A lent trace and a position in it, for reading record by record: a small struct, as document 01 asks. The functions
+// over it are thin: `next` and `scan` take it apart and call `step_at` and `scan_step` on the slice and the number;
+// `read_at` and `scan_at`, whose parameters are plain, read through the struct and serve every other caller.
 ghost use Rattle.std.specs.Prelude.{◌≡◌};
 ghost use Rattle.record.specs.Answers.{read_answer, numbered, scan_of};
 ghost use Rattle.record.specs.Reading.{read_at};

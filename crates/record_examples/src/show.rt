@@ -1,8 +1,7 @@
 // Prints what a call of the record crate, or a round trip over its calls, answers, a line a call.
 use crate::round_trips::{read_back, write_again};
 use record::{Event, Fields, Read, Refusal, Scan};
-use std::fmt;
-use std::io;
+use std::{fmt, io};
 
 // Bytes in hexadecimal, each behind a space.
 #[derive(Clone, Copy)]
