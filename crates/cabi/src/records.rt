@@ -57,7 +57,7 @@ fn event_named(numbers: [u16; 9]) -> Option<Event>
 }
 
 // Writes the event that the numbers name; the number of bytes written, or the refusal.
-#[tactic(auto, using(crate::proofs::Naming::names_none, crate::proofs::Naming::names_one), unfolding(crate::specs::Records::writing_numbers, crate::specs::Records::written_numbers, crate::specs::Records::event_named))]
+#[tactic(auto, using(crate::proofs::Naming::naming))]
 pub(crate) fn write(numbers: [u16; 9], output: &mut [u8]) -> Result<usize, Refusal>
     ensures answer { write_answer result ≡ writing_numbers numbers output.old }
     ensures output_after { output.new ≡ written_numbers numbers output.old }

@@ -115,6 +115,17 @@ unfolding read_first read_framed
     let known : length_of k ≡ 0 → ⊥ = λ (e : length_of k ≡ 0). omega (arith, f.enough) in
     rw (→frame s n f) (simp (kind_is, ne_eqb _ _ known, eq-eqb _ _ length_fits))
 
+-- what the frame says of the first record
+pub unframed : (s : List ℕ) (r : Refusal) → frame s ≡ Err r → refused (number_of r) 0 ≡ read_first s
+unfolding read_first read_framed
+unframed s r is = rw is refl
+
+pub framed : (s : List ℕ) (n : ℕ) (a : Answer) → frame s ≡ Ok n → a ≡ read_framed s (Ok n) → a ≡ read_first s
+unfolding read_first
+framed s n a is answered = rw is answered
+
+pub ruleset by_frame = (framed_within, unframed, framed)
+
 -- ---- what reading answers
 
 -- reading one record answers an event, or one of the refusals 1 to 4 with event 0

@@ -113,9 +113,11 @@ room_for_ten s at left = (omega arith, omega (arith, at_most_eight (word s (at +
 pub past_end : (s : List ℕ) (at : ℕ) → length s ≤ at → Err 1 ≡ scan_of (read_at s at)
 past_end s at past = ap scan_of (read_past_end s at past)
 
--- a record that was read is there
+-- a record that was read has its bytes
 pub read_room : (s : List ℕ) (at : ℕ) (e : Event) (p : ℕ) → event e p ≡ read_at s at → Room s at
 read_room s at e p read = (is_there s at e p (sym read)).room
+
+pub ruleset near_the_end = (room_for_ten, past_end, read_room)
 
 -- and what is not there is refused
 not_there : (s : List ℕ) (at : ℕ) → (IsThere s at → ⊥) → IsErr (scan_of (read_at s at))

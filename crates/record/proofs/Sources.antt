@@ -230,3 +230,6 @@ module _ (s : List ℕ) (at : ℕ) where
               ap (λ (f : Fields). f.source) fields_are ∙ field_there (source_in row) source_placed
               in
               rw (has, thread_is, source_is) refl
+
+-- the ways of `source_at`
+pub ruleset by_size = (ten_there, eight_there, other_there)

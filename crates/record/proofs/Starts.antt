@@ -131,6 +131,8 @@ read_past_end s at past =
     let none : length (drop at s) ≡ 0 = simp length-drop (omega arith) in
     simp (eq-eqb _ _ none)
 
+pub ruleset of_the_rest = (read_past_end, event_of_rest, refusal_of_rest, read_inside)
+
 -- and only there refusal 1 is answered
 pub one_past_end : (s : List ℕ) (at i : ℕ) → read_at s at ≡ refused 1 i → length s ≤ at
 unfolding read_at
@@ -213,6 +215,8 @@ pub place_stays :
 place_stays s i e at below is none =
     let unframed : size_at s (start s i) ≡ 0 = rw (sym is) none in
     rw (start_stays s i e below unframed, unframed, is) refl
+
+pub ruleset places = (start_more, place_inside, place_is, place_stays)
 
 -- the bytes from where a record starts to its end are the part
 pub part_is :

@@ -29,7 +29,7 @@ pub struct Place {
 }
 
 // Where record number e stands. Its size is 0 exactly if records 0 to e cannot all be framed.
-#[tactic(auto, using(crate::proofs::Starts::start_more, crate::proofs::Starts::place_is, crate::proofs::Starts::place_inside, crate::proofs::Starts::place_stays), unfolding(crate::specs::Parts::start))]
+#[tactic(auto, using(crate::proofs::Starts::places), unfolding(crate::specs::Parts::start))]
 pub fn place_of(trace: &[u8], e: usize) -> Place
     ensures value { result ≡ place_of trace.now e }
     ensures size_in_bounds { result.start + result.size ≤ length trace.now }
@@ -96,7 +96,7 @@ fn loads(kind: u16) -> bool
 // The record at a position, by its length bytes: for a pass over a trace that was read before, and that wants the
 // sources alone. A record that cannot be framed has no size, so the position past it is its own. Loads, locked
 // operations and waits have a source; no other kind does.
-#[tactic(auto, using(crate::proofs::Sources::ten_there, crate::proofs::Sources::eight_there, crate::proofs::Sources::other_there), unfolding(crate::specs::Table::row_of))]
+#[tactic(auto, using(crate::proofs::Sources::by_size), unfolding(crate::specs::Table::row_of))]
 pub fn source_at(trace: &[u8], at: usize) -> SourceAt
     ensures { result ≡ source_at trace.now at }
 {

@@ -91,7 +91,7 @@ fn read_framed(s: &[u8], n: usize) -> Result<Read, Refusal>
 
 // Reads one record alone, the first of the bytes given, and ignores what follows it. Answers its event and its size, or
 // 1 (no bytes), 2 (bytes end inside it), 3 (unknown kind) or 4 (a length under 2, or wrong for the kind).
-#[tactic(auto, using(crate::proofs::Frames::framed_within), unfolding(crate::specs::Reading::read_first, crate::specs::Reading::read_framed))]
+#[tactic(auto, using(crate::proofs::Frames::by_frame))]
 pub fn read_first(bytes: &[u8]) -> Result<Read, Refusal>
     ensures { read_answer result ≡ read_first bytes.now }
 {
@@ -100,7 +100,7 @@ pub fn read_first(bytes: &[u8]) -> Result<Read, Refusal>
 }
 
 // The same of the record at a position of a trace, with the position past it.
-#[tactic(auto, using(crate::proofs::Starts::read_past_end, crate::proofs::Starts::event_of_rest, crate::proofs::Starts::refusal_of_rest, crate::proofs::Starts::read_inside))]
+#[tactic(auto, using(crate::proofs::Starts::of_the_rest))]
 pub(crate) fn step_at(trace: &[u8], at: usize) -> Result<Read, Refusal>
     ensures { read_answer result ≡ read_at trace.now at }
 {

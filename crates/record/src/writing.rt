@@ -38,7 +38,7 @@ fn put_fields(out: &mut [u8], row: [u16; 10], f: Fields)
 
 // Writes an event's record at the front of the output, all field values taken. Fills the record's bytes and no others,
 // and answers their number; or answers 17 and leaves the output as lent, where it is shorter than the record.
-#[tactic(auto, using(crate::proofs::Shapes::size_by_table, crate::proofs::Shapes::stores_record), unfolding(crate::specs::Writing::writing, crate::specs::Writing::written))]
+#[tactic(auto, using(crate::proofs::Shapes::sizes), unfolding(crate::specs::Writing::writing, crate::specs::Writing::written))]
 pub fn write(e: Event, out: &mut [u8]) -> Result<usize, Refusal>
     ensures answer { write_answer result ≡ writing e out.old }
     ensures bytes { out.new ≡ written e out.old }

@@ -84,3 +84,8 @@ again_written s out e n k b read h =
     let size = size_is s e n b read in
     let again : ltb (length out) n ≡ false = rw size at long in
     (rw (read, again) refl, rw (long, size, read_write s e n b read, read, again) refl)
+
+-- the ways of the two round trips
+pub ruleset back = (back_refused, back_read)
+
+pub ruleset again = (again_unread, again_refused, again_written)
