@@ -80,10 +80,9 @@ pub extern "C" fn gorbuzte_write(fields: &mut [u16; 9], output: &mut [u8]) -> us
     ensures fields { fields.new ≡ slice_set fields.old 0
         (refusal_in (writing_numbers fields.old output.old)) }
 {
-    let numbers = *fields;
-    let w = records::write(numbers, output);
-    fields[0] = w.refusal;
-    w.size
+    let written = records::write(*fields, output);
+    fields[0] = record::refusal_of(written);
+    written.unwrap_or(0)
 }
 
 // Where record number e stands in the trace.

@@ -1,11 +1,10 @@
 // The numbers of a record.
 ghost use Rattle.std.specs.Prelude.{◌≡◌, slice_index};
 ghost use Rattle.record.specs.Answers.{read_answer, named, write_answer};
-ghost use Rattle.model.specs.Reading.{refusal_in};
 ghost use Rattle.cabi.specs.Records.{event_numbers, read_numbers, size_in, fields_in};
 ghost use Rattle.cabi.specs.Records.{writing_numbers, written_numbers};
 
-use record::{Event, Fields, Named, Read, Written};
+use record::{Event, Fields, Read, Refusal};
 
 fn event_numbers(e: Event) -> [u16; 9]
     ensures { result ≡ event_numbers e }
@@ -25,49 +24,24 @@ fn event_numbers(e: Event) -> [u16; 9]
     ]
 }
 
-pub(crate) fn read_numbers(r: Read) -> [u16; 9]
-    ensures { result ≡ read_numbers (read_answer r) }
+pub(crate) fn read_numbers(read: Result<Read, Refusal>) -> [u16; 9]
+    ensures { result ≡ read_numbers (read_answer read) }
 {
-    match r {
-        Read::Record(e, _) => event_numbers(e),
-        Read::Refused(k) => [k, 0, 0, 0, 0, 0, 0, 0, 0],
+    match read {
+        Ok(read) => event_numbers(read.event),
+        Err(refusal) => [refusal.number(), 0, 0, 0, 0, 0, 0, 0, 0],
     }
 }
 
 // The position past the record; 0 for a refusal.
-pub(crate) fn past(r: Read) -> usize
-    ensures { result ≡ size_in (read_answer r) }
+pub(crate) fn past(read: Result<Read, Refusal>) -> usize
+    ensures { result ≡ size_in (read_answer read) }
 {
-    match r {
-        Read::Record(_, n) => n,
-        Read::Refused(_) => 0,
-    }
-}
-
-// What writing did: a refusal's number or 0, and the number of bytes written.
-#[derive(Clone, Copy)]
-pub struct Outcome {
-    pub refusal: u16,
-    pub size: usize,
-}
-
-fn outcome_of(w: Written) -> Outcome
-    ensures { (result.refusal ≡ refusal_in (write_answer w)) × (result.size ≡ size_in (write_answer w)) }
-{
-    match w {
-        Written::Done(n) => Outcome {
-            refusal: 0,
-            size: n,
-        },
-        Written::NoRoom => Outcome {
-            refusal: 17,
-            size: 0,
-        },
-    }
+    read.map_or(0, |read| read.next)
 }
 
 // The event that the numbers name, if there is such a kind.
-fn event_named(numbers: [u16; 9]) -> Named
+fn event_named(numbers: [u16; 9]) -> Option<Event>
     ensures { result ≡ named (slice_index numbers 1) (fields_in numbers) }
 {
     let f = Fields {
@@ -82,18 +56,12 @@ fn event_named(numbers: [u16; 9]) -> Named
     record::event_of(numbers[1], f)
 }
 
-pub(crate) fn write(numbers: [u16; 9], output: &mut [u8]) -> Outcome
-    ensures refusal_value { (result.refusal ≡ refusal_in (writing_numbers numbers output.old))
-        × (result.size ≡ size_in (writing_numbers numbers output.old)) }
+// Writes the event that the numbers name; the number of bytes written, or the refusal.
+#[tactic(auto, using(crate::proofs::Naming::naming))]
+pub(crate) fn write(numbers: [u16; 9], output: &mut [u8]) -> Result<usize, Refusal>
+    ensures answer { write_answer result ≡ writing_numbers numbers output.old }
     ensures output_after { output.new ≡ written_numbers numbers output.old }
 {
-    let n = event_named(numbers);
-    let Named::Known(e) = n else {
-        return Outcome {
-            refusal: 3,
-            size: 0,
-        };
-    };
-    let w = record::write(e, output);
-    outcome_of(w)
+    let event = event_named(numbers).ok_or(Refusal::UnknownKind)?;
+    record::write(event, output)
 }

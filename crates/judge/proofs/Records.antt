@@ -1,6 +1,6 @@
 -- One record of a run. A record that cannot be read, or that a rule forbids, is turned away as the definitions say; any
 -- other takes the run on by one record. Where no record is left reading answers 1, which no rule of a later event does.
--- In order: reading taken apart; what turns record n away; the first record; a later one; what is left of the run.
+-- In order: what turns record n away; the first record; a later one; what is left of the run.
 use mathlib.Core.Path.{◌≡◌, refl, sym, ap, ◌∙◌, subst}
 use mathlib.Core.Bool.{Bool, true, false}
 use mathlib.Core.Logic.{◌⊎◌, inl, inr, ◌≢◌}
@@ -13,11 +13,9 @@ use lib.Dec.{eqb}
 use lib.ListN.{length}
 use Rattle.record.specs.declared.events.Event.{Event}
 use Rattle.record.specs.declared.events.Fields.{Fields}
-use Rattle.record.specs.declared.reading.Read.{Read}
-use Rattle.record.specs.declared.reading.Read.TheVariants.{Record, Refused}
+use Rattle.std.specs.Prelude.{Ok, Err}
 use Rattle.record.specs.declared.scanning.Scan.{Scan}
-use Rattle.record.specs.declared.scanning.Scanned.TheVariants as scanned
-use Rattle.record.specs.Answers.{Answer, event, refused, read_answer, scan_of}
+use Rattle.record.specs.Answers.{Answer, event, refused, scan_of}
 use Rattle.record.specs.Reading.{read_at}
 use Rattle.record.specs.Parts.{start}
 use Rattle.record.specs.Versions.{later_refusal}
@@ -65,20 +63,6 @@ abbrev pub cursor : ℕ → ℕ → ℕ → Cursor
 cursor j row at = record { stretch = j; row = row; at = at }
 
 module _ (bytes : List ℕ) where
-  -- ---- what reading answered, taken apart
-
-  pub was_refused :
-      (r : Read) (at k n : ℕ) → read_answer r ≡ read_at bytes at → r ≡ Refused k → n ≡ refusal_in (read_answer r)
-      → read_at bytes at ≡ refused n 0
-  was_refused r at k n is told number =
-      let same : n ≡ k = number ∙ ap (λ (x : Read). refusal_in (read_answer x)) told in
-      rw same (sym is ∙ ap read_answer told)
-
-  pub was_read :
-      (r : Read) (at : ℕ) (x : Event) (past : ℕ) → read_answer r ≡ read_at bytes at → r ≡ Record x past
-      → read_at bytes at ≡ event x past
-  was_read r at x past is told = sym is ∙ ap read_answer told
-
   -- ---- what turns record n away
 
   module _ (n : ℕ) where
@@ -329,13 +313,13 @@ module _ (bytes : List ℕ) where
     -- ---- by the record's scan
 
     pub scanned_unread :
-        (k : ℕ) → scanned.Refused k ≡ scan_of (read_at bytes at)
+        (k : ℕ) → Err k ≡ scan_of (read_at bytes at)
         → Stopped bytes version threads locations n (later_refusal version bytes at k) tables m work
     scanned_unread k is = later_unread k (scan_refused bytes at k is)
 
     -- what the machine's step gave
     module _
-        (r : Scan) (is : scanned.Record r ≡ scan_of (read_at bytes at)) (tables' work' : List ℕ)
+        (r : Scan) (is : Ok r ≡ scan_of (read_at bytes at)) (tables' work' : List ℕ)
       where
         abbrev given : Result Step Forbidden → Outcome
         given a = outcome (machine_in bytes version threads locations t.stretch t.row) a tables' work'

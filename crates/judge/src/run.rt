@@ -1,8 +1,7 @@
 // A trace's records, one after the other, and the verdict. A record that is turned away ends the run there.
 ghost use Rattle.std.specs.Prelude.{◌≡◌};
-ghost use Rattle.record.specs.Answers.{read_answer};
 ghost use Rattle.area.specs.Cells.{event_at};
-ghost use Rattle.model.specs.Reading.{refusal_in, begun_reading};
+ghost use Rattle.model.specs.Reading.{begun_reading};
 ghost use Rattle.model.specs.Judge.{reading_cut};
 ghost use Rattle.judge.specs.Runs.{begin_ended, started_at, number_in, Began, Reached, After, AnswersAsDefined};
 
@@ -11,7 +10,6 @@ use crate::{loads, verdict};
 use machine::{Machine, Tables};
 use marks::Marks;
 use model::{Refusal, Verdict};
-use record::{Read, Scanned};
 
 // What the begin says, the position past it, and refusal 0. Or the refusal's number.
 #[derive(Clone, Copy)]
@@ -75,34 +73,24 @@ fn number_in(t: Next) -> u16
     }
 }
 
-// The number of the record layer's refusal, and 0 where it refuses nothing.
-fn number_of(r: Read) -> u16
-    ensures { result ≡ refusal_in (read_answer r) }
-{
-    match r {
-        Read::Record(_, _) => 0,
-        Read::Refused(k) => k,
-    }
-}
-
 // The first record. A second caller of `scan_at` would keep the compiler from taking the scan into the loop below, so
 // the begin is read as an event.
 fn begin(trace: &[u8]) -> Begun
     ensures { Began trace.now result }
 {
-    let r = record::read_at(trace, 0);
-    let Read::Record(e, next) = r else {
-        return Begun::refuse(number_of(r));
+    let first = record::read_at(trace, 0);
+    let Ok(read) = first else {
+        return Begun::refuse(record::refusal_of(first));
     };
-    let f = record::fields_of(e);
-    if let Err(k) = machine::begin_refusal(record::kind_of(e), f) {
+    let f = record::fields_of(read.event);
+    if let Err(k) = machine::begin_refusal(record::kind_of(read.event), f) {
         return Begun::refuse(k.number());
     }
     Begun {
         version: f.version,
         threads: f.threads,
         locations: f.locations,
-        at: next,
+        at: read.next,
         refusal: 0,
     }
 }
@@ -127,9 +115,11 @@ fn judge_record(
         tables.new marks.new work.new }
 {
     let row = t.row;
-    let d = record::scan_at(trace, t.at);
-    let Scanned::Record(e) = d else {
-        return Next::Ended(record::later_refusal(version, trace, t.at, record::refusal_of(d)));
+    let scanned = record::scan_at(trace, t.at).map_err(|refusal| refusal.later(
+        version, trace, t.at,
+    ));
+    let Ok(e) = scanned else {
+        return Next::Ended(record::refusal_of(scanned));
     };
     let f = e.fields;
     let m = Machine {

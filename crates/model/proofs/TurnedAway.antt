@@ -20,8 +20,8 @@ use Rattle.record.specs.Reading.{read_at}
 use Rattle.record.specs.Tests.{◌gives◌else◌}
 use Rattle.record.specs.Versions.{known_in, new_at, later_refusal}
 use Rattle.record.proofs.Frames.{clash, Answers, an_event, a_refusal}
-use Rattle.record.proofs.NewKinds.{no_size, kind_there, framed_refused}
-use Rattle.record.proofs.Starts.{start_inside, read_grows, read_at_answers}
+use Rattle.record.proofs.NewKinds.{kind_there, framed_refused}
+use Rattle.record.proofs.Starts.{start_inside, read_grows, read_at_answers, no_size}
 use Rattle.model.specs.Search.{some, first}
 use Rattle.model.specs.Trace.{version}
 use Rattle.model.specs.Rules.{answer, rules, refusal, Accepted}

@@ -1,52 +1,49 @@
 -- Which version of the format knows a kind: the ways of the code are the definition's cases. A record that is framed
 -- has its kind within the bytes; past the end there is none. And what reading makes of a framed record: the event of
 -- that kind, or 3 or 4.
-use mathlib.Core.Path.{◌≡◌, refl}
+use mathlib.Core.Path.{◌≡◌, refl, sym}
 use mathlib.Core.Bool.{Bool, true, false, not}
 use mathlib.Core.Logic.{◌≢◌, ◌⊎◌, inl, inr}
 use mathlib.Core.List.{List}
 use Prim.Native.Nat.{ℕ, ◌+◌, ◌≤◌}
 use native.Mathlib.Omega.{arith}
+use Rattle.std.specs.Prelude.{Ok}
 use lib.ListN.{length, drop, length-drop}
 use lib.Dec.{eqb}
-use borrow.Author.Tests.{eq-eqb}
-use Rattle.record.specs.declared.reading.Frame.TheVariants.{Size}
+use borrow.Author.Tests.{ne_eqb}
 use Rattle.record.specs.declared.events.Event.{Event}
 use Rattle.record.specs.Tests.{◌gives◌else◌}
 use Rattle.record.specs.Bytes.{word}
 use Rattle.record.specs.Table.{row_of, length_of}
 use Rattle.record.specs.Events.{kind_of}
 use Rattle.record.specs.Fields.{event_of, fields_at}
-use Rattle.record.specs.Answers.{refused, event}
+use Rattle.record.specs.Answers.{refused, event, number_of}
 use Rattle.record.specs.Parts.{size_of, size_at}
 use Rattle.record.specs.Reading.{frame, read_framed, read_first, from, read_at}
-use Rattle.record.specs.Versions.{new_at}
+use Rattle.record.specs.Versions.{later_refusal}
+use Rattle.record.specs.declared.refusal.Refusal.{Refusal}
+use Rattle.record.specs.declared.refusal.Refusal.TheVariants.{NoRecord, CutShort, UnknownKind, WrongLength, NoRoom}
 use Rattle.record.proofs.Frames.{clash, frame→, read→}
 use Rattle.record.proofs.Shapes.{made}
 use Rattle.record.proofs.Scans.{word_drop}
 use Rattle.record.proofs.Starts.{framed_or_none, from_event}
 
--- at the end and past it nothing has a size
-pub no_size : (s : List ℕ) (at : ℕ) → length s ≤ at → size_at s at ≡ 0
-unfolding size_at frame
-no_size s at past =
-    let none : length (drop at s) ≡ 0 = simp length-drop (omega arith) in
-    simp (eq-eqb _ _ none)
+-- a refusal stays where its number is not that of a wrong length, or the kind is known
+pub others_stay :
+    (version : ℕ) (s : List ℕ) (at : ℕ) (r : Refusal) → (r ≡ WrongLength → ⊥)
+    → number_of r ≡ later_refusal version s at (number_of r)
+unfolding later_refusal
+others_stay version s at NoRecord other = refl
+others_stay version s at CutShort other = refl
+others_stay version s at UnknownKind other = refl
+others_stay version s at WrongLength other = absurd (other refl)
+others_stay version s at NoRoom other = refl
 
--- what has a size has a length and a kind
-pub size_enough : (s : List ℕ) (at : ℕ) → size_at s at ≢ 0 → 4 ≤ size_at s at
-unfolding size_at
-size_enough s at some = by_frame (framed_or_none (frame (drop at s)))
-  where
-    by_frame :
-        ((n : ℕ) × (frame (drop at s) ≡ Size n)) ⊎ (size_of (frame (drop at s)) ≡ 0)
-        → 4 ≤ size_of (frame (drop at s))
-    by_frame (inl (n, is)) = rw is (frame→ (drop at s) n is).enough
-    by_frame (inr none) = absurd (some none)
-
--- what has no size is no record of a new kind
-pub none_new : (version : ℕ) (s : List ℕ) (at : ℕ) → size_at s at ≡ 0 → false ≡ new_at version s at
-none_new version s at none = rw none refl
+-- and so does a number that no refusal has
+pub no_number :
+    (version : ℕ) (s : List ℕ) (at k : ℕ) → ((r : Refusal) → number_of r ≢ k) → k ≡ later_refusal version s at k
+unfolding later_refusal
+no_number version s at k none = rw (ne_eqb k 4 (λ is_4. none WrongLength (sym is_4))) refl
 
 -- ---- what is read of a framed record
 
@@ -76,7 +73,7 @@ framed_refused s at k i some is = by_frame (framed_or_none (frame (drop at s)))
     kind = word (drop at s) 2
 
     by_frame :
-        ((n : ℕ) × (frame (drop at s) ≡ Size n)) ⊎ (size_of (frame (drop at s)) ≡ 0) → (k ≡ 3) ⊎ (k ≡ 4)
+        ((n : ℕ) × (frame (drop at s) ≡ Ok n)) ⊎ (size_of (frame (drop at s)) ≡ 0) → (k ≡ 3) ⊎ (k ≡ 4)
     by_frame (inl (n, framed)) =
         by_length at k i (eqb (length_of kind) 0) (not (eqb (length_of kind + 2) n))
         (event_of kind (fields_at (drop at s) (row_of kind))) n

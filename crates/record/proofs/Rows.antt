@@ -27,6 +27,10 @@ row_fits k n room =
           (every_at fields_inside kinds _ refl refl k);
     }
 
+-- the same of a row and its length, as the code has them
+pub row_within : (row : List ℕ) (k n : ℕ) → row ≡ row_of k → get_or row 1 0 + 2 ≤ n → RowFits row n
+row_within row k n row_is room = rw row_is (row_fits k n (rw row_is at room))
+
 -- the longest record has ten bytes, its length bytes included
 abbrev short : List ℕ → Bool
 short row = leb (get_or row 1 0) 8

@@ -7,6 +7,7 @@ use mathlib.Core.List.{List, [], ◌∷◌}
 use Prim.Native.Nat.{ℕ, ◌+◌, ◌-◌, ◌≤◌}
 use native.Mathlib.Nat.{add-zero}
 use native.Mathlib.Omega.{arith}
+use Rattle.std.specs.Prelude.{Ok, Err, IsErr}
 use lib.ListN.{length, get_or, take, drop, length-drop}
 use lib.Seq.{get_or-drop}
 use lib.Dec.{eqb}
@@ -15,12 +16,11 @@ use Rattle.record.specs.Bytes.{word}
 use Rattle.record.specs.Table.{kinds, row_of, length_of}
 use Rattle.record.specs.Events.{kind_of}
 use Rattle.record.specs.Fields.{RowFits, fields_at, fields_of}
-use Rattle.record.specs.Answers.{Answer, refused, event, scan_of, refusal_of}
+use Rattle.record.specs.Answers.{Answer, refused, event, scan_of}
 use Rattle.record.specs.Reading.{read_first, read_at}
 use Rattle.record.specs.declared.events.Event.{Event}
 use Rattle.record.specs.declared.events.Fields.{Fields}
 use Rattle.record.specs.declared.scanning.Scan.{Scan}
-use Rattle.record.specs.declared.scanning.Scanned.TheVariants.{Record, Refused}
 use Rattle.record.proofs.Computed.{else_at, NoneOf, among, none_among}
 use Rattle.record.proofs.Frames.{clash, Framed, read→, →read, Answers, an_event, a_refusal}
 use Rattle.record.proofs.Rows.{row_fits, at_most_eight}
@@ -61,7 +61,7 @@ pub scan_known :
     (s : List ℕ) (at k n : ℕ) (row : List ℕ) (f : Fields)
     → (k ≡ word s (at + 2)) × (length_of k ≢ 0) × (at + length_of k + 2 ≤ length s)
     → row ≡ row_of k → n ≡ word s at → n ≡ get_or row 1 0 → f ≡ fields_at (take (length s - at) (drop at s)) row
-    → Record (record { kind = k; fields = f; next = at + n + 2 }) ≡ scan_of (read_at s at)
+    → Ok (record { kind = k; fields = f; next = at + n + 2 }) ≡ scan_of (read_at s at)
 unfolding read_at
 scan_known s at k n row f (k_is, some, room) row_is n_is fits f_is =
     let t = drop at s in
@@ -105,47 +105,34 @@ is_there s at e p h =
       known = rw (← kind_at) read.known;
     }
 
--- a number other than 0 of what refuses the record at a position is what scanning refuses with; at 0 the record is read
-by_number :
-    (s : List ℕ) (at k : ℕ) → k ≡ refusal_of (scan_of (read_at s at))
-    → (k ≢ 0 → Refused k ≡ scan_of (read_at s at)) × (k ≡ 0 → IsThere s at)
-by_number s at k = by_answer (read_at s at) (read_at_answers s at) (is_there s at)
-  where
-    by_answer :
-        (a : Answer) → Answers a → ((e : Event) (p : ℕ) → a ≡ event e p → IsThere s at) → k ≡ refusal_of (scan_of a)
-        → (k ≢ 0 → Refused k ≡ scan_of a) × (k ≡ 0 → IsThere s at)
-    by_answer a (an_event e p is) there k_is = (λ some. absurd (some (rw is at k_is)), λ _. there e p is)
-    by_answer a (a_refusal j low high is) there k_is =
-        let same : k ≡ j = rw is at k_is in
-        (λ _. rw (is, same) refl, λ none. absurd (omega arith))
-
 -- where ten bytes are left, any record has its bytes
 pub room_for_ten : (s : List ℕ) (at : ℕ) → at + 10 ≤ length s → Room s at
 room_for_ten s at left = (omega arith, omega (arith, at_most_eight (word s (at + 2))))
 
 -- at the end and past it there are no bytes
-pub past_end : (s : List ℕ) (at : ℕ) → length s ≤ at → Refused 1 ≡ scan_of (read_at s at)
+pub past_end : (s : List ℕ) (at : ℕ) → length s ≤ at → Err 1 ≡ scan_of (read_at s at)
 past_end s at past = ap scan_of (read_past_end s at past)
 
--- near the end the number tells which it is
-pub near_end :
-    (s : List ℕ) (at k : ℕ) → k ≡ refusal_of (scan_of (read_at s at))
-    → (k ≢ 0 → Refused k ≡ scan_of (read_at s at)) × (k ≡ 0 → Room s at)
-near_end s at k k_is = let told = by_number s at k k_is in (told.0, λ none. (told.1 none).room)
+-- a record that was read has its bytes
+pub read_room : (s : List ℕ) (at : ℕ) (e : Event) (p : ℕ) → event e p ≡ read_at s at → Room s at
+read_room s at e p read = (is_there s at e p (sym read)).room
 
-refuses :
-    (s : List ℕ) (at k : ℕ) → k ≡ refusal_of (scan_of (read_at s at)) → (IsThere s at → ⊥)
-    → Refused k ≡ scan_of (read_at s at)
-refuses s at k k_is not_there =
-    let told = by_number s at k k_is in
-    told.0 (λ (none : k ≡ 0). not_there (told.1 none))
+pub ruleset near_the_end = (room_for_ten, past_end, read_room)
+
+-- and what is not there is refused
+not_there : (s : List ℕ) (at : ℕ) → (IsThere s at → ⊥) → IsErr (scan_of (read_at s at))
+not_there s at none = by_answer (read_at s at) (read_at_answers s at) (λ e p is. none (is_there s at e p is))
+  where
+    by_answer : (a : Answer) → Answers a → ((e : Event) (p : ℕ) → a ≡ event e p → ⊥) → IsErr (scan_of a)
+    by_answer a (an_event e p is) none = absurd (none e p is)
+    by_answer a (a_refusal j low high is) none = rw is refl
 
 -- a length that is not the kind's refuses
 pub wrong_length :
-    (s : List ℕ) (at k kind n : ℕ) → k ≡ refusal_of (scan_of (read_at s at)) → kind ≡ word s (at + 2)
-    → n ≡ word s at → n ≢ length_of kind → Refused k ≡ scan_of (read_at s at)
-wrong_length s at k kind n k_is kind_is n_is unfit =
-    refuses s at k k_is (λ (there : IsThere s at). unfit (rw (n_is, kind_is) there.length_is))
+    (s : List ℕ) (at kind n : ℕ) → kind ≡ word s (at + 2) → n ≡ word s at → n ≢ length_of kind
+    → IsErr (scan_of (read_at s at))
+wrong_length s at kind n kind_is n_is unfit =
+    not_there s at (λ (there : IsThere s at). unfit (rw (n_is, kind_is) there.length_is))
 
 -- the kinds that `scan_step` has an arm for, the last one first
 abbrev arms : List ℕ
@@ -158,10 +145,9 @@ no_length k none = else_at (length kinds) (among arms) length_of 0 refl (λ i. r
 
 -- a kind that is not in the table refuses
 pub unknown_kind :
-    (s : List ℕ) (at k kind : ℕ) → k ≡ refusal_of (scan_of (read_at s at)) → kind ≡ word s (at + 2) → NoneOf arms kind
-    → Refused k ≡ scan_of (read_at s at)
-unknown_kind s at k kind k_is kind_is no_arm =
-    refuses s at k k_is (λ (there : IsThere s at). there.known (rw kind_is at (no_length kind no_arm)))
+    (s : List ℕ) (at kind : ℕ) → kind ≡ word s (at + 2) → NoneOf arms kind → IsErr (scan_of (read_at s at))
+unknown_kind s at kind kind_is no_arm =
+    not_there s at (λ (there : IsThere s at). there.known (rw kind_is at (no_length kind no_arm)))
 
 -- ---- what was scanned is what was read
 
@@ -177,12 +163,12 @@ refusals_some s at k i = by_answer (read_at s at) (read_at_answers s at)
 
 -- numbers: a record was read, and these are its kind, its fields and the position past it
 pub scan_read :
-    (s : List ℕ) (at : ℕ) (r : Scan) → Record r ≡ scan_of (read_at s at)
+    (s : List ℕ) (at : ℕ) (r : Scan) → Ok r ≡ scan_of (read_at s at)
     → (e : Event) × ((read_at s at ≡ event e r.next) × (r.kind ≡ kind_of e) × (r.fields ≡ fields_of e))
 scan_read s at r = by_answer (read_at s at) (read_at_answers s at)
   where
     by_answer :
-        (a : Answer) → Answers a → Record r ≡ scan_of a
+        (a : Answer) → Answers a → Ok r ≡ scan_of a
         → (e : Event) × ((a ≡ event e r.next) × (r.kind ≡ kind_of e) × (r.fields ≡ fields_of e))
     by_answer a (an_event e n is) h =
         let same : r ≡ record { kind = kind_of e; fields = fields_of e; next = n } = cc (is, h) in
@@ -191,9 +177,9 @@ scan_read s at r = by_answer (read_at s at) (read_at_answers s at)
     by_answer a (a_refusal k low high is) h = absurd (clash (cc))
 
 -- a refusal: reading refuses with the same number, and with event 0
-pub scan_refused : (s : List ℕ) (at k : ℕ) → Refused k ≡ scan_of (read_at s at) → read_at s at ≡ refused k 0
+pub scan_refused : (s : List ℕ) (at k : ℕ) → Err k ≡ scan_of (read_at s at) → read_at s at ≡ refused k 0
 scan_refused s at k = by_answer (read_at s at) (read_at_answers s at)
   where
-    by_answer : (a : Answer) → Answers a → Refused k ≡ scan_of a → a ≡ refused k 0
+    by_answer : (a : Answer) → Answers a → Err k ≡ scan_of a → a ≡ refused k 0
     by_answer a (an_event e n is) h = absurd (clash (cc))
     by_answer a (a_refusal j low high is) h = cc

@@ -175,3 +175,6 @@ size_by_table e kind row n kind_is row_is length_is =
     let l = laid [] [] e in
     let size : n + 2 ≡ length (record_of e) = rw (length_is, row_is, kind_is) l.size_is in
     (size, omega (arith, l.enough))
+
+-- what the writer goes by
+pub ruleset sizes = (size_by_table, stores_record)

@@ -9,10 +9,12 @@ use Prim.Native.Nat.{ℕ, ◌+◌, ◌<◌}
 use native.Mathlib.Omega.{arith}
 use native.Mathlib.Nat.{add-zero}
 use lib.Dec.{eqb}
+use Rattle.std.specs.Prelude.{Option, Some, None}
 use lib.ListN.{length, drop}
 use borrow.Author.Tests.{eq-eqb, ne_eqb, eqb-true}
 use Rattle.record.specs.declared.events.Event.{Event}
 use Rattle.record.specs.declared.events.Fields.{Fields}
+use Rattle.record.specs.declared.parts.Source.{Source}
 use Rattle.record.specs.declared.parts.SourceAt.{SourceAt}
 use Rattle.record.specs.Answers.{event}
 use Rattle.record.specs.Bytes.{word}
@@ -27,13 +29,12 @@ use Rattle.record.proofs.Frames.{read→}
 use Rattle.record.proofs.Shapes.{made}
 use Rattle.record.proofs.Starts.{read_at_lem, from_event, read_past}
 use Rattle.record.proofs.Scans.{word_drop}
-use Rattle.record.proofs.NewKinds.{no_size}
 
 -- what an event says if its kind has a source, and the position past its record
 abbrev pub as_source : Event → ℕ → SourceAt
 as_source x past =
     sourced? (kind_of x) gives
-    record { sourced = true; thread = (fields_of x).thread; source = (fields_of x).source; next = past } else
+    record { source = Some (record { thread = (fields_of x).thread; source = (fields_of x).source }); next = past } else
     no_source past
 
 -- the position past a record, whether it has a source or not
@@ -43,7 +44,7 @@ source_past x past = by_kind (sourced? (kind_of x))
     by_kind :
         (sourced : Bool)
         → (sourced gives
-        record { sourced = true; thread = (fields_of x).thread; source = (fields_of x).source; next = past } else
+        record { source = Some (record { thread = (fields_of x).thread; source = (fields_of x).source }); next = past } else
         no_source past).next
         ≡ past
     by_kind true = refl
@@ -155,17 +156,10 @@ thread_too k =
 module _ (s : List ℕ) (at : ℕ) where
   -- ---- the ways of `source_at`
 
-  -- the position is past the end
-  pub none_there : length s < at → no_source at ≡ source_at s at
-  unfolding source_at
-  none_there past =
-      let other : sourced_of 0 (word s (at + 2)) ≡ false = of_others 0 (word s (at + 2)) (omega arith) (omega arith) in
-      rw (no_size s at (omega arith), other, add-zero at) refl
-
   module _ (n k : ℕ) (size_is : n ≡ size_at s at) (kind_is : k ≡ word s (at + 2)) where
     -- thread and source at two places of the record
     abbrev there : ℕ → ℕ → SourceAt
-    there a b = record { sourced = true; thread = word s (at + a); source = word s (at + b); next = at + n }
+    there a b = record { source = Some (record { thread = word s (at + a); source = word s (at + b) }); next = at + n }
 
     -- by a row that places them as that of the kind does
     by_row :
@@ -236,3 +230,6 @@ module _ (s : List ℕ) (at : ℕ) where
               ap (λ (f : Fields). f.source) fields_are ∙ field_there (source_in row) source_placed
               in
               rw (has, thread_is, source_is) refl
+
+-- the ways of `source_at`
+pub ruleset by_size = (ten_there, eight_there, other_there)

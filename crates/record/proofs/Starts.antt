@@ -2,32 +2,30 @@
 -- to e cannot all be framed. `records_to_front`: the parts 0 to e, one after the other, are the front of the trace.
 -- `read_next`: reading record e leads to where record e + 1 starts.
 use mathlib.Core.Path.{◌≡◌, refl, sym, ap, ◌∙◌}
-use mathlib.Core.Logic.{◌⊎◌, inl, inr, ◌↔◌}
+use mathlib.Core.Logic.{◌≢◌, ◌⊎◌, inl, inr, ◌↔◌}
 use mathlib.Core.List.{List, []}
 use Prim.Native.Nat.{ℕ, zero, suc, ◌+◌, ◌-◌, ◌<◌, ◌≤◌}
 use native.Mathlib.Omega.{arith}
 use native.Mathlib.Numerals.{add-one}
 use native.Mathlib.Nat.{eq-or-lt_of_le, zero-add}
+use Rattle.std.specs.Prelude.{Result, Ok, Err}
 use lib.ListN.{length, take, drop, length-drop}
 use lib.Seq.{length-take-le, take-add, take_all}
 use borrow.Author.Tests.{eq-eqb}
-use Rattle.record.specs.Answers.{Answer, refused, event, wrote, read_answer}
+use Rattle.record.specs.Answers.{Answer, refused, event, wrote}
 use Rattle.record.specs.Reading.{frame, read_framed, read_first, read_at, from}
 use Rattle.record.specs.Parts.{size_of, size_at, start, place_of, record_part, AllFramed, records_to}
 use Rattle.record.specs.declared.events.Event.{Event}
 use Rattle.record.specs.declared.parts.Place.{Place}
-use Rattle.record.specs.declared.reading.Frame.{Frame}
-use Rattle.record.specs.declared.reading.Frame.TheVariants.{Size, Unframed}
-use Rattle.record.specs.declared.reading.Read.{Read}
-use Rattle.record.specs.declared.reading.Read.TheVariants.{Record}
+use Rattle.record.specs.declared.refusal.Refusal.{Refusal}
 use Rattle.record.proofs.Frames.{clash, frame→, →frame, read→}
 use Rattle.record.proofs.Frames.{Answers, an_event, a_refusal, read_answers, one_of_none}
 
 -- ---- the size at a position
 
-pub framed_or_none : (f : Frame) → ((n : ℕ) × (f ≡ Size n)) ⊎ (size_of f ≡ 0)
-framed_or_none (Size n) = inl (n, refl)
-framed_or_none (Unframed k) = inr refl
+pub framed_or_none : (f : Result ℕ Refusal) → ((n : ℕ) × (f ≡ Ok n)) ⊎ (size_of f ≡ 0)
+framed_or_none (Ok n) = inl (n, refl)
+framed_or_none (Err r) = inr refl
 
 -- the record at a position ends within the trace
 pub size_inside : (s : List ℕ) (at : ℕ) → at ≤ length s → at + size_at s at ≤ length s
@@ -35,7 +33,7 @@ unfolding size_at
 size_inside s at h = by_frame (framed_or_none (frame (drop at s)))
   where
     by_frame :
-        ((n : ℕ) × (frame (drop at s) ≡ Size n)) ⊎ (size_of (frame (drop at s)) ≡ 0)
+        ((n : ℕ) × (frame (drop at s) ≡ Ok n)) ⊎ (size_of (frame (drop at s)) ≡ 0)
         → at + size_of (frame (drop at s)) ≤ length s
     by_frame (inl (n, is)) = rw is (omega (arith, (frame→ (drop at s) n is).inside, length-drop at s))
     by_frame (inr none) = rw none (omega arith)
@@ -44,6 +42,12 @@ pub start_inside : (s : List ℕ) (e : ℕ) → start s e ≤ length s
 unfolding start
 start_inside s zero = omega arith
 start_inside s (suc e) = size_inside s (start s e) (start_inside s e)
+
+-- and end within the trace
+pub place_inside :
+    (s : List ℕ) (e at n : ℕ) → at ≡ start s e → n ≡ size_at s at → at + n ≤ length s
+place_inside s e at n is size =
+    omega (arith, size, size_inside s at (omega (arith, is, start_inside s e)))
 
 -- records start in their order
 pub start_mono : (s : List ℕ) (i e : ℕ) → i ≤ e → start s i ≤ start s e
@@ -64,22 +68,61 @@ start_more s e at n is size = rw (add-one, size, is)
 pub tail_is : (s : List ℕ) (at : ℕ) → take (length s - at) (drop at s) ≡ drop at s
 tail_is s at = take_all (length s - at) (drop at s) (simp length-drop (omega arith))
 
--- the frame of the bytes from a position on gives the size there
-pub size_of_tail :
-    (s : List ℕ) (at : ℕ) (f g : Frame) → at ≤ length s → f ≡ frame (take (length s - at) (drop at s)) → f ≡ g
-    → (size_of g ≡ size_at s at) × (at + size_of g ≤ length s)
-unfolding size_at
-size_of_tail s at f g inside is same =
-    let size_is : size_of g ≡ size_of (frame (drop at s)) = ap size_of (sym same ∙ is ∙ ap frame (tail_is s at)) in
-    (size_is, rw size_is (size_inside s at inside))
+-- at the end and past it nothing has a size
+pub no_size : (s : List ℕ) (at : ℕ) → length s ≤ at → size_at s at ≡ 0
+unfolding size_at frame
+no_size s at past =
+    let none : length (drop at s) ≡ 0 = simp length-drop (omega arith) in
+    simp (eq-eqb _ _ none)
 
--- what reading the bytes from a position on answers gives what reading at the position answers
-pub read_of_tail :
-    (s : List ℕ) (at : ℕ) (r q : Read) → read_answer r ≡ read_first (take (length s - at) (drop at s)) → r ≡ q
-    → from at (read_answer q) ≡ read_at s at
-unfolding read_at
-read_of_tail s at r q is same =
-    ap (λ (x : Read). from at (read_answer x)) (sym same) ∙ ap (from at) (is ∙ ap read_first (tail_is s at))
+-- what has a size has a length and a kind
+pub size_enough : (s : List ℕ) (at : ℕ) → size_at s at ≢ 0 → 4 ≤ size_at s at
+unfolding size_at
+size_enough s at some = by_frame (framed_or_none (frame (drop at s)))
+  where
+    by_frame :
+        ((n : ℕ) × (frame (drop at s) ≡ Ok n)) ⊎ (size_of (frame (drop at s)) ≡ 0)
+        → 4 ≤ size_of (frame (drop at s))
+    by_frame (inl (n, is)) = rw is (frame→ (drop at s) n is).enough
+    by_frame (inr none) = absurd (some none)
+
+module _ (s : List ℕ) (at : ℕ) (rest : List ℕ) (rest_is : rest ≡ take (length s - at) (drop at s)) where
+  rest_lem : rest ≡ drop at s
+  rest_lem = rest_is ∙ tail_is s at
+
+  size_is : (f : Result ℕ Refusal) → f ≡ frame rest → size_of f ≡ size_at s at
+  unfolding size_at
+  size_is f is = ap size_of (is ∙ ap frame rest_lem)
+
+  -- their frame gives the size there
+  pub size_of_rest :
+      (f : Result ℕ Refusal) → at ≤ length s → f ≡ frame rest
+      → (size_of f ≡ size_at s at) × (size_of f ≢ 0 → (4 ≤ size_of f) × (at + size_of f ≤ length s))
+  size_of_rest f inside is = (
+    size_is f is,
+    λ some. rw (size_is f is) (
+      size_enough s at
+          (λ none. some (size_is f is ∙ none)),
+      size_inside s at inside,
+    ),
+  )
+
+  -- what reading them answers gives what reading at the position answers
+  of_rest : (a : Answer) → a ≡ read_first rest → from at a ≡ read_at s at
+  unfolding read_at
+  of_rest a is = ap (from at) (is ∙ ap read_first rest_lem)
+
+  pub event_of_rest : (e : Event) (n : ℕ) → event e n ≡ read_first rest → event e (at + n) ≡ read_at s at
+  event_of_rest e n is = of_rest (event e n) is
+
+  pub refusal_of_rest : (k : ℕ) → refused k 0 ≡ read_first rest → refused k 0 ≡ read_at s at
+  refusal_of_rest k is = of_rest (refused k 0) is
+
+  -- a record that was read ends within them
+  pub read_inside : (e : Event) (n : ℕ) → event e n ≡ read_first rest → n ≤ length s - at
+  read_inside e n is =
+      let read : read_first (drop at s) ≡ event e n = sym (is ∙ ap read_first rest_lem) in
+      omega (arith, (read→ (drop at s) e n read).framed.inside, length-drop at s)
 
 -- at the end and past it there are no bytes
 pub read_past_end : (s : List ℕ) (at : ℕ) → length s ≤ at → refused 1 0 ≡ read_at s at
@@ -87,6 +130,8 @@ unfolding read_at read_first read_framed frame
 read_past_end s at past =
     let none : length (drop at s) ≡ 0 = simp length-drop (omega arith) in
     simp (eq-eqb _ _ none)
+
+pub ruleset of_the_rest = (read_past_end, event_of_rest, refusal_of_rest, read_inside)
 
 -- and only there refusal 1 is answered
 pub one_past_end : (s : List ℕ) (at i : ℕ) → read_at s at ≡ refused 1 i → length s ≤ at
@@ -98,14 +143,6 @@ one_past_end s at i h =
     same_refusal (refused k e) is = is
     same_refusal (event e n) is = absurd (clash (cc))
     same_refusal (wrote n) is = absurd (clash (cc))
-
--- a record that was read ends within the bytes from its position on
-pub read_inside :
-    (s : List ℕ) (at : ℕ) (r : Read) (e : Event) (n : ℕ) → read_answer r ≡ read_first (take (length s - at) (drop at s))
-    → r ≡ Record e n → n ≤ length s - at
-read_inside s at r e n is same =
-    let read : read_first (drop at s) ≡ event e n = sym (is ∙ ap read_first (tail_is s at)) ∙ ap read_answer same in
-    omega (arith, (read→ (drop at s) e n read).framed.inside, length-drop at s)
 
 -- ---- empty parts
 
@@ -137,7 +174,7 @@ part_some s e all empty =
 
 -- the records before number m can all be framed, or one of them cannot
 abbrev Starts : List ℕ → ℕ → Type 0
-Starts s i = (n : ℕ) × (frame (drop (start s i) s) ≡ Size n)
+Starts s i = (n : ℕ) × (frame (drop (start s i) s) ≡ Ok n)
 
 abbrev Stops : List ℕ → ℕ → Type 0
 Stops s m = (i : ℕ) × (i < m) × (size_at s (start s i) ≡ 0)
@@ -178,6 +215,8 @@ pub place_stays :
 place_stays s i e at below is none =
     let unframed : size_at s (start s i) ≡ 0 = rw (sym is) none in
     rw (start_stays s i e below unframed, unframed, is) refl
+
+pub ruleset places = (start_more, place_inside, place_is, place_stays)
 
 -- the bytes from where a record starts to its end are the part
 pub part_is :

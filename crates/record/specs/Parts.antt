@@ -1,5 +1,7 @@
 -- Record number e of a trace: document 01, "The trace". And the sources of a trace.
 use Rattle.std.specs.Prelude.{List, ◌++◌, ◌≡◌, ℕ, zero, suc, ◌+◌, ◌≤◌, Bool, true, false, ◌&&◌, not, take, drop, eqb}
+use Rattle.std.specs.Result.{result_unwrap_or}
+use Rattle.std.specs.Prelude.{Some, None, Result, Ok}
 use Rattle.record.specs.Bytes.{word}
 use Rattle.record.specs.Table.{row_of, length_of}
 use Rattle.record.specs.Fields.{thread_in, source_in}
@@ -7,12 +9,10 @@ use Rattle.record.specs.Tests.{◌gives◌else◌}
 use Rattle.record.specs.Reading.{frame}
 use Rattle.record.specs.declared.parts.Place.{Place}
 use Rattle.record.specs.declared.parts.SourceAt.{SourceAt}
-use Rattle.record.specs.declared.reading.Frame.{Frame}
-use Rattle.record.specs.declared.reading.Frame.TheVariants.{Size, Unframed}
+use Rattle.record.specs.declared.refusal.Refusal.{Refusal}
 
-abbrev pub size_of : Frame → ℕ
-size_of (Size n) = n
-size_of (Unframed k) = 0
+abbrev pub size_of : Result ℕ Refusal → ℕ
+size_of f = result_unwrap_or f 0
 
 -- the number of bytes of the record at a position, its length bytes included; 0 if it cannot be framed
 unfoldable pub size_at : List ℕ → ℕ → ℕ
@@ -34,7 +34,7 @@ record_part s e = take (size_at s (start s e)) (drop (start s e) s)
 -- records 0 to e can all be framed: none has "a length under 2, or bytes missing". The part is empty exactly if not:
 -- `empty_exactly` of proofs/Starts.antt
 pub record AllFramed (s : List ℕ) (e : ℕ) : Type 0 where
-  pub framed : (i : ℕ) → i ≤ e → (n : ℕ) × (frame (drop (start s i) s) ≡ Size n)
+  pub framed : (i : ℕ) → i ≤ e → (n : ℕ) × (frame (drop (start s i) s) ≡ Ok n)
 
 -- the parts 0 to e, one after the other
 unfoldable pub records_to : List ℕ → ℕ → List ℕ
@@ -45,16 +45,14 @@ records_to s (suc e) = records_to s e ++ record_part s (suc e)
 
 -- a record without a source, and the position past it
 abbrev pub no_source : ℕ → SourceAt
-no_source past = record { sourced = false; thread = 0; source = 0; next = past }
+no_source past = record { source = None; next = past }
 
 -- the record of that size at a position, if its kind has a source: its thread and source stand where the row says
 abbrev pub source_if : Bool → List ℕ → ℕ → ℕ → List ℕ → SourceAt
 source_if sourced s at size row =
     sourced gives
     record {
-      sourced = true;
-      thread = word s (at + thread_in row);
-      source = word s (at + source_in row);
+      source = Some (record { thread = word s (at + thread_in row); source = word s (at + source_in row) });
       next = at + size;
     }
     else

@@ -1,13 +1,13 @@
 // Events, and their fields by name: what a record's kind and fields say, and the way back.
 ghost use Rattle.std.specs.Prelude.{◌≡◌};
 ghost use Rattle.record.specs.Events.{kind_of};
-ghost use Rattle.record.specs.Fields.{fields_of, thread_fields, event_of};
+ghost use Rattle.record.specs.Fields.{fields_of, event_of};
 ghost use Rattle.record.specs.Answers.{named};
 
 use crate::kinds::{LENGTH, row_of};
 
 // An event of a trace: a variant for each kind of record, with the record's fields.
-#[derive(Clone, Copy)]
+#[derive(Clone, Copy, Debug, PartialEq, Eq)]
 pub enum Event {
     Begin {
         version: u16,
@@ -73,7 +73,7 @@ pub enum Event {
 }
 
 // The values of an event's fields; 0 where its kind has no such field.
-#[derive(Clone, Copy)]
+#[derive(Clone, Copy, Debug, Default, PartialEq, Eq)]
 pub struct Fields {
     pub thread: u16,
     pub location: u16,
@@ -84,61 +84,27 @@ pub struct Fields {
     pub outcome: u16,
 }
 
-// What a kind's number and fields name: the event, or nothing where the table has no such kind (refusal 3).
-#[derive(Clone, Copy)]
-pub enum Named {
-    Known(Event),
-    NoKind,
-}
-
 // The number of an event's kind.
 pub fn kind_of(e: Event) -> u16
     ensures { result ≡ kind_of e }
 {
     match e {
-        Event::Begin {
-            version,
-            threads,
-            locations,
-        } => 1,
-        Event::Issue { thread, location } => 2,
-        Event::Commit { thread } => 3,
-        Event::Load {
-            thread,
-            location,
-            source,
-        } => 4,
-        Event::Clflush { thread, location } => 5,
-        Event::Clwb { thread, location } => 6,
-        Event::Sfence { thread } => 7,
-        Event::Mfence { thread } => 8,
+        Event::Begin { .. } => 1,
+        Event::Issue { .. } => 2,
+        Event::Commit { .. } => 3,
+        Event::Load { .. } => 4,
+        Event::Clflush { .. } => 5,
+        Event::Clwb { .. } => 6,
+        Event::Sfence { .. } => 7,
+        Event::Mfence { .. } => 8,
         Event::Crash => 9,
-        Event::SkipOn { thread } => 10,
-        Event::SkipOff { thread } => 11,
-        Event::Locked {
-            thread,
-            location,
-            source,
-        } => 12,
-        Event::Signal { thread } => 13,
-        Event::Wait { thread, source } => 14,
-        Event::Open { thread } => 15,
-        Event::Close { thread, outcome } => 16,
-    }
-}
-
-// The fields of a record that has a thread, a location or a source.
-fn thread_fields(thread: u16, location: u16, source: u16) -> Fields
-    ensures { result ≡ thread_fields thread location source }
-{
-    Fields {
-        thread,
-        location,
-        source,
-        version: 0,
-        threads: 0,
-        locations: 0,
-        outcome: 0,
+        Event::SkipOn { .. } => 10,
+        Event::SkipOff { .. } => 11,
+        Event::Locked { .. } => 12,
+        Event::Signal { .. } => 13,
+        Event::Wait { .. } => 14,
+        Event::Open { .. } => 15,
+        Event::Close { .. } => 16,
     }
 }
 
@@ -146,55 +112,65 @@ fn thread_fields(thread: u16, location: u16, source: u16) -> Fields
 pub fn fields_of(e: Event) -> Fields
     ensures { result ≡ fields_of e }
 {
+    let none = Fields::default();
     match e {
         Event::Begin {
             version,
             threads,
             locations,
         } => Fields {
-            thread: 0,
-            location: 0,
-            source: 0,
             version,
             threads,
             locations,
-            outcome: 0,
+            ..none
         },
-        Event::Issue { thread, location } => thread_fields(thread, location, 0),
-        Event::Commit { thread } => thread_fields(thread, 0, 0),
+        Event::Issue { thread, location }
+        | Event::Clflush { thread, location }
+        | Event::Clwb { thread, location } => Fields {
+            thread,
+            location,
+            ..none
+        },
         Event::Load {
             thread,
             location,
             source,
-        } => thread_fields(thread, location, source),
-        Event::Clflush { thread, location } => thread_fields(thread, location, 0),
-        Event::Clwb { thread, location } => thread_fields(thread, location, 0),
-        Event::Sfence { thread } => thread_fields(thread, 0, 0),
-        Event::Mfence { thread } => thread_fields(thread, 0, 0),
-        Event::Crash => thread_fields(0, 0, 0),
-        Event::SkipOn { thread } => thread_fields(thread, 0, 0),
-        Event::SkipOff { thread } => thread_fields(thread, 0, 0),
-        Event::Locked {
+        }
+        | Event::Locked {
             thread,
             location,
             source,
-        } => thread_fields(thread, location, source),
-        Event::Signal { thread } => thread_fields(thread, 0, 0),
-        Event::Wait { thread, source } => thread_fields(thread, 0, source),
-        Event::Open { thread } => thread_fields(thread, 0, 0),
+        } => {
+            Fields {
+                thread,
+                location,
+                source,
+                ..none
+            }
+        }
+        Event::Commit { thread }
+        | Event::Sfence { thread }
+        | Event::Mfence { thread }
+        | Event::SkipOn { thread }
+        | Event::SkipOff { thread }
+        | Event::Signal { thread }
+        | Event::Open { thread } => Fields { thread, ..none },
+        Event::Crash => none,
+        Event::Wait { thread, source } => Fields {
+            thread,
+            source,
+            ..none
+        },
         Event::Close { thread, outcome } => Fields {
             thread,
-            location: 0,
-            source: 0,
-            version: 0,
-            threads: 0,
-            locations: 0,
             outcome,
+            ..none
         },
     }
 }
 
 // The event of a kind with these fields; a crash where there is no such kind.
+#[tactic(auto, using(crate::proofs::Shapes::crash_else), unfolding(crate::specs::Fields::event_of))]
 pub(crate) fn of_kind(kind: u16, f: Fields) -> Event
     ensures { result ≡ event_of kind f }
 {
@@ -237,12 +213,11 @@ pub(crate) fn of_kind(kind: u16, f: Fields) -> Event
 }
 
 // The event of a kind with these fields, if the table has such a kind.
-pub fn event_of(kind: u16, f: Fields) -> Named
+pub fn event_of(kind: u16, f: Fields) -> Option<Event>
     ensures { result ≡ named kind f }
 {
-    let row = row_of(kind);
-    if row[LENGTH] == 0 {
-        return Named::NoKind;
+    if row_of(kind)[LENGTH] == 0 {
+        return None;
     }
-    Named::Known(of_kind(kind, f))
+    Some(of_kind(kind, f))
 }

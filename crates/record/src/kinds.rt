@@ -21,9 +21,10 @@ pub(crate) const OUTCOME: usize = 8;
 
 pub(crate) const SINCE: usize = 9;
 
-// A row for each kind, at its number: kind, length, and the offsets in the record of its thread, location and source,
-// then of a begin's version, threads and locations, then of a close's outcome; last the first version of the format
-// that knows the kind. Offset 0: the kind has no such field. Length 0: no such kind.
+// Document 01 asks for a constant table of tables. A row for each kind, at its number: kind, length, and the offsets in
+// the record of its thread, location and source, then of a begin's version, threads and locations, then of a close's
+// outcome; last the first version of the format that knows the kind. Offset 0: the kind has no such field. Length 0: no
+// such kind.
 pub(crate) const KINDS: [[u16; 10]; 17] = [
     [0, 0, 0, 0, 0, 0, 0, 0, 0, 0],
     [1, 8, 0, 0, 0, 4, 6, 8, 0, 1],
@@ -47,6 +48,7 @@ pub(crate) const KINDS: [[u16; 10]; 17] = [
 // The row of a kind; zeros where there is no such kind. Each arm indexes the table by a constant: an index that is
 // known only at run time would have the whole table copied at each call. The table is named once, for the check of a
 // function takes longer the oftener the table stands in it.
+#[tactic(auto, using(crate::proofs::Rows::zeros_else), unfolding(crate::specs::Table::row_of))]
 pub(crate) fn row_of(kind: u16) -> [u16; 10]
     ensures { result ≡ row_of kind }
 {

@@ -1,81 +1,74 @@
 // Where record number e stands in a trace, the record as a part of it, and what a record at a position says of its
 // source.
-ghost use Rattle.std.specs.Prelude.{◌≡◌, ◌+◌, ◌≤◌, length, eqb, ◌||◌};
+ghost use Rattle.std.specs.Prelude.{◌≡◌, ◌≢◌, ◌+◌, ◌≤◌, length, eqb, ◌||◌};
 ghost use Rattle.record.specs.Fields.{RowFits};
-ghost use Rattle.record.specs.Parts.{size_at, place_of, record_part, no_source, source_if, source_at};
+ghost use Rattle.record.specs.Parts.{size_at, place_of, record_part, source_if, source_at};
 
-use crate::bytes::{wide, word_at};
+use crate::bytes::word_at;
 use crate::kinds::{KINDS, LENGTH, SOURCE, THREAD};
-use crate::reading::{Frame, frame_of};
+use crate::reading::frame_of;
 
-// The size of the record at a position, its length bytes included; 0 where it cannot be framed.
+// The size of the record at a position, its length bytes included; 0 where it cannot be framed, as past the end.
+#[tactic(auto, using(crate::proofs::Starts::no_size, crate::proofs::Starts::size_of_rest))]
 pub(crate) fn size_at(trace: &[u8], at: usize) -> usize
-    requires { at ≤ length trace.now }
-    ensures { (result ≡ size_at trace.now at) × (at + result ≤ length trace.now) }
+    ensures value { result ≡ size_at trace.now at }
+    ensures within { result ≢ 0 → (4 ≤ result) × (at + result ≤ length trace.now) }
 {
-    let f = frame_of(&trace[at..]);
-    match f {
-        Frame::Size(n) => n,
-        Frame::Unframed(_) => 0,
-    }
+    let Some(rest) = trace.get(at..) else {
+        return 0;
+    };
+    frame_of(rest).unwrap_or(0)
 }
 
-// Where a record stands in its trace: the position of its length bytes, and its size with them.
-#[derive(Clone, Copy)]
+// Where a record stands in its trace: the position of its length bytes, and its size with them. `gorbuzte_frame` hands
+// out both, so a record that is not framed has size 0, and is no `None`.
+#[derive(Clone, Copy, Debug, PartialEq, Eq)]
 pub struct Place {
     pub start: usize,
     pub size: usize,
 }
 
 // Where record number e stands. Its size is 0 exactly if records 0 to e cannot all be framed.
+#[tactic(auto, using(crate::proofs::Starts::places), unfolding(crate::specs::Parts::start))]
 pub fn place_of(trace: &[u8], e: usize) -> Place
     ensures value { result ≡ place_of trace.now e }
     ensures size_in_bounds { result.start + result.size ≤ length trace.now }
 {
-    let mut at: usize = 0;
-    let mut i: usize = 0;
-    while i < e {
+    let mut at = 0;
+    for i in 0..e {
         let n = size_at(trace, at);
         if n == 0 {
             return Place { start: at, size: 0 };
         }
         at += n;
-        i += 1;
     }
-    let size = size_at(trace, at);
-    Place { start: at, size }
+    Place {
+        start: at,
+        size: size_at(trace, at),
+    }
 }
 
 // Record number e of the trace, its length bytes included. Empty exactly if records 0 to e cannot all be framed.
+#[tactic(auto, using(crate::proofs::Starts::part_is))]
 pub fn part(trace: &[u8], e: usize) -> &[u8]
     ensures { result.now ≡ record_part trace.now e }
 {
     let p = place_of(trace, e);
-    let start = p.start;
-    let end = start + p.size;
-    &trace[start..end]
+    &trace[p.start..p.start + p.size]
 }
 
-// What the record at a position says if its kind has a source: its thread and its source; and the position past the
-// record.
-#[derive(Clone, Copy)]
-pub struct SourceAt {
-    pub sourced: bool,
+// What a record whose kind has a source says of it.
+#[derive(Clone, Copy, Debug, PartialEq, Eq)]
+pub struct Source {
     pub thread: u16,
     pub source: u16,
-    pub next: usize,
 }
 
-// A record without a source.
-fn no_source(next: usize) -> SourceAt
-    ensures { result ≡ no_source next }
-{
-    SourceAt {
-        sourced: false,
-        thread: 0,
-        source: 0,
-        next,
-    }
+// The source of the record at a position, if its kind has one, and the position past the record.
+#[derive(Clone, Copy, Debug, PartialEq, Eq)]
+pub struct SourceAt {
+    pub source: Option<Source>,
+    pub next: usize,
 }
 
 // The record of that size at a position, if its kind has a source: its thread and source stand where the row says.
@@ -83,13 +76,12 @@ fn source_if(sourced: bool, trace: &[u8], at: usize, size: usize, row: [u16; 10]
     requires { (at + size ≤ length trace.now) × RowFits row size }
     ensures { result ≡ source_if sourced trace.now at size row }
 {
-    if !sourced {
-        return no_source(at + size);
-    }
+    let source = sourced.then(|| Source {
+        thread: word_at(trace, at + usize::from(row[THREAD])),
+        source: word_at(trace, at + usize::from(row[SOURCE])),
+    });
     SourceAt {
-        sourced: true,
-        thread: word_at(trace, at + wide(row[THREAD])),
-        source: word_at(trace, at + wide(row[SOURCE])),
+        source,
         next: at + size,
     }
 }
@@ -98,29 +90,27 @@ fn source_if(sourced: bool, trace: &[u8], at: usize, size: usize, row: [u16; 10]
 fn loads(kind: u16) -> bool
     ensures { result ≡ (eqb kind 4 || eqb kind 12) }
 {
-    if kind == 4 {
-        return true;
-    }
-    kind == 12
+    kind == 4 || kind == 12
 }
 
 // The record at a position, by its length bytes: for a pass over a trace that was read before, and that wants the
 // sources alone. A record that cannot be framed has no size, so the position past it is its own. Loads, locked
 // operations and waits have a source; no other kind does.
+#[tactic(auto, using(crate::proofs::Sources::by_size), unfolding(crate::specs::Table::row_of))]
 pub fn source_at(trace: &[u8], at: usize) -> SourceAt
     ensures { result ≡ source_at trace.now at }
 {
-    if trace.len() < at {
-        return no_source(at);
-    }
     let load = KINDS[4];
     let wait = KINDS[14];
     let size = size_at(trace, at);
-    if size == wide(load[LENGTH]) + 2 {
+    if size == usize::from(load[LENGTH]) + 2 {
         return source_if(loads(word_at(trace, at + 2)), trace, at, size, load);
     }
-    if size == wide(wait[LENGTH]) + 2 {
+    if size == usize::from(wait[LENGTH]) + 2 {
         return source_if(word_at(trace, at + 2) == 14, trace, at, size, wait);
     }
-    no_source(at + size)
+    SourceAt {
+        source: None,
+        next: at + size,
+    }
 }

@@ -1,103 +1,88 @@
 // The record at a position as plain numbers, for callers that go record by record: each kind is read off its bytes by
 // its row of the table, in an arm of its own, so that the compiler can join the arm to what the caller does with the
-// kind. What refuses a record is asked of `step_at`, which answers a number alone here.
-ghost use Rattle.std.specs.Prelude.{◌≡◌, ◌≢◌, ◌+◌, ◌-◌, ◌≤◌, length};
+// kind. What refuses a record is asked of `step_at`, which answers no record here.
+ghost use Rattle.std.specs.Prelude.{◌≡◌, ◌≢◌, ◌+◌, ◌-◌, ◌≤◌, length, IsErr, IfOk, IfErr, Err};
 ghost use Rattle.record.specs.Bytes.{word};
 ghost use Rattle.record.specs.Table.{row_of, length_of};
-ghost use Rattle.record.specs.Answers.{scan_of, refusal_of};
+ghost use Rattle.record.specs.Answers.{number_of, numbered, scan_of};
 ghost use Rattle.record.specs.Reading.{read_at};
-ghost use Rattle.record.specs.declared.scanning.Scanned.TheVariants.{Refused};
 
-use crate::bytes::{wide, word_at};
+use crate::bytes::word_at;
 use crate::events::Fields;
 use crate::kinds::{LENGTH, row_of};
-use crate::reading::{Read, fields_at, step_at};
+use crate::reading::{fields_at, step_at};
+use crate::refusal::Refusal;
 
 // A record as plain numbers: its kind, its fields and the position past it.
-#[derive(Clone, Copy)]
+#[derive(Clone, Copy, Debug, PartialEq, Eq)]
 pub struct Scan {
     pub kind: u16,
     pub fields: Fields,
     pub next: usize,
 }
 
-// What scanning a record finds: its numbers, or the refusal's number (1 to 4).
-#[derive(Clone, Copy)]
-pub enum Scanned {
-    Record(Scan),
-    Refused(u16),
+// What refuses the record at a position, where something does.
+fn refusal_at(trace: &[u8], at: usize) -> Refusal
+    requires { IsErr (scan_of (read_at trace.now at)) }
+    ensures { Err (number_of result) ≡ scan_of (read_at trace.now at) }
+{
+    step_at(trace, at).unwrap_err()
 }
 
-// The number of the refusal, 0 for a record.
-pub fn refusal_of(s: Scanned) -> u16
-    ensures { result ≡ refusal_of s }
+// The same by reading the record. It is a function of its own for speed: the room for what `step_at` answers is cleared
+// where a function begins, and so would be at each event if `end_refusal` called it.
+#[tactic(auto, using(crate::proofs::Scans::near_the_end))]
+fn end_read(trace: &[u8], at: usize) -> Result<(), Refusal>
+    ensures refusal { IfErr result (λ k. Err (number_of k) ≡ scan_of (read_at trace.now at)) }
+    ensures at_in_bounds { IfOk result (λ _. (at + 4 ≤ length trace.now)
+        × (at + length_of (word trace.now (at + 2)) + 2 ≤ length trace.now)) }
 {
-    match s {
-        Scanned::Record(_) => 0,
-        Scanned::Refused(k) => k,
-    }
+    step_at(trace, at)?;
+    Ok(())
 }
 
-// The number of what refuses the record at a position, 0 if nothing does.
-fn refusal_at(trace: &[u8], at: usize) -> u16
-    ensures { result ≡ refusal_of (scan_of (read_at trace.now at)) }
+// What refuses the record at a position where fewer bytes are left than the longest record has, if something does. If
+// not, the record's kind is there, and as many bytes as the kind's record has.
+#[tactic(auto, using(crate::proofs::Scans::near_the_end))]
+fn end_refusal(trace: &[u8], at: usize) -> Result<(), Refusal>
+    ensures refusal { IfErr result (λ k. Err (number_of k) ≡ scan_of (read_at trace.now at)) }
+    ensures at_in_bounds { IfOk result (λ _. (at + 4 ≤ length trace.now)
+        × (at + length_of (word trace.now (at + 2)) + 2 ≤ length trace.now)) }
 {
-    let r = step_at(trace, at);
-    match r {
-        Read::Record(_, _) => 0,
-        Read::Refused(k) => k,
-    }
-}
-
-// At the positions below this as many bytes are left as the longest record has.
-fn quick_end(trace: &[u8]) -> usize
-    ensures { result ≡ length trace.now - 9 }
-{
-    if trace.len() < 10 { 0 } else { trace.len() - 9 }
-}
-
-// The number of what refuses the record at a position where fewer bytes are left, 0 if nothing does. At 0 the record's
-// kind is there, and as many bytes as the kind's record has.
-fn end_refusal(trace: &[u8], at: usize) -> u16
-    ensures result_value { result ≢ 0 → Refused result ≡ scan_of (read_at trace.now at) }
-    ensures at_in_bounds { result ≡ 0 → (at + 4 ≤ length trace.now)
-        × (at + length_of (word trace.now (at + 2)) + 2 ≤ length trace.now) }
-{
-    if at < quick_end(trace) {
-        return 0;
+    if at < trace.len().saturating_sub(9) {
+        return Ok(());
     }
     if trace.len() <= at {
-        return 1;
+        return Err(Refusal::NoRecord);
     }
-    refusal_at(trace, at)
+    end_read(trace, at)
 }
 
 // The record of that kind at a position, by the kind's row of the table; as many bytes as it has are there.
-fn scan_kind(trace: &[u8], at: usize, kind: u16) -> Scanned
+#[tactic(auto, using(crate::proofs::Scans::scan_known, crate::proofs::Scans::wrong_length))]
+fn scan_kind(trace: &[u8], at: usize, kind: u16) -> Result<Scan, Refusal>
     requires { (kind ≡ word trace.now (at + 2)) × (length_of kind ≢ 0)
         × (at + length_of kind + 2 ≤ length trace.now) }
-    ensures { result ≡ scan_of (read_at trace.now at) }
+    ensures { numbered result ≡ scan_of (read_at trace.now at) }
 {
     let row = row_of(kind);
     let len = row[LENGTH];
     if word_at(trace, at) != len {
-        return Scanned::Refused(refusal_at(trace, at));
+        return Err(refusal_at(trace, at));
     }
-    Scanned::Record(Scan {
+    Ok(Scan {
         kind,
         fields: fields_at(&trace[at..], row),
-        next: at + wide(len) + 2,
+        next: at + usize::from(len) + 2,
     })
 }
 
 // The record at a position: what `step_at` answers, as numbers.
-pub(crate) fn scan_step(trace: &[u8], at: usize) -> Scanned
-    ensures { result ≡ scan_of (read_at trace.now at) }
+#[tactic(auto, using(crate::proofs::Scans::known_at, crate::proofs::Scans::unknown_kind))]
+pub(crate) fn scan_step(trace: &[u8], at: usize) -> Result<Scan, Refusal>
+    ensures { numbered result ≡ scan_of (read_at trace.now at) }
 {
-    let k = end_refusal(trace, at);
-    if k != 0 {
-        return Scanned::Refused(k);
-    }
+    end_refusal(trace, at)?;
     let kind = word_at(trace, at + 2);
     match kind {
         1 => scan_kind(trace, at, 1),
@@ -116,6 +101,6 @@ pub(crate) fn scan_step(trace: &[u8], at: usize) -> Scanned
         14 => scan_kind(trace, at, 14),
         15 => scan_kind(trace, at, 15),
         16 => scan_kind(trace, at, 16),
-        _ => Scanned::Refused(refusal_at(trace, at)),
+        _ => Err(refusal_at(trace, at)),
     }
 }

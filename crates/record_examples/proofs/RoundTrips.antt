@@ -22,17 +22,20 @@ use Rattle.record_examples.specs.RoundTrips.{read_back, written_again, old_bytes
 
 -- ---- whether there was room
 
-short_by_test : (short : Bool) (n : ℕ) → refused 17 0 ≡ (short gives refused 17 0 else wrote n) → short ≡ true
-short_by_test true n h = refl
-short_by_test false n h = absurd (clash (cc))
+short_by_test :
+    (short : Bool) (k n : ℕ) → refused k 0 ≡ (short gives refused 17 0 else wrote n) → (short ≡ true) × (k ≡ 17)
+short_by_test true k n h = (refl, cc)
+short_by_test false k n h = absurd (clash (cc))
 
 long_by_test : (short : Bool) (n k : ℕ) → wrote k ≡ (short gives refused 17 0 else wrote n) → short ≡ false
 long_by_test true n k h = absurd (clash (cc))
 long_by_test false n k h = refl
 
-no_room : (e : Event) (out : List ℕ) → refused 17 0 ≡ writing e out → ltb (length out) (length (record_of e)) ≡ true
+no_room :
+    (e : Event) (out : List ℕ) (k : ℕ) → refused k 0 ≡ writing e out
+    → (ltb (length out) (length (record_of e)) ≡ true) × (k ≡ 17)
 unfolding writing
-no_room e out h = short_by_test _ _ h
+no_room e out k h = short_by_test _ _ _ h
 
 room : (e : Event) (out : List ℕ) (k : ℕ) → wrote k ≡ writing e out → ltb (length out) (length (record_of e)) ≡ false
 unfolding writing
@@ -40,9 +43,9 @@ room e out k h = long_by_test _ _ k h
 
 -- ---- written, then read
 
-pub back_refused : (e : Event) (out : List ℕ) → refused 17 0 ≡ writing e out → refused 17 0 ≡ read_back e out
+pub back_refused : (e : Event) (out : List ℕ) (k : ℕ) → refused k 0 ≡ writing e out → refused k 0 ≡ read_back e out
 unfolding read_back
-back_refused e out h = rw (no_room e out h) refl
+back_refused e out k h = let (short, is_17) = no_room e out k h in rw (short, is_17) refl
 
 pub back_read :
     (e : Event) (out : List ℕ) (k : ℕ) → TwoByte (fields_of e) → wrote k ≡ writing e out
@@ -64,13 +67,13 @@ unfolding written_again old_bytes
 again_unread s out a k is answered = (rw (← answered, is) refl, rw (← answered, is) refl)
 
 pub again_refused :
-    (s out : List ℕ) (e : Event) (n : ℕ) → AllBytes s → read_first s ≡ event e n → refused 17 0 ≡ writing e out
-    → (refused 17 0 ≡ written_again s out) × (written e out ≡ old_bytes s out)
+    (s out : List ℕ) (e : Event) (n k : ℕ) → AllBytes s → read_first s ≡ event e n → refused k 0 ≡ writing e out
+    → (refused k 0 ≡ written_again s out) × (written e out ≡ old_bytes s out)
 unfolding written_again written old_bytes
-again_refused s out e n b read h =
-    let short = no_room e out h in
+again_refused s out e n k b read h =
+    let (short, is_17) = no_room e out k h in
     let again : ltb (length out) n ≡ true = rw (size_is s e n b read) at short in
-    (rw (read, again) refl, rw (short, read, again) refl)
+    (rw (is_17, read, again) refl, rw (short, read, again) refl)
 
 pub again_written :
     (s out : List ℕ) (e : Event) (n k : ℕ) → AllBytes s → read_first s ≡ event e n → wrote k ≡ writing e out
@@ -81,3 +84,8 @@ again_written s out e n k b read h =
     let size = size_is s e n b read in
     let again : ltb (length out) n ≡ false = rw size at long in
     (rw (read, again) refl, rw (long, size, read_write s e n b read, read, again) refl)
+
+-- the ways of the two round trips
+pub ruleset back = (back_refused, back_read)
+
+pub ruleset again = (again_unread, again_refused, again_written)

@@ -7,44 +7,54 @@ mod show;
 
 use record::{Event, Fields};
 use show::{
-    again, back, later, name, parts_of, read, read_from, scan, scan_from, title, write, write_short,
+    again, back, later, name, parts_of, read, read_from, scan, scan_from, write, write_short,
 };
 use std::io::Result;
 
 // Refusals 1 to 4 and the begin record B, each alone and with other bytes behind it.
 fn examples(rt: &impl Print) -> Result<()> {
-    title(rt, b"examples")?;
-    read(rt, b"")?;
-    read(rt, b"\x08\x00\x01")?;
-    read(rt, b"\x02\x00\x63\x00")?;
-    read(rt, b"\x04\x00\x09\x00\x00\x00")?;
-    read(rt, b"\x08\x00\x01\x00\x01\x00\x01\x00\x02\x00")?;
-    read(rt, b"\x08\x00\x01\x00\x01\x00\x01\x00\x02\x00\x07")?;
+    println!(rt; "-- examples")?;
+    let records: [&[u8]; 6] = [
+        b"",
+        b"\x08\x00\x01",
+        b"\x02\x00\x63\x00",
+        b"\x04\x00\x09\x00\x00\x00",
+        b"\x08\x00\x01\x00\x01\x00\x01\x00\x02\x00",
+        b"\x08\x00\x01\x00\x01\x00\x01\x00\x02\x00\x07",
+    ];
+    for s in records {
+        read(rt, s)?;
+    }
     Ok(())
 }
 
 // Lengths 0, 1 and 2, a single byte left over, and every way to be cut short.
 fn lengths(rt: &impl Print) -> Result<()> {
-    title(rt, b"lengths")?;
-    read(rt, b"\x00")?;
-    read(rt, b"\x01")?;
-    read(rt, b"\x08")?;
-    read(rt, b"\x00\x00")?;
-    read(rt, b"\x01\x00")?;
-    read(rt, b"\x00\x00\x09\x00")?;
-    read(rt, b"\x01\x00\x09")?;
-    read(rt, b"\x02\x00")?;
-    read(rt, b"\x02\x00\x09")?;
-    read(rt, b"\x02\x00\x09\x00")?;
-    read(rt, b"\x04\x00\x03\x00\x05")?;
-    read(rt, b"\x04\x00\x03\x00\x05\x00")?;
-    read(rt, b"\xff\xff\x09\x00")?;
+    println!(rt; "-- lengths")?;
+    let records: [&[u8]; 13] = [
+        b"\x00",
+        b"\x01",
+        b"\x08",
+        b"\x00\x00",
+        b"\x01\x00",
+        b"\x00\x00\x09\x00",
+        b"\x01\x00\x09",
+        b"\x02\x00",
+        b"\x02\x00\x09",
+        b"\x02\x00\x09\x00",
+        b"\x04\x00\x03\x00\x05",
+        b"\x04\x00\x03\x00\x05\x00",
+        b"\xff\xff\x09\x00",
+    ];
+    for s in records {
+        read(rt, s)?;
+    }
     Ok(())
 }
 
 // A record of length 65,535 with all its bytes: an unknown kind, then a kind of another length.
 fn longest(rt: &impl Print) -> Result<()> {
-    title(rt, b"longest")?;
+    println!(rt; "-- longest")?;
     let mut bytes = [1u8; 65537];
     bytes[0] = 255;
     bytes[1] = 255;
@@ -57,25 +67,30 @@ fn longest(rt: &impl Print) -> Result<()> {
 
 // Kinds that are not in the table, and known kinds of a wrong length; the order of the tests between them.
 fn kinds(rt: &impl Print) -> Result<()> {
-    title(rt, b"kinds")?;
-    read(rt, b"\x02\x00\x00\x00")?;
-    read(rt, b"\x02\x00\x0c\x00")?;
-    read(rt, b"\x02\x00\x0d\x00")?;
-    read(rt, b"\x04\x00\x0e\x00\x00\x00")?;
-    read(rt, b"\x02\x00\x0f\x00")?;
-    read(rt, b"\x04\x00\x10\x00\x00\x00")?;
-    read(rt, b"\x02\x00\x11\x00")?;
-    read(rt, b"\x02\x00\x09\x01")?;
-    read(rt, b"\x04\x00\x63\x00\x00")?;
-    read(rt, b"\x09\x00\x01\x00\x01\x00\x01\x00\x02\x00\x00")?;
-    read(rt, b"\x06\x00\x04\x00\x00\x00\x00\x00")?;
-    read(rt, b"\x02\x00\x02\x00")?;
+    println!(rt; "-- kinds")?;
+    let records: [&[u8]; 12] = [
+        b"\x02\x00\x00\x00",
+        b"\x02\x00\x0c\x00",
+        b"\x02\x00\x0d\x00",
+        b"\x04\x00\x0e\x00\x00\x00",
+        b"\x02\x00\x0f\x00",
+        b"\x04\x00\x10\x00\x00\x00",
+        b"\x02\x00\x11\x00",
+        b"\x02\x00\x09\x01",
+        b"\x04\x00\x63\x00\x00",
+        b"\x09\x00\x01\x00\x01\x00\x01\x00\x02\x00\x00",
+        b"\x06\x00\x04\x00\x00\x00\x00\x00",
+        b"\x02\x00\x02\x00",
+    ];
+    for s in records {
+        read(rt, s)?;
+    }
     Ok(())
 }
 
 // Every kind, written and framed, and both round trips, with field values from 0 to 65,535.
 fn every_kind(rt: &impl Print) -> Result<()> {
-    title(rt, b"every kind")?;
+    println!(rt; "-- every kind")?;
     kinds_to_fences(rt)?;
     kinds_from_crash(rt)?;
     Ok(())
@@ -158,7 +173,7 @@ fn kinds_from_crash(rt: &impl Print) -> Result<()> {
 
 // Outputs that are too short, and one that just fits.
 fn short_outputs(rt: &impl Print) -> Result<()> {
-    title(rt, b"short outputs")?;
+    println!(rt; "-- short outputs")?;
     write_short(rt, Event::Crash, 3)?;
     write_short(rt, Event::Crash, 0)?;
     write_short(rt, Event::Crash, 4)?;
@@ -185,7 +200,7 @@ fn short_outputs(rt: &impl Print) -> Result<()> {
 
 // Round trips with too short an output, and with one that just fits; refusals 1 to 4; other bytes behind a record.
 fn refused_trips(rt: &impl Print) -> Result<()> {
-    title(rt, b"refused trips")?;
+    println!(rt; "-- refused trips")?;
     let mut three = [238u8; 3];
     let mut four = [238u8; 4];
     let mut twelve = [238u8; 12];
@@ -203,17 +218,12 @@ fn refused_trips(rt: &impl Print) -> Result<()> {
 
 // Record by record through B, an issue and a crash; then at the end, past it, and inside a record.
 fn positions(rt: &impl Print) -> Result<()> {
-    title(rt, b"positions")?;
+    println!(rt; "-- positions")?;
     let trace =
         b"\x08\x00\x01\x00\x01\x00\x01\x00\x02\x00\x06\x00\x02\x00\x00\x00\x01\x00\x02\x00\x09\x00";
-    read_from(rt, trace, 0)?;
-    read_from(rt, trace, 10)?;
-    read_from(rt, trace, 18)?;
-    read_from(rt, trace, 22)?;
-    read_from(rt, trace, 23)?;
-    read_from(rt, trace, 18446744073709551615)?;
-    read_from(rt, trace, 2)?;
-    read_from(rt, trace, 21)?;
+    for at in [0, 10, 18, 22, 23, usize::MAX, 2, 21] {
+        read_from(rt, trace, at)?;
+    }
     Ok(())
 }
 
@@ -221,35 +231,36 @@ fn positions(rt: &impl Print) -> Result<()> {
 // wait; an open and a close, with their lengths and with others; then refusals 2, 3 and 4 with ten bytes and with
 // fewer.
 fn scans(rt: &impl Print) -> Result<()> {
-    title(rt, b"scans")?;
+    println!(rt; "-- scans")?;
     let trace =
         b"\x08\x00\x01\x00\x01\x00\x01\x00\x02\x00\x08\x00\x04\x00\x01\x00\x02\x00\x03\x01\x02\x00\x09\x00";
-    scan_from(rt, trace, 0)?;
-    scan_from(rt, trace, 10)?;
-    scan_from(rt, trace, 20)?;
-    scan_from(rt, trace, 24)?;
-    scan_from(rt, trace, 18446744073709551615)?;
-    scan_from(rt, trace, 2)?;
-    scan_from(rt, trace, 22)?;
-    scan(rt, b"\x08\x00\x0c\x00\x03\x00\x04\x00\x04\x01")?;
-    scan(rt, b"\x06\x00\x0e\x00\x06\x00\x05\x01")?;
-    scan(rt, b"\x04\x00\x0f\x00\x07\x00")?;
-    scan(rt, b"\x06\x00\x10\x00\x08\x00\xfe\xff")?;
-    scan(rt, b"\x06\x00\x0f\x00\x07\x00\x00\x00")?;
-    scan(rt, b"\x04\x00\x10\x00\x08\x00\x02\x00\x09\x00")?;
-    scan(rt, b"")?;
-    scan(rt, b"\x09\x00\x01\x00\x01\x00\x01\x00\x02\x00")?;
-    scan(rt, b"\x08\x00\x01")?;
-    scan(rt, b"\x02\x00\x11\x00\x02\x00\x09\x00\x02\x00\x09\x00")?;
-    scan(rt, b"\x02\x00\x63\x00")?;
-    scan(rt, b"\x04\x00\x09\x00\x00\x00\x02\x00\x09\x00")?;
-    scan(rt, b"\x04\x00\x09\x00\x00\x00")?;
+    for at in [0, 10, 20, 24, usize::MAX, 2, 22] {
+        scan_from(rt, trace, at)?;
+    }
+    let records: [&[u8]; 13] = [
+        b"\x08\x00\x0c\x00\x03\x00\x04\x00\x04\x01",
+        b"\x06\x00\x0e\x00\x06\x00\x05\x01",
+        b"\x04\x00\x0f\x00\x07\x00",
+        b"\x06\x00\x10\x00\x08\x00\xfe\xff",
+        b"\x06\x00\x0f\x00\x07\x00\x00\x00",
+        b"\x04\x00\x10\x00\x08\x00\x02\x00\x09\x00",
+        b"",
+        b"\x09\x00\x01\x00\x01\x00\x01\x00\x02\x00",
+        b"\x08\x00\x01",
+        b"\x02\x00\x11\x00\x02\x00\x09\x00\x02\x00\x09\x00",
+        b"\x02\x00\x63\x00",
+        b"\x04\x00\x09\x00\x00\x00\x02\x00\x09\x00",
+        b"\x04\x00\x09\x00\x00\x00",
+    ];
+    for s in records {
+        scan(rt, s)?;
+    }
     Ok(())
 }
 
 // Kinds of the table by number, and numbers that are none.
 fn names(rt: &impl Print) -> Result<()> {
-    title(rt, b"names")?;
+    println!(rt; "-- names")?;
     let f = Fields {
         thread: 4,
         location: 5,
@@ -259,24 +270,15 @@ fn names(rt: &impl Print) -> Result<()> {
         locations: 3,
         outcome: 7,
     };
-    name(rt, 0, f)?;
-    name(rt, 1, f)?;
-    name(rt, 4, f)?;
-    name(rt, 9, f)?;
-    name(rt, 11, f)?;
-    name(rt, 12, f)?;
-    name(rt, 13, f)?;
-    name(rt, 14, f)?;
-    name(rt, 15, f)?;
-    name(rt, 16, f)?;
-    name(rt, 17, f)?;
-    name(rt, 65535, f)?;
+    for kind in [0, 1, 4, 9, 11, 12, 13, 14, 15, 16, 17, 65535] {
+        name(rt, kind, f)?;
+    }
     Ok(())
 }
 
 // Parts of a whole trace, of one with an unknown kind, of one with a length under 2, and of one that is cut short.
 fn parts(rt: &impl Print) -> Result<()> {
-    title(rt, b"parts")?;
+    println!(rt; "-- parts")?;
     parts_of(rt, b"")?;
     parts_of(
         rt,
@@ -291,7 +293,7 @@ fn parts(rt: &impl Print) -> Result<()> {
 // What refuses the record at a position behind the first, by the trace's version, where a number refuses it read alone:
 // an open of a wrong length behind B, a crash of one, a close whose bytes are missing, and the end.
 fn versions(rt: &impl Print) -> Result<()> {
-    title(rt, b"versions")?;
+    println!(rt; "-- versions")?;
     let trace =
         b"\x08\x00\x01\x00\x01\x00\x01\x00\x02\x00\x02\x00\x0f\x00\x03\x00\x09\x00\x00\x06\x00\x10\x00";
     later(rt, trace, 1, 10, 4)?;
@@ -300,7 +302,7 @@ fn versions(rt: &impl Print) -> Result<()> {
     later(rt, trace, 1, 14, 4)?;
     later(rt, trace, 1, 19, 2)?;
     later(rt, trace, 1, 23, 1)?;
-    later(rt, trace, 1, 18446744073709551615, 4)?;
+    later(rt, trace, 1, usize::MAX, 4)?;
     Ok(())
 }
 

@@ -1,318 +1,211 @@
 // Prints what a call of the record crate, or a round trip over its calls, answers, a line a call.
 use crate::round_trips::{read_back, write_again};
-use record::{Event, Fields, Named, Read, Scanned, Written};
-use std::io::Result;
+use record::{Event, Fields, Read, Refusal, Scan};
+use std::{fmt, io};
 
-fn say(rt: &impl Print, text: &[u8]) -> Result<()> {
-    rt.write_all(text)
-}
+// Bytes in hexadecimal, each behind a space.
+#[derive(Clone, Copy)]
+struct Hex<'a>(&'a [u8]);
 
-fn wide(x: u16) -> u64 {
-    x as u64
-}
-
-fn hex_byte(rt: &impl Print, x: u8) -> Result<()> {
-    say(rt, b" ")?;
-    print!(rt; "{x:02x}")
-}
-
-fn number(rt: &impl Print, n: u64) -> Result<()> {
-    say(rt, b" ")?;
-    print!(rt; "{n}")
-}
-
-fn value(rt: &impl Print, x: u16) -> Result<()> {
-    number(rt, wide(x))?;
-    Ok(())
-}
-
-// The bytes in hexadecimal, each behind a space.
-fn hex(rt: &impl Print, s: &[u8]) -> Result<()> {
-    for x in s {
-        hex_byte(rt, *x)?;
+impl<'a> fmt::Display for Hex<'a> {
+    fn fmt<W: fmt::Write>(&self, f: &mut fmt::Formatter<W>) -> fmt::Result {
+        for x in self.0 {
+            write!(f, " {x:02x}")?;
+        }
+        Ok(())
     }
-    Ok(())
 }
 
-pub fn title(rt: &impl Print, text: &[u8]) -> Result<()> {
-    say(rt, b"-- ")?;
-    say(rt, text)?;
-    say(rt, b"\n")?;
-    Ok(())
-}
+// A value of the record crate, as its line has it.
+#[derive(Clone, Copy)]
+struct Shown<T>(T);
 
-fn event(rt: &impl Print, e: Event) -> Result<()> {
-    match e {
-        Event::Begin {
-            version,
-            threads,
-            locations,
-        } => {
-            say(rt, b" begin")?;
-            value(rt, version)?;
-            value(rt, threads)?;
-            value(rt, locations)?;
-        }
-        Event::Issue { thread, location } => of_location(rt, b" issue", thread, location)?,
-        Event::Commit { thread } => of_thread(rt, b" commit", thread)?,
-        Event::Load {
-            thread,
-            location,
-            source,
-        } => of_source(rt, b" load", thread, location, source)?,
-        Event::Clflush { thread, location } => of_location(rt, b" clflush", thread, location)?,
-        Event::Clwb { thread, location } => of_location(rt, b" clwb", thread, location)?,
-        Event::Sfence { thread } => of_thread(rt, b" sfence", thread)?,
-        Event::Mfence { thread } => of_thread(rt, b" mfence", thread)?,
-        Event::Crash => say(rt, b" crash")?,
-        Event::SkipOn { thread } => of_thread(rt, b" skip-on", thread)?,
-        Event::SkipOff { thread } => of_thread(rt, b" skip-off", thread)?,
-        Event::Locked {
-            thread,
-            location,
-            source,
-        } => of_source(rt, b" locked", thread, location, source)?,
-        Event::Signal { thread } => of_thread(rt, b" signal", thread)?,
-        Event::Wait { thread, source } => {
-            of_thread(rt, b" wait", thread)?;
-            value(rt, source)?;
-        }
-        Event::Open { thread } => of_thread(rt, b" open", thread)?,
-        Event::Close { thread, outcome } => {
-            of_thread(rt, b" close", thread)?;
-            value(rt, outcome)?;
+impl fmt::Display for Shown<Event> {
+    fn fmt<W: fmt::Write>(&self, f: &mut fmt::Formatter<W>) -> fmt::Result {
+        match self.0 {
+            Event::Begin {
+                version,
+                threads,
+                locations,
+            } => write!(f, "begin {version} {threads} {locations}"),
+            Event::Issue { thread, location } => write!(f, "issue {thread} {location}"),
+            Event::Commit { thread } => write!(f, "commit {thread}"),
+            Event::Load {
+                thread,
+                location,
+                source,
+            } => write!(f, "load {thread} {location} {source}"),
+            Event::Clflush { thread, location } => write!(f, "clflush {thread} {location}"),
+            Event::Clwb { thread, location } => write!(f, "clwb {thread} {location}"),
+            Event::Sfence { thread } => write!(f, "sfence {thread}"),
+            Event::Mfence { thread } => write!(f, "mfence {thread}"),
+            Event::Crash => write!(f, "crash"),
+            Event::SkipOn { thread } => write!(f, "skip-on {thread}"),
+            Event::SkipOff { thread } => write!(f, "skip-off {thread}"),
+            Event::Locked {
+                thread,
+                location,
+                source,
+            } => write!(f, "locked {thread} {location} {source}"),
+            Event::Signal { thread } => write!(f, "signal {thread}"),
+            Event::Wait { thread, source } => write!(f, "wait {thread} {source}"),
+            Event::Open { thread } => write!(f, "open {thread}"),
+            Event::Close { thread, outcome } => write!(f, "close {thread} {outcome}"),
         }
     }
-    Ok(())
 }
 
-fn of_thread(rt: &impl Print, name: &[u8], thread: u16) -> Result<()> {
-    say(rt, name)?;
-    value(rt, thread)?;
-    Ok(())
+impl fmt::Display for Shown<Read> {
+    fn fmt<W: fmt::Write>(&self, f: &mut fmt::Formatter<W>) -> fmt::Result {
+        let event = Shown(self.0.event);
+        let next = self.0.next;
+        write!(f, "{event}, next {next}")
+    }
 }
 
-fn of_location(rt: &impl Print, name: &[u8], thread: u16, location: u16) -> Result<()> {
-    of_thread(rt, name, thread)?;
-    value(rt, location)?;
-    Ok(())
+impl fmt::Display for Shown<Fields> {
+    fn fmt<W: fmt::Write>(&self, f: &mut fmt::Formatter<W>) -> fmt::Result {
+        let x = self.0;
+        write!(
+            f,
+            "{} {} {} {} {} {} {}",
+            x.thread, x.location, x.source, x.version, x.threads, x.locations, x.outcome
+        )
+    }
 }
 
-fn of_source(rt: &impl Print, name: &[u8], thread: u16, location: u16, source: u16) -> Result<()> {
-    of_location(rt, name, thread, location)?;
-    value(rt, source)?;
-    Ok(())
+impl fmt::Display for Shown<Scan> {
+    fn fmt<W: fmt::Write>(&self, f: &mut fmt::Formatter<W>) -> fmt::Result {
+        let fields = Shown(self.0.fields);
+        write!(
+            f,
+            "kind {}, fields {fields}, next {}",
+            self.0.kind, self.0.next
+        )
+    }
 }
 
-fn found(rt: &impl Print, r: Read) -> Result<()> {
-    match r {
-        Read::Record(e, n) => {
-            event(rt, e)?;
-            say(rt, b", next")?;
-            number(rt, n as u64)?;
-        }
-        Read::Refused(k) => {
-            say(rt, b" refused")?;
-            value(rt, k)?;
+impl fmt::Display for Shown<usize> {
+    fn fmt<W: fmt::Write>(&self, f: &mut fmt::Formatter<W>) -> fmt::Result {
+        write!(f, "{}", self.0)
+    }
+}
+
+// What a call answered, or the refusal's number.
+#[derive(Clone, Copy)]
+struct Answer<T>(Result<T, Refusal>);
+
+impl<T: Copy> fmt::Display for Answer<T>
+where
+    Shown<T>: fmt::Display,
+{
+    fn fmt<W: fmt::Write>(&self, f: &mut fmt::Formatter<W>) -> fmt::Result {
+        match self.0 {
+            Ok(answer) => write!(f, "{}", Shown(answer)),
+            Err(refusal) => write!(f, "refused {}", refusal.number()),
         }
     }
-    Ok(())
-}
-
-fn answer(rt: &impl Print, r: Read) -> Result<()> {
-    found(rt, r)?;
-    say(rt, b"\n")?;
-    Ok(())
-}
-
-fn answer_and_output(rt: &impl Print, r: Read, out: &[u8]) -> Result<()> {
-    found(rt, r)?;
-    say(rt, b", output")?;
-    hex(rt, out)?;
-    say(rt, b"\n")?;
-    Ok(())
 }
 
 // The bytes, and the first record's event and size or the refusal.
-pub fn read(rt: &impl Print, s: &[u8]) -> Result<()> {
-    say(rt, b"read")?;
-    hex(rt, s)?;
-    say(rt, b":")?;
-    answer(rt, record::read_first(s))?;
-    Ok(())
+pub fn read(rt: &impl Print, s: &[u8]) -> io::Result<()> {
+    println!(rt; "read{}: {}", Hex(s), Answer(record::read_first(s)))
 }
 
 // The record at a position.
-pub fn read_from(rt: &impl Print, s: &[u8], at: usize) -> Result<()> {
-    say(rt, b"read at")?;
-    number(rt, at as u64)?;
-    say(rt, b":")?;
-    answer(rt, record::read_at(s, at))?;
-    Ok(())
-}
-
-fn fields(rt: &impl Print, f: Fields) -> Result<()> {
-    value(rt, f.thread)?;
-    value(rt, f.location)?;
-    value(rt, f.source)?;
-    value(rt, f.version)?;
-    value(rt, f.threads)?;
-    value(rt, f.locations)?;
-    value(rt, f.outcome)?;
-    Ok(())
-}
-
-fn numbers(rt: &impl Print, s: Scanned) -> Result<()> {
-    match s {
-        Scanned::Record(r) => {
-            say(rt, b" kind")?;
-            value(rt, r.kind)?;
-            say(rt, b", fields")?;
-            fields(rt, r.fields)?;
-            say(rt, b", next")?;
-            number(rt, r.next as u64)?;
-        }
-        Scanned::Refused(k) => {
-            say(rt, b" refused")?;
-            value(rt, k)?;
-        }
-    }
-    say(rt, b"\n")?;
-    Ok(())
+pub fn read_from(rt: &impl Print, s: &[u8], at: usize) -> io::Result<()> {
+    println!(rt; "read at {at}: {}", Answer(record::read_at(s, at)))
 }
 
 // The bytes, and the first record's numbers or the refusal.
-pub fn scan(rt: &impl Print, s: &[u8]) -> Result<()> {
-    say(rt, b"scan")?;
-    hex(rt, s)?;
-    say(rt, b":")?;
-    numbers(rt, record::scan_at(s, 0))?;
-    Ok(())
+pub fn scan(rt: &impl Print, s: &[u8]) -> io::Result<()> {
+    println!(rt; "scan{}: {}", Hex(s), Answer(record::scan_at(s, 0)))
 }
 
 // The numbers of the record at a position: its kind, its fields (thread, location, source, version, threads, locations
 // and outcome) and the position past it.
-pub fn scan_from(rt: &impl Print, s: &[u8], at: usize) -> Result<()> {
-    say(rt, b"scan at")?;
-    number(rt, at as u64)?;
-    say(rt, b":")?;
-    numbers(rt, record::scan_at(s, at))?;
-    Ok(())
+pub fn scan_from(rt: &impl Print, s: &[u8], at: usize) -> io::Result<()> {
+    println!(rt; "scan at {at}: {}", Answer(record::scan_at(s, at)))
 }
 
 // What refuses the record at a position of a trace of that version, where number k refuses it read alone.
-pub fn later(rt: &impl Print, s: &[u8], version: u16, at: usize, k: u16) -> Result<()> {
-    say(rt, b"in version")?;
-    value(rt, version)?;
-    say(rt, b" at")?;
-    number(rt, at as u64)?;
-    say(rt, b", alone")?;
-    value(rt, k)?;
-    say(rt, b":")?;
-    value(rt, record::later_refusal(version, s, at, k))?;
-    say(rt, b"\n")?;
-    Ok(())
+pub fn later(rt: &impl Print, s: &[u8], version: u16, at: usize, k: u16) -> io::Result<()> {
+    let number = record::later_refusal(version, s, at, k);
+    println!(rt; "in version {version} at {at}, alone {k}: {number}")
 }
 
 // The event of a kind with these fields.
-pub fn name(rt: &impl Print, kind: u16, f: Fields) -> Result<()> {
-    say(rt, b"event of kind")?;
-    value(rt, kind)?;
-    say(rt, b":")?;
-    let n = record::event_of(kind, f);
-    match n {
-        Named::Known(e) => event(rt, e)?,
-        Named::NoKind => say(rt, b" no kind")?,
+pub fn name(rt: &impl Print, kind: u16, f: Fields) -> io::Result<()> {
+    match record::event_of(kind, f) {
+        Some(e) => println!(rt; "event of kind {kind}: {}", Shown(e)),
+        None => println!(rt; "event of kind {kind}: no kind"),
     }
-    say(rt, b"\n")?;
-    Ok(())
 }
 
 // An event written into the output: the answer, and what the output holds afterwards.
-fn write_into(rt: &impl Print, e: Event, out: &mut [u8]) -> Result<()> {
-    say(rt, b"write")?;
-    event(rt, e)?;
-    say(rt, b" into")?;
-    number(rt, out.len() as u64)?;
-    say(rt, b":")?;
-    let w = record::write(e, out);
-    match w {
-        Written::Done(n) => number(rt, n as u64)?,
-        Written::NoRoom => say(rt, b" refused 17")?,
-    }
-    say(rt, b", output")?;
-    hex(rt, out)?;
-    say(rt, b"\n")?;
-    Ok(())
+fn write_into(rt: &impl Print, e: Event, out: &mut [u8]) -> io::Result<()> {
+    let written = Answer(record::write(e, out));
+    println!(rt;
+        "write {} into {}: {written}, output{}",
+        Shown(e),
+        out.len(),
+        Hex(out)
+    )
 }
 
 // An event written into an output of so many bytes, at most twelve.
-pub fn write_short(rt: &impl Print, e: Event, room: usize) -> Result<()> {
+pub fn write_short(rt: &impl Print, e: Event, room: usize) -> io::Result<()> {
     let mut out = [238u8; 12];
-    if room <= 12 {
-        write_into(rt, e, &mut out[..room])?;
+    match out.get_mut(..room) {
+        Some(short) => write_into(rt, e, short),
+        None => Ok(()),
     }
-    Ok(())
 }
 
 // An event written into the output and read back, and what the output holds afterwards.
-pub fn back(rt: &impl Print, e: Event, out: &mut [u8]) -> Result<()> {
-    say(rt, b"back")?;
-    event(rt, e)?;
-    say(rt, b" into")?;
-    number(rt, out.len() as u64)?;
-    say(rt, b":")?;
-    let r = read_back(e, out);
-    answer_and_output(rt, r, out)?;
-    Ok(())
+pub fn back(rt: &impl Print, e: Event, out: &mut [u8]) -> io::Result<()> {
+    let answer = Answer(read_back(e, out));
+    println!(rt;
+        "back {} into {}: {answer}, output{}",
+        Shown(e),
+        out.len(),
+        Hex(out)
+    )
 }
 
 // The first record of some bytes read and written again into the output, and what the output holds afterwards.
-pub fn again(rt: &impl Print, s: &[u8], out: &mut [u8]) -> Result<()> {
-    say(rt, b"again")?;
-    hex(rt, s)?;
-    say(rt, b" into")?;
-    number(rt, out.len() as u64)?;
-    say(rt, b":")?;
-    let r = write_again(s, out);
-    answer_and_output(rt, r, out)?;
-    Ok(())
+pub fn again(rt: &impl Print, s: &[u8], out: &mut [u8]) -> io::Result<()> {
+    let answer = Answer(write_again(s, out));
+    println!(rt;
+        "again{} into {}: {answer}, output{}",
+        Hex(s),
+        out.len(),
+        Hex(out)
+    )
 }
 
 // An event written into twelve bytes and framed; then written and read back, and its record written again.
-pub fn write(rt: &impl Print, e: Event) -> Result<()> {
+pub fn write(rt: &impl Print, e: Event) -> io::Result<()> {
     let mut out = [238u8; 12];
     write_into(rt, e, &mut out)?;
-    say(rt, b"  part 0:")?;
-    hex(rt, record::part(&out, 0))?;
-    say(rt, b"\n")?;
+    part(rt, &out, 0)?;
     let mut trip = [238u8; 12];
-    say(rt, b"  ")?;
+    print!(rt; "  ")?;
     back(rt, e, &mut trip)?;
     let mut copy = [238u8; 12];
-    say(rt, b"  ")?;
-    again(rt, &trip, &mut copy)?;
-    Ok(())
+    print!(rt; "  ")?;
+    again(rt, &trip, &mut copy)
 }
 
-fn part(rt: &impl Print, s: &[u8], e: usize) -> Result<()> {
-    say(rt, b"  part")?;
-    number(rt, e as u64)?;
-    say(rt, b":")?;
-    hex(rt, record::part(s, e))?;
-    say(rt, b"\n")?;
-    Ok(())
+fn part(rt: &impl Print, s: &[u8], e: usize) -> io::Result<()> {
+    println!(rt; "  part {e}:{}", Hex(record::part(s, e)))
 }
 
 // Parts 0 to 3 of a trace, and one far past its end.
-pub fn parts_of(rt: &impl Print, s: &[u8]) -> Result<()> {
-    say(rt, b"trace")?;
-    hex(rt, s)?;
-    say(rt, b"\n")?;
-    part(rt, s, 0)?;
-    part(rt, s, 1)?;
-    part(rt, s, 2)?;
-    part(rt, s, 3)?;
-    part(rt, s, 18446744073709551615)?;
+pub fn parts_of(rt: &impl Print, s: &[u8]) -> io::Result<()> {
+    println!(rt; "trace{}", Hex(s))?;
+    for e in [0, 1, 2, 3, usize::MAX] {
+        part(rt, s, e)?;
+    }
     Ok(())
 }

@@ -3,8 +3,6 @@ ghost use Rattle.std.specs.Prelude.{◌≡◌, ◌+◌, ◌≤◌, min, eqb};
 ghost use Rattle.model.specs.Search.{bit};
 ghost use Rattle.report.specs.Extent.{threads_of, finished_of};
 
-use record::Read;
-
 const CRASH: u16 = 9;
 
 #[derive(Clone, Copy, Debug, PartialEq, Eq)]
@@ -14,14 +12,14 @@ pub struct Shape {
 }
 
 // The threads of the first record; 0 if it is no begin or cannot be read.
+#[tactic(auto, using(crate::proofs::Extents::threads_read, crate::proofs::Extents::threads_unread))]
 fn threads_in(trace: &[u8]) -> u16
     ensures { result ≡ threads_of trace.now }
 {
-    let Read::Record(event, _) = record::read_at(trace, 0) else {
+    let Ok(read) = record::read_at(trace, 0) else {
         return 0;
     };
-    let f = record::fields_of(event);
-    f.threads
+    record::fields_of(read.event).threads
 }
 
 // One more where the kind is a crash's, up to 7.
@@ -37,15 +35,11 @@ fn crashed(finished: u16, kind: u16) -> u16
 fn finished_in(trace: &[u8]) -> u16
     ensures { result ≡ finished_of trace.now }
 {
-    let mut at: usize = 0;
-    let mut finished: u16 = 0;
-    while at < trace.len() {
-        let Read::Record(event, next) = record::read_at(trace, at) else {
-            return finished;
-        };
-        let kind = record::kind_of(event);
-        finished = crashed(finished, kind);
-        at = next;
+    let mut at = 0;
+    let mut finished = 0;
+    while let Ok(read) = record::read_at(trace, at) {
+        finished = crashed(finished, record::kind_of(read.event));
+        at = read.next;
     }
     finished
 }
@@ -56,7 +50,8 @@ fn finished_in(trace: &[u8]) -> u16
 pub fn shape_of(trace: &[u8]) -> Shape
     ensures { (result.threads ≡ threads_of trace.now) × (result.finished ≡ finished_of trace.now) }
 {
-    let threads = threads_in(trace);
-    let finished = finished_in(trace);
-    Shape { threads, finished }
+    Shape {
+        threads: threads_in(trace),
+        finished: finished_in(trace),
+    }
 }

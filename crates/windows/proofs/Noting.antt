@@ -19,6 +19,7 @@ use Rattle.std.proofs.lemmas.List.{get_or-replicate}
 use Rattle.record.specs.declared.events.Event.{Event}
 use Rattle.record.proofs.Sources.{as_source, sourced_kinds}
 use Rattle.record.specs.Parts.{no_source}
+use Rattle.std.specs.Prelude.{Some}
 use Rattle.record.specs.Tests.{◌gives◌else◌}
 use Rattle.model.specs.Search.{last}
 use Rattle.model.specs.Trace.{kind, thread, source, has_thread?, issue?, load?, wait?, Issue, Load, Wait, stretch}
@@ -319,7 +320,7 @@ module _
             → Shown ev p q (suc n) (suc n)
             (noted work p q found n
             ((load? ev n || wait? ev n) gives
-            record { sourced = true; thread = T; source = s; next = past } else
+            record { source = Some (record { thread = T; source = s }); next = past } else
             no_source past))
         by_role (inl loads) waits =
             rw (or_left (load? ev n) (wait? ev n) loads)

@@ -2,6 +2,7 @@
 -- and the windows that this gives. What is found is a list of each thread's ends.
 use Rattle.std.specs.Prelude.{ℕ, zero, suc, ◌-◌, ◌%◌, Bool, ◌&&◌, List, map, get_or, set, replicate, leb}
 use Rattle.std.specs.Prelude.{Option, Some, None, is_some, is_none}
+use Rattle.record.specs.declared.parts.Source.{Source}
 use Rattle.record.specs.declared.parts.SourceAt.{SourceAt}
 use Rattle.record.specs.Parts.{start, source_at}
 use Rattle.record.specs.Tests.{◌gives◌else◌}
@@ -51,12 +52,16 @@ abbrev pub noted_source : List ℕ → ℕ → List Ends → ℕ → ℕ → ℕ
 noted_source work p found e t s =
     (is_none (ends_at found (t % 8)).first && brings_w work p s) gives with_first found (t % 8) (up e) else found
 
+-- event e, if it has a source
+abbrev pub noted_source_if : List ℕ → ℕ → List Ends → ℕ → Option Source → List Ends
+noted_source_if work p found e None = found
+noted_source_if work p found e (Some said) = noted_source work p found e said.thread said.source
+
 -- event e, with what its record says if it has a source: its store first, since the first place that its own load
 -- gives the thread is behind it
 abbrev pub noted : List ℕ → ℕ → ℕ → List Ends → ℕ → SourceAt → List Ends
 noted work p q found e said =
-    let stored = noted_store work q found e in
-    said.sourced gives noted_source work p stored e said.thread said.source else stored
+    noted_source_if work p (noted_store work q found e) e said.source
 
 -- ---- the records
 

@@ -11,8 +11,8 @@ fn note(found: &mut Found, work: &[u16], p: u16, q: u16, e: u16, said: SourceAt)
     ensures { found.new.threads ≡ noted work.now p q found.old.threads e said }
 {
     found.note_store(work, q, e);
-    if said.sourced {
-        found.note_source(work, p, e, said.thread, said.source);
+    if let Some(source) = said.source {
+        found.note_source(work, p, e, source.thread, source.source);
     }
 }
 

@@ -1,13 +1,8 @@
--- The size is that of the frame of the bytes from the position on.
-use Rattle.record.proofs.Starts.{size_of_tail}
+-- What has a size has a length and a kind, and ends within the trace.
+use Rattle.record.proofs.Starts.{size_of_rest}
 use Rattle.record.proofs.parts.size_at.Goals as goal
 
-pub returns-in-Size : goal.returns-in-Size
-returns-in-Size c =
-    size_of_tail c.args.trace.now c.args.at _ _
-    c.requires c.frame_of-f.ensures c.in-Size.is
-
-pub returns-in-Unframed : goal.returns-in-Unframed
-returns-in-Unframed c =
-    size_of_tail c.args.trace.now c.args.at _ _
-    c.requires c.frame_of-f.ensures c.in-Unframed.is
+pub returns-clause-within : goal.returns-clause-within
+returns-clause-within c =
+    let (inside, _, rest_is, _) = c.in-Some.ensures.lookup.0 in
+    rw c.unwrap_or.ensures (size_of_rest _ c.args.at _ rest_is _ inside c.frame_of.ensures).1

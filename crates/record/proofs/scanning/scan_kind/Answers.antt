@@ -1,22 +1,6 @@
--- A record that has its kind's length is read, and these are its numbers; any other is refused by its number.
-use mathlib.Core.Path.{refl, sym, ◌∙◌}
-use Rattle.record.proofs.Scans.{row_inside, scan_known, wrong_length}
+-- The fields that the kind's row places end within its record.
+use Rattle.record.proofs.Scans.{row_inside}
 use Rattle.record.proofs.scanning.scan_kind.Goals as goal
 
-pub returns-then-word_at-len : goal.returns-then-word_at-len
-returns-then-word_at-len c =
-    let unfit = c.if-word_at-len.true in
-    wrong_length c.args.trace.now c.args.at _ _ _ c.refusal_at.ensures c.requires.0
-    c.word_at.ensures
-    (rw c.row_of-row.ensures at unfit)
-
 pub fields_at-requires : goal.fields_at-requires
-fields_at-requires c =
-    row_inside c.args.trace.now c.args.at _ _ c.row_of-row.ensures c.requires.2
-
-pub returns : goal.returns
-returns c =
-    let length_is = sym c.if-word_at-len.false ∙ c.word_at.ensures in
-    rw c.wide.ensures.0
-    (scan_known c.args.trace.now c.args.at _ _ _ _ c.requires
-    c.row_of-row.ensures length_is refl c.fields_at.ensures)
+fields_at-requires c = row_inside c.args.trace.now c.args.at _ _ c.row_of-row.ensures c.requires.2

@@ -1,34 +1,22 @@
 -- What reading and writing answer says how far the record came.
-use mathlib.Core.Path.{sym, ap, ◌∙◌}
-use Rattle.record.specs.Answers.{read_answer, write_answer}
+use mathlib.Core.Path.{refl, sym, ◌∙◌}
+use borrow.Author.Rules.{rules}
 use Rattle.record_examples.proofs.Typed.{all_bytes}
-use Rattle.record_examples.proofs.RoundTrips.{again_unread, again_refused, again_written}
+use Rattle.record_examples.proofs.RoundTrips.{again_unread, again_refused}
 use Rattle.record_examples.proofs.round_trips.write_again.Goals as goal
 
-pub returns-in_default : goal.returns-in_default
-returns-in_default c =
-    let answered = c.read_first-r.ensures in
-    let told = again_unread _ _ _ _ (ap read_answer c.in_default.is) answered in
-    record { answer = told.0; bytes = told.1 }
+pub returns-in_err-read-clause-bytes : goal.returns-in_err-read-clause-bytes
+returns-in_err-read-clause-bytes c = (again_unread _ _ _ _ refl c.in_err-read.ensures).1
 
-pub returns-in_default-w : goal.returns-in_default-w
-returns-in_default-w c =
-    let wrote = c.write-w.ensures in
-    let each_byte = all_bytes c.args.bytes.now c.shared_slice_known-1.given in
-    let read = sym c.read_first-r.ensures ∙ ap read_answer c.in-Record.is in
-    let again = again_refused _ _ _ _ each_byte read (sym (ap write_answer c.in_default-w.is) ∙ wrote.answer) in
-    record {
-      answer = again.0;
-      bytes = wrote.bytes ∙ again.1;
-    }
+pub returns-in_err-write-clause-answer : goal.returns-in_err-write-clause-answer
+returns-in_err-write-clause-answer c =
+    let each_byte = all_bytes c.args.bytes.now c.type_inv.bytes in
+    let told = again_refused _ _ _ _ _ each_byte (sym c.in_ok-read.ensures) c.in_err-write.ensures.answer in
+    let again = told.0 in
+    search rules
 
-pub returns : goal.returns
-returns c =
-    let wrote = c.write-w.ensures in
-    let each_byte = all_bytes c.args.bytes.now c.shared_slice_known-1.given in
-    let read = sym c.read_first-r.ensures ∙ ap read_answer c.in-Record.is in
-    let again = again_written _ _ _ _ _ each_byte read (sym (ap write_answer c.in-Done.is) ∙ wrote.answer) in
-    record {
-      answer = again.0;
-      bytes = wrote.bytes ∙ again.1;
-    }
+pub returns-in_err-write-clause-bytes : goal.returns-in_err-write-clause-bytes
+returns-in_err-write-clause-bytes c =
+    let each_byte = all_bytes c.args.bytes.now c.type_inv.bytes in
+    let told = again_refused _ _ _ _ _ each_byte (sym c.in_ok-read.ensures) c.in_err-write.ensures.answer in
+    c.in_err-write.ensures.bytes ∙ told.1

@@ -5,8 +5,8 @@ use lib.ListN.{length}
 use Rattle.report.proofs.Extents.{Counted}
 use Rattle.report.proofs.shape.finished_in.Given as goal
 
-abbrev pub invariant-loop-at : goal.invariant-loop-at
-invariant-loop-at l = (l.finished ≤ 7) × Counted l.trace l.at l.finished
+abbrev pub invariant-loop-read : goal.invariant-loop-read
+invariant-loop-read l = (l.finished ≤ 7) × Counted l.trace l.at l.finished
 
-abbrev pub decreases-loop-at : goal.decreases-loop-at
-decreases-loop-at l = length l.trace - l.at
+abbrev pub decreases-loop-read : goal.decreases-loop-read
+decreases-loop-read l = length l.trace - l.at

@@ -1,4 +1,4 @@
--- The laws of proofs/Looking.antt: the next record is noted, or none is left.
+-- Each turn looks at one record more; at q none is left.
 use mathlib.Core.Path.{◌≡◌, ◌∙◌}
 use Prim.Native.Nat.{suc, ◌+◌}
 use native.Mathlib.Omega.{arith}
