@@ -1,6 +1,8 @@
 // The steps: each makes the tests of its kind, in document 01's order, and turns the event away by the first that
 // fails; else the event takes effect. An event that is turned away changes nothing. The caller sees to it that the
 // machine's row is a row's begin, and that the begin's numbers are in range (`Fits`).
+#![tactic(auto, using(crate::proofs::RuleLaws::number_some), unfolding(crate::specs::Effects::close_w, crate::specs::Effects::commit_w, crate::specs::Effects::crash_w, crate::specs::Effects::issue_w, crate::specs::Effects::meet_w, crate::specs::Effects::open_w, crate::specs::Effects::pass_w, crate::specs::Effects::signal_w, crate::specs::Effects::skip_w, crate::specs::Outcomes::by_rule, crate::specs::Twin::crashed, crate::specs::Twin::ticked,))]
+
 ghost use Rattle.std.specs.Prelude.{◌≡◌, List, ℕ, ◌+◌, ◌≤◌, ◌<◌, length};
 ghost use Rattle.machine.specs.Twin.{state_of, world, admits, admitted};
 ghost use Rattle.machine.specs.Turning.{Fits};
@@ -29,7 +31,6 @@ fn set_aside(tables: &mut Tables, work: &mut [u16], row: usize, t: u16, x: u16, 
 }
 
 impl Machine {
-    #[tactic(auto, using(crate::proofs::RuleLaws::number_some), unfolding(crate::specs::Outcomes::by_rule, crate::specs::Twin::ticked, crate::specs::Effects::issue_w))]
     fn issue(self, tables: &mut Tables, work: &mut [u16], t: u16, x: u16) -> Result<Step, Forbidden>
         requires { Fits self (length work.old) }
         ensures { outcome self result tables.new work.new
@@ -40,7 +41,6 @@ impl Machine {
         Ok(self.pass(false))
     }
 
-    #[tactic(auto, using(crate::proofs::RuleLaws::number_some), unfolding(crate::specs::Outcomes::by_rule, crate::specs::Twin::ticked, crate::specs::Effects::commit_w))]
     fn commit(self, tables: &mut Tables, work: &mut [u16], t: u16) -> Result<Step, Forbidden>
         requires { Fits self (length work.old) }
         ensures { outcome self result tables.new work.new
@@ -56,7 +56,6 @@ impl Machine {
     }
 
     // A load whose source must be store `only`, of the stretch.
-    #[tactic(auto, using(crate::proofs::RuleLaws::number_some), unfolding(crate::specs::Outcomes::by_rule, crate::specs::Twin::ticked, crate::specs::Effects::meet_w))]
     fn load_only(
         self,
         tables: &mut Tables,
@@ -146,7 +145,6 @@ impl Machine {
     }
 
     // The load rule: the newest waiting store, or what is in memory.
-    #[tactic(auto, using(crate::proofs::RuleLaws::number_some), unfolding(crate::specs::Outcomes::by_rule))]
     fn load(
         self,
         tables: &mut Tables,
@@ -167,7 +165,6 @@ impl Machine {
     }
 
     // A locked operation: a load, then an issue and a commit. Its thread may have no waiting store.
-    #[tactic(auto, using(crate::proofs::RuleLaws::number_some), unfolding(crate::specs::Outcomes::by_rule))]
     fn locked(
         self,
         tables: &mut Tables,
@@ -189,7 +186,6 @@ impl Machine {
         Ok(r)
     }
 
-    #[tactic(auto, using(crate::proofs::RuleLaws::number_some), unfolding(crate::specs::Outcomes::by_rule, crate::specs::Twin::ticked, crate::specs::Effects::pass_w))]
     fn flush(self, work: &mut [u16], t: u16, x: u16) -> Result<Step, Forbidden>
         requires { Fits self (length work.old) }
         ensures { (tables : List ℕ) → outcome self result tables work.new
@@ -201,7 +197,6 @@ impl Machine {
     }
 
     // An sfence, or an mfence.
-    #[tactic(auto, using(crate::proofs::RuleLaws::number_some), unfolding(crate::specs::Outcomes::by_rule, crate::specs::Twin::ticked, crate::specs::Effects::pass_w))]
     fn fence(
         self,
         tables: &Tables,
@@ -219,7 +214,6 @@ impl Machine {
         Ok(self.pass(false))
     }
 
-    #[tactic(auto, using(crate::proofs::RuleLaws::number_some), unfolding(crate::specs::Outcomes::by_rule, crate::specs::Twin::ticked, crate::specs::Effects::crash_w, crate::specs::Twin::crashed))]
     fn crash(self, tables: &mut Tables, work: &mut [u16]) -> Result<Step, Forbidden>
         requires { Fits self (length work.old) }
         ensures { outcome self result tables.new work.new
@@ -234,7 +228,6 @@ impl Machine {
     }
 
     // A skip starts or ends.
-    #[tactic(auto, using(crate::proofs::RuleLaws::number_some), unfolding(crate::specs::Outcomes::by_rule, crate::specs::Twin::ticked, crate::specs::Effects::skip_w))]
     fn skip(
         self,
         tables: &mut Tables,
@@ -255,7 +248,6 @@ impl Machine {
     }
 
     // The thread may have no waiting stores.
-    #[tactic(auto, using(crate::proofs::RuleLaws::number_some), unfolding(crate::specs::Outcomes::by_rule, crate::specs::Twin::ticked, crate::specs::Effects::signal_w))]
     fn signal(self, tables: &Tables, work: &mut [u16], t: u16) -> Result<Step, Forbidden>
         requires { Fits self (length work.old) }
         ensures { outcome self result tables.now work.new
@@ -269,7 +261,6 @@ impl Machine {
         Ok(self.pass(false))
     }
 
-    #[tactic(auto, using(crate::proofs::RuleLaws::number_some), unfolding(crate::specs::Outcomes::by_rule, crate::specs::Twin::ticked, crate::specs::Effects::meet_w))]
     fn wait(self, tables: &mut Tables, work: &mut [u16], t: u16, s: u16) -> Result<Step, Forbidden>
         requires { Fits self (length work.old) }
         ensures { outcome self result tables.new work.new
@@ -283,7 +274,6 @@ impl Machine {
         Ok(self.pass(false))
     }
 
-    #[tactic(auto, using(crate::proofs::RuleLaws::number_some), unfolding(crate::specs::Outcomes::by_rule, crate::specs::Twin::ticked, crate::specs::Effects::open_w))]
     fn open_region(self, tables: &mut Tables, work: &mut [u16], t: u16) -> Result<Step, Forbidden>
         requires { Fits self (length work.old) }
         ensures { outcome self result tables.new work.new
@@ -299,7 +289,6 @@ impl Machine {
     }
 
     // A close with its outcome, `res`: at 1 the loads that its thread holds count, if there is one.
-    #[tactic(auto, using(crate::proofs::RuleLaws::number_some), unfolding(crate::specs::Outcomes::by_rule, crate::specs::Twin::ticked, crate::specs::Effects::close_w))]
     fn close_region(
         self,
         tables: &mut Tables,

@@ -124,15 +124,12 @@ pub(crate) fn put_skip(tables: &mut Tables, t: u16, s: Thread)
 }
 
 // Thread t has seen nothing.
-#[tactic(auto, unfolding(crate::specs::Threads::unseen))]
 fn forget_seen(tables: &mut Tables, t: u16)
     requires { t < 8 }
     ensures { tables.new ≡ unseen 8 tables.old t }
 {
     let from = tables::thread(t, 0);
-    for u in 0..8 {
-        tables[from + u] = 0;
-    }
+    tables[from..from + 8].fill(0);
 }
 
 // What a crash changes: thread t has seen nothing, all of its state is s, and it is not open.
