@@ -138,13 +138,7 @@ fn broken_lines(page: &mut Page, events: u16, load: u16, missing: u16, observed:
 }
 
 // The lines of a verdict, or of a refusal.
-fn lines(
-    page: &mut Page,
-    v: Result<Verdict, Refusal>,
-    threads: u16,
-    finished: u16,
-    cut: &[u16],
-)
+fn lines(page: &mut Page, v: Result<Verdict, Refusal>, threads: u16, finished: u16, cut: &[u16])
     ensures { Puts page.old
         (lines_of (verdict_answer v) threads finished cut.now) 446 page.new }
 {
@@ -153,13 +147,15 @@ fn lines(
             let cut = Cut::new(cut, threads, finished);
             robust_lines(page, events, share, cut);
         }
-        Ok(Verdict::Broken {
-            events,
-            load,
-            missing,
-            observed,
-            kind,
-        }) => broken_lines(page, events, load, missing, observed, kind),
+        Ok(
+            Verdict::Broken {
+                events,
+                load,
+                missing,
+                observed,
+                kind,
+            },
+        ) => broken_lines(page, events, load, missing, observed, kind),
         Err(refusal) => refused_line(page, refusal.number, refusal.event),
     }
 }

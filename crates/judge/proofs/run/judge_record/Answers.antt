@@ -48,7 +48,6 @@ returns-in-Err c =
     args.tables.now args.marks.now args.work.now c.requires c.in-Ok.e
     (let r : Ok c.in-Ok.e ≡ scan_of (read_at args.trace.now args.t.at) = search rules in r) _ _ c.in-Err.k c.in-Err.ensures _ _ _)
 
-
 pub returns : goal.returns
 returns c =
     let args = c.args in
