@@ -1,5 +1,6 @@
 // What an event that passes does to the tables and to the work area. Each function says both afterwards. `row` is where
-// the event's own row begins.
+// the event's own row begins; that the row is inside is a fact about it and the lent work area, so no type of the row
+// alone holds it.
 ghost use Rattle.std.specs.Prelude.{◌≡◌, ◌+◌, ◌≤◌, ◌<◌, length};
 ghost use Rattle.area.specs.Cells.{no_store, joined};
 ghost use Rattle.machine.specs.Tables.{thread_cell};
@@ -14,8 +15,16 @@ use crate::{clocks, regions, tables, threads};
 // "the store joins its thread's queue": its row, the link of the store before it, and the newest store at the location.
 // A thread's first store of a stretch has none before it: the link then goes to row 2,048, whose event has not come, or
 // is this one, and its own row is written behind the link.
-#[tactic(auto, unfolding(crate::specs::Effects::issued_tables, crate::specs::Effects::issued_work, crate::specs::Threads::issued_t))]
-pub(crate) fn issue(tables: &mut Tables, work: &mut [u16], row: usize, t: ThreadId, x: Location, j: u16)
+#[tactic(auto, unfolding(crate::specs::Threads::issued_t, // the thread's new state, and
+crate::specs::Effects::issued_tables, crate::specs::Effects::issued_work))]
+pub(crate) fn issue(
+    tables: &mut Tables,
+    work: &mut [u16],
+    row: usize,
+    t: ThreadId,
+    x: Location,
+    j: u16,
+)
     requires { (row < 32768) × (row + 16 ≤ length work.old) }
     ensures tables_after { tables.new ≡ issued_tables tables.old row t x }
     ensures work_after { work.new ≡ issued_work tables.old work.old row t x j }
@@ -107,7 +116,14 @@ pub(crate) fn meet(tables: &mut Tables, work: &mut [u16], row: usize, t: ThreadI
 // A crossing load of thread t, which is open, at location x from s is held: its row has its location and source, the
 // last store committed there, and the load held before it.
 #[tactic(auto, unfolding(crate::specs::Effects::held_tables, crate::specs::Effects::held_work))]
-pub(crate) fn hold(tables: &mut Tables, work: &mut [u16], row: usize, t: ThreadId, x: Location, s: u16)
+pub(crate) fn hold(
+    tables: &mut Tables,
+    work: &mut [u16],
+    row: usize,
+    t: ThreadId,
+    x: Location,
+    s: u16,
+)
     requires { (row < 32768) × (row + 16 ≤ length work.old) }
     ensures tables_after { tables.new ≡ held_tables tables.old row t }
     ensures work_after { work.new ≡ held_work tables.old work.old row t x s }

@@ -1,7 +1,17 @@
 // The steps: each makes the tests of its kind, in document 01's order, and turns the event away by the first that
 // fails; else the event takes effect. An event that is turned away changes nothing. The caller sees to it that the
 // machine's row is a row's begin, and that the begin's numbers are in range (`Fits`).
-#![tactic(auto, using(crate::proofs::RuleLaws::number_some), unfolding(crate::specs::Effects::close_w, crate::specs::Effects::commit_w, crate::specs::Effects::crash_w, crate::specs::Effects::issue_w, crate::specs::Effects::meet_w, crate::specs::Effects::open_w, crate::specs::Effects::pass_w, crate::specs::Effects::signal_w, crate::specs::Effects::skip_w, crate::specs::Outcomes::by_rule, crate::specs::Twin::crashed, crate::specs::Twin::ticked,))]
+#![tactic(auto, using(crate::proofs::RuleLaws::of_steps), unfolding( // what the steps' contracts are made of
+crate::specs::Outcomes::by_rule, crate::specs::Twin::ticked, // by the rules' answer
+crate::specs::Effects::issue_w, crate::specs::Effects::commit_w, // stores
+crate::specs::Effects::meet_w, crate::specs::Effects::cross_w, // loads
+crate::specs::Twin::admits, crate::specs::Twin::admitted, // the source that a crossing load notes
+crate::specs::Effects::aside_tables, crate::specs::Effects::aside_work, // a load that is held
+crate::specs::Effects::crash_w, crate::specs::Twin::crashed, // crashes
+crate::specs::Effects::skip_w, crate::specs::Effects::signal_w, // skips and signals
+crate::specs::Effects::open_w, crate::specs::Effects::close_w, // regions
+crate::specs::Effects::pass_w, // events with no effect
+))]
 
 ghost use Rattle.std.specs.Prelude.{◌≡◌, List, ℕ, ◌+◌, ◌≤◌, ◌<◌, length};
 ghost use Rattle.machine.specs.Twin.{state_of, world, admits, admitted};
@@ -20,7 +30,6 @@ use record::Fields;
 
 // Behind a crossing load of thread t that passed and does not count: if the thread is in no skip, it is open, and the
 // load is held.
-#[tactic(auto, unfolding(crate::specs::Effects::aside_tables, crate::specs::Effects::aside_work))]
 fn set_aside(tables: &mut Tables, work: &mut [u16], row: usize, t: ThreadId, x: Location, s: u16)
     requires { (row < 32768) × (row + 16 ≤ length work.old) }
     ensures tables_after { tables.new ≡ aside_tables tables.old row t 0 }
@@ -78,7 +87,6 @@ impl Machine {
 
     // A crossing load at location x may have source s, which is then noted: the source that is noted, or one that fits.
     // The first is one of the second too; it is asked first since that is cheap.
-    #[tactic(auto, unfolding(crate::specs::Twin::admits, crate::specs::Twin::admitted))]
     fn admit(self, tables: &mut Tables, work: &[u16], x: Location, s: u16) -> bool
         ensures value { result ≡ admits self.stretch self.row tables.old work.now x s }
         ensures tables_after { tables.new
@@ -97,7 +105,6 @@ impl Machine {
     // A crossing load, which brings no clock. It counts if its thread is in no skip and not open; in no skip and open, it
     // is held.
     #[inline(always)]
-    #[tactic(auto, using(crate::proofs::RuleLaws::number_some, crate::proofs::RuleLaws::plain_stays, crate::proofs::RuleLaws::skip_stays, crate::proofs::RuleLaws::source_noted), unfolding(crate::specs::Outcomes::by_rule, crate::specs::Twin::ticked, crate::specs::Twin::admitted, crate::specs::Effects::cross_w, crate::specs::Effects::aside_tables, crate::specs::Effects::aside_work))]
     fn load_across(
         self,
         tables: &mut Tables,
