@@ -213,6 +213,9 @@ plain_stays tables t x s few =
     rw (get_or-set_other tables (source_cell x) (thread_cell t 12) s 0 (λ same. omega arith))
     (plain_is (of_thread tables t 12))
 
+-- what the steps' proofs cite
+pub ruleset of_steps = (number_some, source_noted, plain_stays, skip_stays)
+
 -- ---- a crossing load, behind the step r that does not hold it yet
 
 module _

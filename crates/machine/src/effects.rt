@@ -1,5 +1,6 @@
 // What an event that passes does to the tables and to the work area. Each function says both afterwards. `row` is where
-// the event's own row begins.
+// the event's own row begins; that the row is inside is a fact about it and the lent work area, so no type of the row
+// alone holds it.
 ghost use Rattle.std.specs.Prelude.{◌≡◌, ◌+◌, ◌≤◌, ◌<◌, length};
 ghost use Rattle.area.specs.Cells.{no_store, joined};
 ghost use Rattle.machine.specs.Tables.{thread_cell};
@@ -7,15 +8,24 @@ ghost use Rattle.machine.specs.Effects.{issued_tables, issued_work, committed_ta
 ghost use Rattle.machine.specs.Effects.{headed, exchanged_tables, exchanged_work, signalled_work};
 ghost use Rattle.machine.specs.Effects.{held_tables, held_work, finished_thread, finished};
 
+use crate::places::{Location, ThreadId};
 use crate::tables::Tables;
 use crate::{clocks, regions, tables, threads};
 
 // "the store joins its thread's queue": its row, the link of the store before it, and the newest store at the location.
 // A thread's first store of a stretch has none before it: the link then goes to row 2,048, whose event has not come, or
 // is this one, and its own row is written behind the link.
-#[tactic(auto, unfolding(crate::specs::Effects::issued_tables, crate::specs::Effects::issued_work, crate::specs::Threads::issued_t))]
-pub(crate) fn issue(tables: &mut Tables, work: &mut [u16], row: usize, t: u16, x: u16, j: u16)
-    requires { (t < 8) × (x < 256) × (row < 32768) × (row + 16 ≤ length work.old) }
+#[tactic(auto, unfolding(crate::specs::Threads::issued_t, // the thread's new state, and
+crate::specs::Effects::issued_tables, crate::specs::Effects::issued_work))]
+pub(crate) fn issue(
+    tables: &mut Tables,
+    work: &mut [u16],
+    row: usize,
+    t: ThreadId,
+    x: Location,
+    j: u16,
+)
+    requires { (row < 32768) × (row + 16 ≤ length work.old) }
     ensures tables_after { tables.new ≡ issued_tables tables.old row t x }
     ensures work_after { work.new ≡ issued_work tables.old work.old row t x j }
 {
@@ -29,8 +39,7 @@ pub(crate) fn issue(tables: &mut Tables, work: &mut [u16], row: usize, t: u16, x
 }
 
 // Store p, committed in stretch j, heads the chain of committed stores of location x.
-fn head(tables: &mut Tables, p: u16, x: u16, j: u16)
-    requires { x < 256 }
+fn head(tables: &mut Tables, p: u16, x: Location, j: u16)
     ensures { tables.new ≡ headed tables.old p x j }
 {
     tables[tables::last(x)] = p;
@@ -40,14 +49,14 @@ fn head(tables: &mut Tables, p: u16, x: u16, j: u16)
 // "the oldest waiting store of the thread takes effect": it heads its location's chain, links to the head so far, and
 // keeps where the row of this event begins.
 #[tactic(auto, unfolding(crate::specs::Effects::committed_tables, crate::specs::Effects::committed_work))]
-pub(crate) fn commit(tables: &mut Tables, work: &mut [u16], row: usize, t: u16, j: u16)
-    requires { (t < 8) × (row < 32768) × (row + 16 ≤ length work.old) }
+pub(crate) fn commit(tables: &mut Tables, work: &mut [u16], row: usize, t: ThreadId, j: u16)
+    requires { (row < 32768) × (row + 16 ≤ length work.old) }
     ensures tables_after { tables.new ≡ committed_tables tables.old work.old t j }
     ensures work_after { work.new ≡ committed_work tables.old work.old row t }
 {
     let old = threads::thread_of(tables, t);
     let p = old.oldest;
-    let x = area::row_get(work, p, 9) % 256;
+    let x = Location::of(area::row_get(work, p, 9) % 256);
     let next = area::row_get(work, p, 12);
     let new = old.commit(next);
     area::no_store(work, row);
@@ -64,12 +73,12 @@ pub(crate) fn exchange(
     tables: &mut Tables,
     work: &mut [u16],
     row: usize,
-    t: u16,
-    x: u16,
+    t: ThreadId,
+    x: Location,
     s: u16,
     j: u16,
 )
-    requires { (t < 8) × (x < 256) × (row < 32768) × (row + 16 ≤ length work.old) }
+    requires { (row < 32768) × (row + 16 ≤ length work.old) }
     ensures tables_after { tables.new ≡ exchanged_tables tables.old row t x j }
     ensures work_after { work.new ≡ exchanged_work tables.old work.old row t x s j }
 {
@@ -84,8 +93,8 @@ pub(crate) fn exchange(
 // A signal of thread t in stretch j: its row keeps the clock that a store issued in its place would have, that store
 // itself not counted.
 #[tactic(auto, unfolding(crate::specs::Effects::signalled_work))]
-pub(crate) fn signal(tables: &Tables, work: &mut [u16], row: usize, t: u16, j: u16)
-    requires { (t < 8) × (row + 16 ≤ length work.old) }
+pub(crate) fn signal(tables: &Tables, work: &mut [u16], row: usize, t: ThreadId, j: u16)
+    requires { (row + 16 ≤ length work.old) }
     ensures { work.new ≡ signalled_work tables.now work.old row t j }
 {
     let own = threads::thread_of(tables, t);
@@ -95,8 +104,8 @@ pub(crate) fn signal(tables: &Tables, work: &mut [u16], row: usize, t: u16, j: u
 }
 
 // A load from store s of the stretch, or a wait for signal s, brings the clock of s to its thread.
-pub(crate) fn meet(tables: &mut Tables, work: &mut [u16], row: usize, t: u16, s: u16)
-    requires { (t < 8) × (row + 16 ≤ length work.old) × (32768 ≤ length work.old) }
+pub(crate) fn meet(tables: &mut Tables, work: &mut [u16], row: usize, t: ThreadId, s: u16)
+    requires { (row + 16 ≤ length work.old) × (32768 ≤ length work.old) }
     ensures tables_after { tables.new ≡ joined 8 work.old s (thread_cell t 0) tables.old }
     ensures work_after { work.new ≡ no_store work.old row }
 {
@@ -107,13 +116,20 @@ pub(crate) fn meet(tables: &mut Tables, work: &mut [u16], row: usize, t: u16, s:
 // A crossing load of thread t, which is open, at location x from s is held: its row has its location and source, the
 // last store committed there, and the load held before it.
 #[tactic(auto, unfolding(crate::specs::Effects::held_tables, crate::specs::Effects::held_work))]
-pub(crate) fn hold(tables: &mut Tables, work: &mut [u16], row: usize, t: u16, x: u16, s: u16)
-    requires { (t < 8) × (x < 256) × (row < 32768) × (row + 16 ≤ length work.old) }
+pub(crate) fn hold(
+    tables: &mut Tables,
+    work: &mut [u16],
+    row: usize,
+    t: ThreadId,
+    x: Location,
+    s: u16,
+)
+    requires { (row < 32768) × (row + 16 ≤ length work.old) }
     ensures tables_after { tables.new ≡ held_tables tables.old row t }
     ensures work_after { work.new ≡ held_work tables.old work.old row t x s }
 {
     let old = regions::region_of(tables, t);
-    work[row + 9] = x;
+    work[row + 9] = x.number();
     work[row + 13] = s;
     work[row + 14] = tables[tables::last(x)];
     work[row + 15] = old.newest;
@@ -122,13 +138,12 @@ pub(crate) fn hold(tables: &mut Tables, work: &mut [u16], row: usize, t: u16, x:
 
 // Stretch j is finished: the commits of thread t go to their table, and the thread starts afresh.
 #[tactic(auto, unfolding(crate::specs::Effects::finished_thread))]
-fn finish_thread(tables: &mut Tables, j: u16, t: u16)
-    requires { t < 8 }
+fn finish_thread(tables: &mut Tables, j: u16, t: ThreadId)
     ensures { tables.new ≡ finished_thread tables.old j t }
 {
     let old = threads::thread_of(tables, t);
     let region = regions::region_of(tables, t);
-    tables[tables::commits(j, t)] = old.committed;
+    tables[tables::commits(j, t.number())] = old.committed;
     threads::restart(tables, t, old.crash());
     regions::put_held(tables, t, region.crash());
 }
@@ -139,6 +154,6 @@ pub(crate) fn finish(tables: &mut Tables, j: u16)
     ensures { tables.new ≡ finished 8 tables.old j }
 {
     for t in 0..8 {
-        finish_thread(tables, j, t);
+        finish_thread(tables, j, ThreadId::of(t));
     }
 }

@@ -7,6 +7,7 @@ mod clocks;
 mod effects;
 mod forbidden;
 mod order;
+mod places;
 mod regions;
 mod rules;
 mod state;

@@ -4,6 +4,7 @@ ghost use Rattle.std.specs.Prelude.{◌≡◌, ◌<◌};
 ghost use Rattle.machine.specs.Regions.{began_r, held_r, ended_r, crashed_r, region_of, plain_in};
 ghost use Rattle.machine.specs.Regions.{put_region, put_held};
 
+use crate::places::ThreadId;
 use crate::tables;
 use crate::tables::Tables;
 
@@ -56,8 +57,7 @@ impl Region {
 
 // Thread t's region.
 #[tactic(auto, unfolding(crate::specs::Regions::region_of))]
-pub(crate) fn region_of(tables: &Tables, t: u16) -> Region
-    requires { t < 8 }
+pub(crate) fn region_of(tables: &Tables, t: ThreadId) -> Region
     ensures { result ≡ region_of tables.now t }
 {
     Region {
@@ -67,17 +67,15 @@ pub(crate) fn region_of(tables: &Tables, t: u16) -> Region
 }
 
 // Thread t is in no skip and not open.
-pub(crate) fn is_plain(tables: &Tables, t: u16) -> bool
-    requires { t < 8 }
-    ensures { result ≡ plain_in tables.now t }
+pub(crate) fn is_plain(tables: &Tables, t: ThreadId) -> bool
+    ensures { (result ≡ plain_in tables.now t) × (t < 8) }
 {
     tables[tables::thread(t, 12)] == 0
 }
 
 // Thread t's region becomes r.
 #[tactic(auto, using(crate::proofs::Flags::open_set_is), unfolding(crate::specs::Regions::put_region))]
-pub(crate) fn put_region(tables: &mut Tables, t: u16, r: Region)
-    requires { t < 8 }
+pub(crate) fn put_region(tables: &mut Tables, t: ThreadId, r: Region)
     ensures { tables.new ≡ put_region tables.old t r }
 {
     let i = tables::thread(t, 12);
@@ -87,8 +85,7 @@ pub(crate) fn put_region(tables: &mut Tables, t: u16, r: Region)
 
 // What a held load changes of it; or a crash, which has ended the open state already.
 #[tactic(auto, unfolding(crate::specs::Regions::put_held))]
-pub(crate) fn put_held(tables: &mut Tables, t: u16, r: Region)
-    requires { t < 8 }
+pub(crate) fn put_held(tables: &mut Tables, t: ThreadId, r: Region)
     ensures { tables.new ≡ put_held tables.old t r }
 {
     tables[tables::thread(t, 13)] = r.newest;

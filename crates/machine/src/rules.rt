@@ -7,14 +7,13 @@ ghost use Rattle.machine.specs.Twin.{state_of, waiting_in, past_in, across_in, s
 ghost use Rattle.machine.specs.Turning.{thread_fits, place_fits, place_refusal, on_thread, on_place, on_new};
 ghost use Rattle.machine.specs.Turning.{fence_on, switch_by, close_by, close_counts};
 ghost use Rattle.machine.specs.Turning.{begin_rule, begin_k};
-ghost use Rattle.machine.specs.Regions.{region_of};
 
 use crate::forbidden::Forbidden;
-use crate::regions::Region;
+use crate::places::{Location, ThreadId};
 use crate::state::Machine;
 use crate::tables::Tables;
 use crate::threads::Thread;
-use crate::{regions, tables, threads};
+use crate::{tables, threads};
 use record::Fields;
 
 // ---- the load rule
@@ -22,8 +21,7 @@ use record::Fields;
 // The newest waiting store of thread t at location x: the thread's newest store there, unless the oldest that waits
 // came later.
 #[tactic(auto, unfolding(crate::specs::Twin::waiting_in))]
-pub(crate) fn waiting(tables: &Tables, t: u16, x: u16) -> Option<u16>
-    requires { (t < 8) × (x < 256) }
+pub(crate) fn waiting(tables: &Tables, t: ThreadId, x: Location) -> Option<u16>
     ensures { MatchOption result (waiting_in tables.now t x ≡ 0)
         (λ p. (p ≡ waiting_in tables.now t x) × (p ≢ 0)) }
 {
@@ -99,46 +97,47 @@ impl Machine {
     }
 
     // What turns an event of thread t away before any rule of its kind.
-    pub(crate) fn on_thread(self, t: u16) -> Result<(), Forbidden>
+    pub(crate) fn on_thread(self, t: u16) -> Result<ThreadId, Forbidden>
+        requires { self.threads ≤ 8 }
         ensures { MatchResult result
-            (λ _. ((later : ℕ) → on_thread (state_of self) t later ≡ later)
-            × (self.row < 32768) × (t < self.threads))
+            (λ r. ((later : ℕ) → on_thread (state_of self) t later ≡ later)
+            × (self.row < 32768) × (r ≡ t))
             (λ e. (later : ℕ) → on_thread (state_of self) t later ≡ number_of e) }
     {
         if self.thread_fits(t) {
-            Ok(())
+            Ok(ThreadId::of(t))
         } else {
             Err(self.place_refusal(t))
         }
     }
 
     // So of an event at location x.
-    pub(crate) fn on_place(self, t: u16, x: u16) -> Result<(), Forbidden>
+    pub(crate) fn on_place(self, t: u16, x: u16) -> Result<(ThreadId, Location), Forbidden>
+        requires { (self.threads ≤ 8) × (self.locations ≤ 256) }
         ensures { MatchResult result
-            (λ _. ((later : ℕ) → on_place (state_of self) t x later ≡ later)
-            × (self.row < 32768) × (t < self.threads) × (x < self.locations))
+            (λ r. ((later : ℕ) → on_place (state_of self) t x later ≡ later)
+            × (self.row < 32768) × (r.0 ≡ t) × (r.1 ≡ x))
             (λ e. (later : ℕ) → on_place (state_of self) t x later ≡ number_of e) }
     {
         if self.place_fits(t, x) {
-            Ok(())
+            Ok((ThreadId::of(t), Location::of(x)))
         } else {
             Err(self.place_refusal(t))
         }
     }
 
-    // So of an open or a close, which version 2 admits; else thread t's region.
-    pub(crate) fn region(self, tables: &Tables, t: u16) -> Result<Region, Forbidden>
+    // So of an open or a close, which version 2 admits.
+    pub(crate) fn on_new(self, t: u16) -> Result<ThreadId, Forbidden>
         requires { self.threads ≤ 8 }
         ensures { MatchResult result
             (λ r. ((later : ℕ) → on_new (state_of self) (on_thread (state_of self) t later) ≡ later)
-            × (self.row < 32768) × (t < self.threads) × (r ≡ region_of tables.now t))
+            × (self.row < 32768) × (r ≡ t))
             (λ e. (later : ℕ) → on_new (state_of self) (on_thread (state_of self) t later) ≡ number_of e) }
     {
         if self.version < 2 {
             return Err(Forbidden::UnknownKind);
         }
-        self.on_thread(t)?;
-        Ok(regions::region_of(tables, t))
+        self.on_thread(t)
     }
 }
 

@@ -1,7 +1,17 @@
 // The steps: each makes the tests of its kind, in document 01's order, and turns the event away by the first that
 // fails; else the event takes effect. An event that is turned away changes nothing. The caller sees to it that the
 // machine's row is a row's begin, and that the begin's numbers are in range (`Fits`).
-#![tactic(auto, using(crate::proofs::RuleLaws::number_some), unfolding(crate::specs::Effects::close_w, crate::specs::Effects::commit_w, crate::specs::Effects::crash_w, crate::specs::Effects::issue_w, crate::specs::Effects::meet_w, crate::specs::Effects::open_w, crate::specs::Effects::pass_w, crate::specs::Effects::signal_w, crate::specs::Effects::skip_w, crate::specs::Outcomes::by_rule, crate::specs::Twin::crashed, crate::specs::Twin::ticked,))]
+#![tactic(auto, using(crate::proofs::RuleLaws::of_steps), unfolding( // what the steps' contracts are made of
+crate::specs::Outcomes::by_rule, crate::specs::Twin::ticked, // by the rules' answer
+crate::specs::Effects::issue_w, crate::specs::Effects::commit_w, // stores
+crate::specs::Effects::meet_w, crate::specs::Effects::cross_w, // loads
+crate::specs::Twin::admits, crate::specs::Twin::admitted, // the source that a crossing load notes
+crate::specs::Effects::aside_tables, crate::specs::Effects::aside_work, // a load that is held
+crate::specs::Effects::crash_w, crate::specs::Twin::crashed, // crashes
+crate::specs::Effects::skip_w, crate::specs::Effects::signal_w, // skips and signals
+crate::specs::Effects::open_w, crate::specs::Effects::close_w, // regions
+crate::specs::Effects::pass_w, // events with no effect
+))]
 
 ghost use Rattle.std.specs.Prelude.{◌≡◌, List, ℕ, ◌+◌, ◌≤◌, ◌<◌, length};
 ghost use Rattle.machine.specs.Twin.{state_of, world, admits, admitted};
@@ -12,6 +22,7 @@ ghost use Rattle.machine.specs.Outcomes.{locked_o, close_o, step_o};
 ghost use Rattle.machine.specs.Effects.{aside_tables, aside_work};
 
 use crate::forbidden::Forbidden;
+use crate::places::{Location, ThreadId};
 use crate::state::{Machine, Step};
 use crate::tables::Tables;
 use crate::{effects, regions, rules, tables, threads};
@@ -19,9 +30,8 @@ use record::Fields;
 
 // Behind a crossing load of thread t that passed and does not count: if the thread is in no skip, it is open, and the
 // load is held.
-#[tactic(auto, unfolding(crate::specs::Effects::aside_tables, crate::specs::Effects::aside_work))]
-fn set_aside(tables: &mut Tables, work: &mut [u16], row: usize, t: u16, x: u16, s: u16)
-    requires { (t < 8) × (x < 256) × (row < 32768) × (row + 16 ≤ length work.old) }
+fn set_aside(tables: &mut Tables, work: &mut [u16], row: usize, t: ThreadId, x: Location, s: u16)
+    requires { (row < 32768) × (row + 16 ≤ length work.old) }
     ensures tables_after { tables.new ≡ aside_tables tables.old row t 0 }
     ensures work_after { work.new ≡ aside_work tables.old work.old row t x s 0 }
 {
@@ -36,7 +46,7 @@ impl Machine {
         ensures { outcome self result tables.new work.new
             ≡ issue_o (world (state_of self) tables.old work.old) t x }
     {
-        self.on_place(t, x)?;
+        let (t, x) = self.on_place(t, x)?;
         effects::issue(tables, work, self.row, t, x, self.stretch);
         Ok(self.pass(false))
     }
@@ -46,7 +56,7 @@ impl Machine {
         ensures { outcome self result tables.new work.new
             ≡ commit_o (world (state_of self) tables.old work.old) t }
     {
-        self.on_thread(t)?;
+        let t = self.on_thread(t)?;
         let own = threads::thread_of(tables, t);
         if own.issued == own.committed {
             return Err(Forbidden::EmptyQueue);
@@ -60,11 +70,11 @@ impl Machine {
         self,
         tables: &mut Tables,
         work: &mut [u16],
-        t: u16,
+        t: ThreadId,
         s: u16,
         only: u16,
     ) -> Result<Step, Forbidden>
-        requires { Fits self (length work.old) × (self.row < 32768) × (t < 8) }
+        requires { Fits self (length work.old) × (self.row < 32768) }
         ensures { outcome self result tables.new work.new
             ≡ only_o (world (state_of self) tables.old work.old) t s only }
     {
@@ -77,9 +87,7 @@ impl Machine {
 
     // A crossing load at location x may have source s, which is then noted: the source that is noted, or one that fits.
     // The first is one of the second too; it is asked first since that is cheap.
-    #[tactic(auto, unfolding(crate::specs::Twin::admits, crate::specs::Twin::admitted))]
-    fn admit(self, tables: &mut Tables, work: &[u16], x: u16, s: u16) -> bool
-        requires { x < 256 }
+    fn admit(self, tables: &mut Tables, work: &[u16], x: Location, s: u16) -> bool
         ensures value { result ≡ admits self.stretch self.row tables.old work.now x s }
         ensures tables_after { tables.new
             ≡ admitted self.stretch self.row tables.old work.now x s }
@@ -87,7 +95,7 @@ impl Machine {
         if s == tables[tables::source(x)] {
             return true;
         }
-        if !self.fits_across(tables, work, x, s) {
+        if !self.fits_across(tables, work, x.number(), s) {
             return false;
         }
         tables[tables::source(x)] = s;
@@ -97,16 +105,15 @@ impl Machine {
     // A crossing load, which brings no clock. It counts if its thread is in no skip and not open; in no skip and open, it
     // is held.
     #[inline(always)]
-    #[tactic(auto, using(crate::proofs::RuleLaws::number_some, crate::proofs::RuleLaws::plain_stays, crate::proofs::RuleLaws::skip_stays, crate::proofs::RuleLaws::source_noted), unfolding(crate::specs::Outcomes::by_rule, crate::specs::Twin::ticked, crate::specs::Twin::admitted, crate::specs::Effects::cross_w, crate::specs::Effects::aside_tables, crate::specs::Effects::aside_work))]
     fn load_across(
         self,
         tables: &mut Tables,
         work: &mut [u16],
-        t: u16,
-        x: u16,
+        t: ThreadId,
+        x: Location,
         s: u16,
     ) -> Result<Step, Forbidden>
-        requires { Fits self (length work.old) × (self.row < 32768) × (t < 8) × (x < 256) }
+        requires { Fits self (length work.old) × (self.row < 32768) }
         ensures { outcome self result tables.new work.new
             ≡ across_o (world (state_of self) tables.old work.old) t x s }
     {
@@ -129,11 +136,11 @@ impl Machine {
         self,
         tables: &mut Tables,
         work: &mut [u16],
-        t: u16,
-        x: u16,
+        t: ThreadId,
+        x: Location,
         s: u16,
     ) -> Result<Step, Forbidden>
-        requires { Fits self (length work.old) × (self.row < 32768) × (t < 8) × (x < 256) }
+        requires { Fits self (length work.old) × (self.row < 32768) }
         ensures { outcome self result tables.new work.new
             ≡ memory_o (world (state_of self) tables.old work.old) t x s }
     {
@@ -157,7 +164,7 @@ impl Machine {
         ensures { outcome self result tables.new work.new
             ≡ load_o (world (state_of self) tables.old work.old) t x s }
     {
-        self.on_place(t, x)?;
+        let (t, x) = self.on_place(t, x)?;
         if let Some(p) = rules::waiting(tables, t, x) {
             return self.load_only(tables, work, t, s, p);
         }
@@ -177,7 +184,7 @@ impl Machine {
         ensures { outcome self result tables.new work.new
             ≡ locked_o (world (state_of self) tables.old work.old) t x s }
     {
-        self.on_place(t, x)?;
+        let (t, x) = self.on_place(t, x)?;
         if threads::thread_of(tables, t).oldest != 0 {
             return Err(Forbidden::QueueNotEmpty);
         }
@@ -208,7 +215,7 @@ impl Machine {
         ensures { outcome self result tables.now work.new
             ≡ fence_on_o (world (state_of self) tables.now work.old) sfence t }
     {
-        self.on_thread(t)?;
+        let t = self.on_thread(t)?;
         rules::fence_rule(sfence, threads::thread_of(tables, t))?;
         area::no_store(work, self.row);
         Ok(self.pass(false))
@@ -239,7 +246,7 @@ impl Machine {
         ensures { outcome self result tables.new work.new
             ≡ switch_o (world (state_of self) tables.old work.old) on t }
     {
-        self.on_thread(t)?;
+        let t = self.on_thread(t)?;
         let old = threads::thread_of(tables, t);
         rules::skip_rule(on, old.skip)?;
         area::no_store(work, self.row);
@@ -253,7 +260,7 @@ impl Machine {
         ensures { outcome self result tables.now work.new
             ≡ signal_o (world (state_of self) tables.now work.old) t }
     {
-        self.on_thread(t)?;
+        let t = self.on_thread(t)?;
         if threads::thread_of(tables, t).oldest != 0 {
             return Err(Forbidden::QueueNotEmpty);
         }
@@ -266,7 +273,7 @@ impl Machine {
         ensures { outcome self result tables.new work.new
             ≡ wait_o (world (state_of self) tables.old work.old) t s }
     {
-        self.on_thread(t)?;
+        let t = self.on_thread(t)?;
         if !self.signalled(work, s) {
             return Err(Forbidden::NoSignal);
         }
@@ -279,7 +286,8 @@ impl Machine {
         ensures { outcome self result tables.new work.new
             ≡ open_o (world (state_of self) tables.old work.old) t }
     {
-        let old = self.region(tables, t)?;
+        let t = self.on_new(t)?;
+        let old = regions::region_of(tables, t);
         if old.opened {
             return Err(Forbidden::SwitchedAlready);
         }
@@ -300,7 +308,8 @@ impl Machine {
         ensures { outcome self result tables.new work.new
             ≡ close_o (world (state_of self) tables.old work.old) t res }
     {
-        let old = self.region(tables, t)?;
+        let t = self.on_new(t)?;
+        let old = regions::region_of(tables, t);
         rules::close_rule(res, old.opened)?;
         area::no_store(work, self.row);
         regions::put_region(tables, t, old.end());

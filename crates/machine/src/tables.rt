@@ -1,31 +1,33 @@
 // The machine's tables, in one array: a row of 16 numbers for each of the eight threads; of each location the last
 // store committed there, the stretch of that commit, and the source of the last crossing load that passed; the commits
 // of finished stretches; the newest store of each location and thread. specs/Tables.antt has the places.
-ghost use Rattle.std.specs.Prelude.{◌≡◌, ◌<◌};
+ghost use Rattle.std.specs.Prelude.{◌≡◌, ◌+◌, ◌≤◌, ◌<◌};
 ghost use Rattle.machine.specs.Tables.{thread_cell, last_cell, source_cell, commits_cell, newest_cell, stretch_cell};
 ghost use Rattle.machine.specs.Tables.{last_in, held_in, committed_in};
+
+use crate::places::{Location, ThreadId};
 
 pub type Tables = [u16; 3008];
 
 // Number k of thread t's row.
-pub(crate) fn thread(t: u16, k: u16) -> usize
-    ensures { result ≡ thread_cell t k }
+pub(crate) fn thread(t: ThreadId, k: u16) -> usize
+    ensures { (result ≡ thread_cell t k) × (result ≤ 112 + k) }
 {
-    16 * usize::from(t) + usize::from(k)
+    16 * usize::from(t.number()) + usize::from(k)
 }
 
 // The last store committed at location x.
-pub(crate) fn last(x: u16) -> usize
-    ensures { result ≡ last_cell x }
+pub(crate) fn last(x: Location) -> usize
+    ensures { (result ≡ last_cell x) × (result < 384) }
 {
-    128 + usize::from(x)
+    128 + usize::from(x.number())
 }
 
 // The source of the last crossing load of location x that passed.
-pub(crate) fn source(x: u16) -> usize
-    ensures { result ≡ source_cell x }
+pub(crate) fn source(x: Location) -> usize
+    ensures { (result ≡ source_cell x) × (result < 640) }
 {
-    384 + usize::from(x)
+    384 + usize::from(x.number())
 }
 
 // The commits of thread t in stretch j, once a crash has finished it.
@@ -36,18 +38,17 @@ pub(crate) fn commits(j: u16, t: u16) -> usize
 }
 
 // The newest store of thread t at location x.
-pub(crate) fn newest(x: u16, t: u16) -> usize
-    requires { (t < 8) × (x < 256) }
-    ensures { result ≡ newest_cell x t }
+pub(crate) fn newest(x: Location, t: ThreadId) -> usize
+    ensures { (result ≡ newest_cell x t) × (result < 2752) }
 {
-    704 + usize::from(8 * x + t)
+    704 + usize::from(8 * x.number() + t.number())
 }
 
 // The stretch in which the last store of location x was committed.
-pub(crate) fn stretch(x: u16) -> usize
-    ensures { result ≡ stretch_cell x }
+pub(crate) fn stretch(x: Location) -> usize
+    ensures { (result ≡ stretch_cell x) × (result < 3008) }
 {
-    2752 + usize::from(x)
+    2752 + usize::from(x.number())
 }
 
 // ---- what the judge asks
@@ -56,14 +57,14 @@ pub(crate) fn stretch(x: u16) -> usize
 pub fn last_committed(tables: &Tables, x: u16) -> u16
     ensures { result ≡ last_in tables.now x }
 {
-    tables[last(x % 256)]
+    tables[last(Location::of(x % 256))]
 }
 
 // The newest load that thread t, below 8, holds, or held before it closed; 0 if there is none.
 pub fn newest_held(tables: &Tables, t: u16) -> u16
     ensures { result ≡ held_in tables.now t }
 {
-    tables[thread(t % 8, 13)]
+    tables[thread(ThreadId::of(t % 8), 13)]
 }
 
 // The stores committed in all finished stretches.

@@ -1,11 +1,12 @@
 // A thread's state: its queue, its counts of the stretch, and whether it is in a skip, columns 8 to 12 of its row, the
 // last of which it shares with the open state (regions.rt), so that a load asks one number whether it counts. The
 // methods hand the thread's new state back. The queue's stores are linked in the work area; here are its ends.
-ghost use Rattle.std.specs.Prelude.{◌≡◌, ◌<◌};
+ghost use Rattle.std.specs.Prelude.{◌≡◌};
 ghost use Rattle.machine.specs.Threads.{issued_t, committed_t, skipped_t, crashed_t, thread_of};
 ghost use Rattle.machine.specs.Threads.{KeepsOldest, put_issued, put_committed, put_skip, put_oldest};
 ghost use Rattle.machine.specs.Threads.{unseen, restarted};
 
+use crate::places::ThreadId;
 use crate::tables;
 use crate::tables::Tables;
 
@@ -67,8 +68,7 @@ impl Thread {
 
 // Thread t's state.
 #[tactic(auto, unfolding(crate::specs::Threads::thread_of))]
-pub(crate) fn thread_of(tables: &Tables, t: u16) -> Thread
-    requires { t < 8 }
+pub(crate) fn thread_of(tables: &Tables, t: ThreadId) -> Thread
     ensures { result ≡ thread_of tables.now t }
 {
     Thread {
@@ -82,8 +82,8 @@ pub(crate) fn thread_of(tables: &Tables, t: u16) -> Thread
 
 // The oldest waiting store of thread t becomes `oldest`. Where a store waits already, that is `oldest` (`KeepsOldest`),
 // so only an empty queue's number is stored: most issues then do without a store there.
-fn put_oldest(tables: &mut Tables, t: u16, oldest: u16)
-    requires { (t < 8) × KeepsOldest tables.old t oldest }
+fn put_oldest(tables: &mut Tables, t: ThreadId, oldest: u16)
+    requires { KeepsOldest tables.old t oldest }
     ensures { tables.new ≡ put_oldest tables.old t oldest }
 {
     if tables[tables::thread(t, 8)] != 0 {
@@ -94,8 +94,8 @@ fn put_oldest(tables: &mut Tables, t: u16, oldest: u16)
 
 // Thread t's state becomes s: what an issue changes of it.
 #[tactic(auto, unfolding(crate::specs::Threads::put_issued))]
-pub(crate) fn put_issued(tables: &mut Tables, t: u16, s: Thread)
-    requires { (t < 8) × KeepsOldest tables.old t s.oldest }
+pub(crate) fn put_issued(tables: &mut Tables, t: ThreadId, s: Thread)
+    requires { KeepsOldest tables.old t s.oldest }
     ensures { tables.new ≡ put_issued tables.old t s }
 {
     put_oldest(tables, t, s.oldest);
@@ -105,8 +105,7 @@ pub(crate) fn put_issued(tables: &mut Tables, t: u16, s: Thread)
 
 // What a commit changes.
 #[tactic(auto, unfolding(crate::specs::Threads::put_committed))]
-pub(crate) fn put_committed(tables: &mut Tables, t: u16, s: Thread)
-    requires { t < 8 }
+pub(crate) fn put_committed(tables: &mut Tables, t: ThreadId, s: Thread)
     ensures { tables.new ≡ put_committed tables.old t s }
 {
     tables[tables::thread(t, 8)] = s.oldest;
@@ -115,8 +114,7 @@ pub(crate) fn put_committed(tables: &mut Tables, t: u16, s: Thread)
 
 // What a skip changes.
 #[tactic(auto, using(crate::proofs::Flags::skip_set_is), unfolding(crate::specs::Threads::put_skip))]
-pub(crate) fn put_skip(tables: &mut Tables, t: u16, s: Thread)
-    requires { t < 8 }
+pub(crate) fn put_skip(tables: &mut Tables, t: ThreadId, s: Thread)
     ensures { tables.new ≡ put_skip tables.old t s }
 {
     let i = tables::thread(t, 12);
@@ -124,8 +122,7 @@ pub(crate) fn put_skip(tables: &mut Tables, t: u16, s: Thread)
 }
 
 // Thread t has seen nothing.
-fn forget_seen(tables: &mut Tables, t: u16)
-    requires { t < 8 }
+fn forget_seen(tables: &mut Tables, t: ThreadId)
     ensures { tables.new ≡ unseen 8 tables.old t }
 {
     let from = tables::thread(t, 0);
@@ -134,8 +131,7 @@ fn forget_seen(tables: &mut Tables, t: u16)
 
 // What a crash changes: thread t has seen nothing, all of its state is s, and it is not open.
 #[tactic(auto, using(crate::proofs::Flags::bit_is), unfolding(crate::specs::Threads::restarted))]
-pub(crate) fn restart(tables: &mut Tables, t: u16, s: Thread)
-    requires { t < 8 }
+pub(crate) fn restart(tables: &mut Tables, t: ThreadId, s: Thread)
     ensures { tables.new ≡ restarted tables.old t s }
 {
     forget_seen(tables, t);

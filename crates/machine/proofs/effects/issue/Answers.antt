@@ -15,4 +15,4 @@ issue_keeps tables t e old new old-is new_is some = rw (new_is, old-is, ne_eqb (
 
 pub put_issued-requires : goal.put_issued-requires
 put_issued-requires c =
-    (c.requires.0, issue_keeps _ _ _ _ _ c.thread_of-old.ensures c.issue-new.ensures)
+    issue_keeps _ _ _ _ _ c.thread_of-old.ensures c.issue-new.ensures

@@ -8,11 +8,15 @@ pub returns-in-Some : goal.returns-in-Some
 returns-in-Some c =
     let args = c.args in
     let w = world (state_of args.self) args.tables.now args.work.now in
+    let place = c.in_ok-t.ensures in
     let waits = c.in-Some.ensures in
-    c.load_only.ensures ∙ load_waits w args.t args.x args.s c.in_ok-on_place.ensures.0 _ waits.0 waits.1
+    rw (← place.2, ← place.3)
+    (c.load_only.ensures ∙ load_waits w _ _ args.s (rw (place.2, place.3) place.0) _ waits.0 waits.1)
 
 pub returns : goal.returns
 returns c =
     let args = c.args in
     let w = world (state_of args.self) args.tables.now args.work.now in
-    c.load_memory.ensures ∙ load_memory_is w args.t args.x args.s c.in_ok-on_place.ensures.0 c.in_default.ensures
+    let place = c.in_ok-t.ensures in
+    rw (← place.2, ← place.3)
+    (c.load_memory.ensures ∙ load_memory_is w _ _ args.s (rw (place.2, place.3) place.0) c.in_default.ensures)
