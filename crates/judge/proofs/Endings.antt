@@ -10,7 +10,7 @@ use native.Mathlib.Omega.{arith}
 use borrow.Author.Tests.{eq-eqb, ne_eqb}
 use lib.ListN.{length, replicate}
 use lib.Dec.{eqb}
-use Rattle.std.specs.Prelude.{Result, Ok, Err}
+use Rattle.std.specs.Prelude.{Result, Ok, Err, Option, Some, None, is_none}
 use Rattle.record.specs.Tests.{◌gives◌else◌}
 use Rattle.record.proofs.Frames.{clash}
 use Rattle.model.specs.declared.Kind.TheVariants.{Flush, Impossible}
@@ -40,14 +40,14 @@ use Rattle.machine.specs.Sim.{Sim}
 use Rattle.machine.proofs.Standings.{store_is, order_is}
 use Rattle.machine.proofs.Closing.{committed_is}
 use Rattle.marks.specs.declared.cells.Marks.{Marks}
-use Rattle.marks.specs.Marks.{broken_in}
+use Rattle.marks.specs.Ending.{copied}
 use Rattle.marks.proofs.Matched.{broken_at_ruling, unbroken_robust}
 use Rattle.windows.specs.Finding.{windows_by}
 use Rattle.windows.proofs.Answered.{flush_answered}
 use Rattle.judge.specs.declared.verdict.End.{End}
 use Rattle.judge.specs.Runs.{world_of, AllRead, Stopped, AnswersAsDefined}
 use Rattle.judge.specs.Standings.{stand_by, standing_after}
-use Rattle.judge.specs.Verdicts.{kind_by, verdict_after, cut_from}
+use Rattle.judge.specs.Verdicts.{kind_by, verdict_by, verdict_after, cut_from}
 
 -- numbers that were all cleared, as many as were lent
 pub all_cleared : (l : List ℕ) (m n : ℕ) → l ≡ replicate m 0 → m ≡ n → l ≡ replicate n 0
@@ -137,43 +137,44 @@ module _ (bytes : List ℕ) where
             let differ : p ≢ q = λ same. omega (arith, before_lt (events bytes) before) in
             rw (lines_are, ne_eqb p q differ) (by_line before (eqb (line (events bytes) p) (line (events bytes) q)))
 
-    abbrev load : ℕ
-    load = broken_in m.counts
-
     -- the end of the run
     abbrev end_at : End
     end_at = record { number = 1; event = N }
 
     module _ (cut : List ℕ) (right_size : length cut ≡ 56) where
       abbrev cut' : List ℕ
-      cut' = cut_from end_at m.counts cut
+      cut' = cut_from end_at m cut
 
-      broken_with_cut : load ≢ 0 → AnsweredWithCut (verdict_after bytes end_at tables m work) cut cut'
-      broken_with_cut some_load =
-          let some = ne_eqb load 0 some_load in
-          let early = all.loads.early some_load in
+      -- what is answered by the load that breaks the trace, and what becomes of the cut buffer
+      abbrev AnsweredBy : Option ℕ → Type 0
+      AnsweredBy recorded =
+          AnsweredWithCut (Ok (verdict_by bytes (N - 1) tables m work recorded)) cut
+          (is_none recorded gives copied 56 m.cut cut else cut)
+
+      broken_with_cut : (load : ℕ) → m.broken ≡ Some load → AnsweredBy (Some load)
+      broken_with_cut load is_load =
+          let early = all.loads.early load is_load in
           let few : load ≤ 2049 = omega (arith, all.state.limits.few_events) in
-          let ruling = broken_at_ruling (events bytes) N work m whole all.state.rows all.loads some_load in (
-            rw (some, is_accepted, up_is load few, ruling, kind_is load _ _ ruling) refl,
-            rw (some, is_accepted, ruling) refl,
+          let ruling = broken_at_ruling (events bytes) N work m whole all.state.rows all.loads load is_load in (
+            rw (is_accepted, up_is load few, ruling, kind_is load _ _ ruling) refl,
+            rw (is_accepted, ruling) refl,
           )
 
-      robust_with_cut : load ≡ 0 → AnsweredWithCut (verdict_after bytes end_at tables m work) cut cut'
-      robust_with_cut none_found =
-          let none = eq-eqb load 0 none_found in
-          let end = unbroken_robust (events bytes) N m whole (all.loads.none_yet none_found) in
+      robust_with_cut : m.broken ≡ None → AnsweredBy None
+      robust_with_cut none =
+          let end = unbroken_robust (events bytes) N m whole (all.loads.none_yet none) in
           let total = committed_is (events bytes) N w all.state in (
-            rw (none, is_accepted, end.ruling, end.stores_in_lem, total, end.share) refl,
-            rw (none, is_accepted, end.ruling, end.cut cut right_size) refl,
+            rw (is_accepted, end.ruling, end.stores_in_lem, total, end.share) refl,
+            rw (is_accepted, end.ruling, end.cut cut right_size) refl,
           )
 
       -- THE VERDICT AFTER ALL RECORDS, AND THE CUT BUFFER, ARE THE DEFINITIONS'
       all_with_cut : AnsweredWithCut (verdict_after bytes end_at tables m work) cut cut'
-      all_with_cut = by_load (same? load 0)
+      all_with_cut = by_load m.broken refl
         where
-          by_load : (load ≡ 0) ⊎ (load ≢ 0) → AnsweredWithCut (verdict_after bytes end_at tables m work) cut cut'
-          by_load (inl none_found) = robust_with_cut none_found
-          by_load (inr some_load) = broken_with_cut some_load
+          by_load : (recorded : Option ℕ) → m.broken ≡ recorded → AnsweredBy recorded
+          by_load None none = robust_with_cut none
+          by_load (Some load) is_load = broken_with_cut load is_load
 
       all_answers : AnswersAsDefined bytes (verdict_after bytes end_at tables m work) work
       all_answers = rows_there (verdict_after bytes end_at tables m work) all_with_cut.0
@@ -192,7 +193,7 @@ module _ (bytes : List ℕ) where
       abbrev Over : Result Verdict Refusal → List ℕ → Type 0
       Over v cut' = AnsweredWithCut v cut cut' × AnswersAsDefined bytes v work
 
-      over : (k ≡ 1) ⊎ (k ≢ 1) → Over (verdict_after bytes end_by tables m work) (cut_from end_by m.counts cut)
+      over : (k ≡ 1) ⊎ (k ≢ 1) → Over (verdict_after bytes end_by tables m work) (cut_from end_by m cut)
       over (inl is_1) =
           let all = stopped.all_read is_1 in
           rw is_1 (
@@ -204,7 +205,7 @@ module _ (bytes : List ℕ) where
           rw (ne_eqb k 1 not_1) (refused_with_cut k n away cut, refused_answers k n away work)
 
       pub stopped_with_cut :
-          AnsweredWithCut (verdict_after bytes end_by tables m work) cut (cut_from end_by m.counts cut)
+          AnsweredWithCut (verdict_after bytes end_by tables m work) cut (cut_from end_by m cut)
       stopped_with_cut = (over (same? k 1)).0
 
       pub stopped_answers : AnswersAsDefined bytes (verdict_after bytes end_by tables m work) work

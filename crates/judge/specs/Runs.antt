@@ -12,7 +12,7 @@ use Rattle.machine.specs.declared.state.Machine.{Machine}
 use Rattle.machine.specs.Twin.{World, state_of, world}
 use Rattle.machine.specs.Sim.{Sim}
 use Rattle.marks.specs.declared.cells.Marks.{Marks}
-use Rattle.marks.specs.Marks.{marks_of}
+use Rattle.marks.specs.Marks.{no_marks}
 use Rattle.marks.specs.Matching.{MarksMatch}
 use Rattle.judge.specs.declared.run.Begun.{Begun}
 use Rattle.judge.specs.declared.run.Cursor.{Cursor}
@@ -32,12 +32,9 @@ abbrev pub number_in : Next → ℕ
 number_in (On t) = 0
 number_in (Ended k) = k
 
--- the tables and the marks before the first event
+-- the tables before the first event
 abbrev pub no_tables : List ℕ
 no_tables = replicate 3008 0
-
-abbrev pub no_marks : Marks
-no_marks = marks_of (replicate 648 0) (replicate 2048 0)
 
 module _ (bytes : List ℕ) where
   -- what the begin says

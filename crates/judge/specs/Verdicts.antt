@@ -1,6 +1,6 @@
 -- The verdict at the end of a run, and the cut buffer: the run's refusal, the evidence of the load that broke the
 -- trace and where a flush may go, or the least choice.
-use Rattle.std.specs.Prelude.{ℕ, ◌-◌, min, ◌&&◌, List, eqb, Result, Ok, Err}
+use Rattle.std.specs.Prelude.{ℕ, ◌-◌, min, ◌&&◌, List, eqb, Result, Ok, Err, Option, Some, None, is_none}
 use Rattle.record.specs.Tests.{◌gives◌else◌}
 use Rattle.model.specs.Answers.{percent}
 use Rattle.model.specs.declared.Kind.{Kind}
@@ -11,7 +11,7 @@ use Rattle.model.specs.declared.Refusal.{Refusal}
 use Rattle.area.specs.Cells.{one_line_w}
 use Rattle.machine.specs.Tables.{committed_in}
 use Rattle.marks.specs.declared.cells.Marks.{Marks}
-use Rattle.marks.specs.Marks.{broken_in}
+use Rattle.marks.specs.Marks.{broken_at}
 use Rattle.marks.specs.Ending.{copied, stores_in}
 use Rattle.windows.specs.Finding.{windows_by}
 use Rattle.judge.specs.declared.loads.Evidence.{Evidence}
@@ -29,17 +29,18 @@ broken_by bytes work events f =
     Broken events f.load f.missing f.observed (kind_by bytes work f.missing f.observed)
 
 abbrev pub share_by : List ℕ → List ℕ → ℕ
-share_by counts tables = min (percent (stores_in counts) (committed_in tables)) 65535
+share_by least tables = min (percent (stores_in least) (committed_in tables)) 65535
+
+-- of an accepted trace, by the load that breaks it
+abbrev pub verdict_by : List ℕ → ℕ → List ℕ → Marks → List ℕ → Option ℕ → Verdict
+verdict_by bytes events tables m work None = Robust events (share_by m.cut tables)
+verdict_by bytes events tables m work (Some load) = broken_by bytes work events (evidence_at work m load)
 
 abbrev pub verdict_after : List ℕ → End → List ℕ → Marks → List ℕ → Result Verdict Refusal
 verdict_after bytes t tables m work =
     let events = t.event - 1 in
-    let load = broken_in m.counts in
-    eqb t.number 1 gives
-    (eqb load 0 gives Ok (Robust events (share_by m.counts tables)) else
-    Ok (broken_by bytes work events (evidence_at work m load)))
-    else
+    eqb t.number 1 gives Ok (verdict_by bytes events tables m work (broken_at m)) else
     Err (record { number = t.number; event = t.event })
 
-abbrev pub cut_from : End → List ℕ → List ℕ → List ℕ
-cut_from t counts cut = (eqb t.number 1 && eqb (broken_in counts) 0) gives copied 56 counts cut else cut
+abbrev pub cut_from : End → Marks → List ℕ → List ℕ
+cut_from t m cut = (eqb t.number 1 && is_none (broken_at m)) gives copied 56 m.cut cut else cut

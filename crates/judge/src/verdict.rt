@@ -45,7 +45,7 @@ fn broken(trace: &[u8], work: &[u16], events: u16, f: Evidence) -> Verdict
 
 // The percentage of the stores committed in finished stretches that are in the least choice.
 fn share(marks: &Marks, tables: &Tables) -> u16
-    ensures { result ≡ share_by marks.now.counts tables.now }
+    ensures { result ≡ share_by marks.now.cut tables.now }
 {
     marks::percentage(marks.stores_in(), machine::all_committed(tables))
 }
@@ -62,7 +62,7 @@ pub(crate) fn verdict(
 ) -> Result<Verdict, Refusal>
     ensures value { result ≡ verdict_after trace.now t
         tables.now marks.now work.now }
-    ensures cut_after { cut.new ≡ cut_from t marks.now.counts cut.old }
+    ensures cut_after { cut.new ≡ cut_from t marks.now cut.old }
 {
     if t.number != 1 {
         return Err(Refusal {

@@ -21,7 +21,7 @@ use Rattle.model.proofs.Searching.{less?, both, parts, or_cases, or_left, or_rig
 use Rattle.model.proofs.RulingSteps.{raise, raised→, Over}
 use Rattle.area.specs.Cells.{get_row}
 use Rattle.marks.specs.declared.cells.Marks.{Marks}
-use Rattle.marks.specs.Marks.{cut_cell, low_cell, count_in}
+use Rattle.marks.specs.Marks.{thread_cell, count_in, cut_in, low_in}
 use Rattle.marks.specs.Marking.{walked, loaded}
 use Rattle.marks.specs.Testing.{walk_hits, hit, hits, load_hits}
 use Rattle.marks.specs.Judged.{pair_in}
@@ -44,19 +44,18 @@ module _ (ev : ℕ → Event) where
       (N : ℕ) (accepted : Accepted ev N) (F O : ℕ → Bool) (C : Choice) (over : (p : ℕ) → F p ≡ true → Over ev N p)
       (m : Marks) (says : Says ev F O C m) (j : ℕ) (from_1 : 1 ≤ j) (to_7 : j ≤ 7) where
     abbrev low : ℕ → ℕ
-    low t = count_in m.counts (low_cell j t)
+    low t = low_in m j t
 
     abbrev cut : ℕ → ℕ
-    cut t = count_in m.counts (cut_cell j t)
+    cut t = cut_in m j t
 
     -- the numbers of a stretch stand side by side
     test_at :
         (t : ℕ) → t < 8
-        → hit (count_in m.counts (low_cell j 0 + t)) (count_in m.counts (cut_cell j 0 + t)) ≡ hit (low t) (cut t)
+        → hit (count_in m.low (thread_cell j 0 + t)) (count_in m.cut (thread_cell j 0 + t)) ≡ hit (low t) (cut t)
     test_at t there =
-        let low_at : low_cell j 0 + t ≡ low_cell j t = omega arith in
-        let cut_at : cut_cell j 0 + t ≡ cut_cell j t = omega arith in
-        rw (low_at, cut_at)
+        let at : thread_cell j 0 + t ≡ thread_cell j t = omega arith in
+        rw at
 
     -- the lowest marked place of a thread is below the cut
     low_hits : (t : ℕ) → t < 8 → low t ≢ 0 → low t ≤ cut t → Hit F C
@@ -66,7 +65,7 @@ module _ (ev : ℕ → Event) where
         let same_cut = ap₂ C it.in_j it.by_t in
         record { p = it.p; in_f = it.in_f; inside = omega (arith, it.is_it, cut_is, same_cut) }
 
-    hits→ : hits m.counts j ≡ true → Hit F C
+    hits→ : hits m j ≡ true → Hit F C
     unfolding hits
     hits→ passes =
         let (t, there, at_t) = some→ 8 _ passes in
@@ -74,7 +73,7 @@ module _ (ev : ℕ → Event) where
         low_hits t there (eqb-false _ 0 (not-true _ both_hold.0)) (leb-true _ _ both_hold.1)
 
     -- a store of F in the choice is found in its stretch
-    →hits : (p : ℕ) → stretch ev p ≡ j → F p ≡ true → In ev C p → hits m.counts j ≡ true
+    →hits : (p : ℕ) → stretch ev p ≡ j → F p ≡ true → In ev C p → hits m j ≡ true
     unfolding hits
     →hits p in_j in_f inside =
         →some 8 _ t there
@@ -102,18 +101,18 @@ module _ (ev : ℕ → Event) where
   module _
       (N : ℕ) (accepted : Accepted ev N) (F O : ℕ → Bool) (C : Choice) (over : (p : ℕ) → F p ≡ true → Over ev N p)
       (m : Marks) (says : Says ev F O C m) where
-    pub pair→ : pair_in m.counts ≡ true → Hit F C
+    pub pair→ : pair_in m ≡ true → Hit F C
     unfolding pair_in
     pair→ passes =
         let (i, there, at_i) = some→ 7 _ passes in
         hits→ N accepted F O C over m says (suc i) (omega arith) (omega arith) at_i
 
-    pub →pair : Hit F C → pair_in m.counts ≡ true
+    pub →pair : Hit F C → pair_in m ≡ true
     unfolding pair_in
     →pair hit = by_stretch (stretch ev hit.p) refl (fits ev N N hit.p accepted (omega arith) (over _ hit.in_f))
       where
         by_stretch :
-            (j : ℕ) → stretch ev hit.p ≡ j → Fit ev N hit.p → some 7 (λ i. hits m.counts (suc i)) ≡ true
+            (j : ℕ) → stretch ev hit.p ≡ j → Fit ev N hit.p → some 7 (λ i. hits m (suc i)) ≡ true
         by_stretch zero is_j fit = absurd (omega (arith, fit.stretch_from_1))
         by_stretch (suc i) is_j fit =
             let to_7 : suc i ≤ 7 = omega (arith, fit.stretch_to_7) in
@@ -136,10 +135,10 @@ module _ (ev : ℕ → Event) where
     after = loaded l m h s
 
     abbrev walk_hit : Bool
-    walk_hit = walk_hits 2048 l m.counts h s
+    walk_hit = walk_hits 2048 l m.cut h s
 
     abbrev source_hit : Bool
-    source_hit = not (eqb s 0) && hits after.counts (get_row l s 10)
+    source_hit = not (eqb s 0) && hits after (get_row l s 10)
 
     says_after : Says ev (also_marks ev k F) (also_sees ev k O) (also_asks ev k C) after
     says_after =

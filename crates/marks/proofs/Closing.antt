@@ -18,7 +18,7 @@ use Rattle.model.specs.Answers.{tabulate, sum, percent, cut_of, share_of}
 use Rattle.model.proofs.Tabulating.{sum_mono, tabulate_same, tabulate_length, tabulate_at}
 use Rattle.model.proofs.Closure.{closure_fits}
 use Rattle.marks.specs.declared.cells.Marks.{Marks}
-use Rattle.marks.specs.Marks.{cut_cell, count_in}
+use Rattle.marks.specs.Marks.{thread_cell, count_in}
 use Rattle.marks.specs.Ending.{least_at, copied, stores_in}
 use Rattle.marks.specs.Matching.{Judging}
 
@@ -61,21 +61,21 @@ module _ (counts : List ℕ) where
 
 module _ (ev : ℕ → Event) (N : ℕ) where
   module _ (m : Marks) (judging : Judging ev N m) where
-    least_table : tabulate 56 (least_at m.counts) ≡ cut_of (closure ev N)
+    least_table : tabulate 56 (least_at m.cut) ≡ cut_of (closure ev N)
     unfolding cut_of
     least_table = tabulate_same 56 _ _ least_is
       where
-        least_is : (i : ℕ) → i < 56 → least_at m.counts i ≡ closure ev N (i / 8 + 1) (i % 8)
+        least_is : (i : ℕ) → i < 56 → least_at m.cut i ≡ closure ev N (i / 8 + 1) (i % 8)
         least_is i there =
-            let at : 8 + i ≡ cut_cell (i / 8 + 1) (i % 8) = omega arith in
-            ap (λ (cell : ℕ). count_in m.counts cell) at
+            let at : 8 + i ≡ thread_cell (i / 8 + 1) (i % 8) = omega arith in
+            ap (λ (cell : ℕ). count_in m.cut cell) at
             ∙ judging.cuts (i / 8 + 1) (i % 8) (omega arith) (omega arith) (omega arith)
 
     -- THE CUT BUFFER
-    pub cut_is : (out : List ℕ) → length out ≡ 56 → copied 56 m.counts out ≡ cut_of (closure ev N)
-    cut_is out size = copied_all m.counts 56 out size ∙ least_table
+    pub cut_is : (out : List ℕ) → length out ≡ 56 → copied 56 m.cut out ≡ cut_of (closure ev N)
+    cut_is out size = copied_all m.cut 56 out size ∙ least_table
 
-    pub stores_in_is : stores_in m.counts ≡ sum (cut_of (closure ev N))
+    pub stores_in_is : stores_in m.cut ≡ sum (cut_of (closure ev N))
     stores_in_is = ap sum least_table
 
   -- ---- the share

@@ -10,7 +10,9 @@ use mathlib.Core.Bool.{Bool, true, false, ◌||◌, not}
 use mathlib.Core.Logic.{◌⊎◌, inl, inr, ◌≢◌}
 use mathlib.Core.List.{List, [], ◌∷◌}
 use lib.Dec.{eqb, ltb}
+use lib.ListN.{length-set}
 use borrow.Author.Tests.{eqb-true, eqb-false, ne_eqb, ltb-true, lt-ltb, not-true}
+use Rattle.std.specs.Prelude.{None}
 use Rattle.record.specs.declared.events.Event.{Event}
 use Rattle.model.specs.Search.{any, member}
 use Rattle.model.specs.Trace.{location, source}
@@ -28,11 +30,11 @@ use Rattle.model.proofs.RulingSteps.{raise, raised→}
 use Rattle.area.specs.Cells.{committed_at}
 use Rattle.area.specs.Rows.{Linked, Falls, Rows}
 use Rattle.marks.specs.declared.cells.Marks.{Marks}
-use Rattle.marks.specs.Marks.{marks_of, last_cell, source_cell, broken_cell, count_in, broken_in}
+use Rattle.marks.specs.Marks.{location_cell, last_in, source_in}
 use Rattle.marks.specs.Marking.{loaded}
 use Rattle.marks.specs.Judged.{repeated, noted, walked_over, older_in, start_of, deepest_of, walked_from, held_from}
 use Rattle.marks.specs.Matching.{Reached, Says, Loads}
-use Rattle.marks.proofs.Counts.{loaded_leaves, noted_size, noted_leaves}
+use Rattle.marks.proofs.Counts.{Kept, loaded_keeps}
 use Rattle.marks.proofs.Says.{pointwise}
 use Rattle.marks.proofs.Segments.{from, passed_stands, fit_stands, passed_newer, adds_nothing, walks_on}
 use Rattle.marks.proofs.Segments.{from_stops}
@@ -60,7 +62,7 @@ module _ (ev : ℕ → Event) where
     pub due : Due ev n ks F O C
     pub says : Says ev F O C m
     pub loads : Loads ev (suc n) F O m
-    pub unbroken : broken_in m.counts ≡ 0
+    pub unbroken : m.broken ≡ None
 
   -- with some F, O and C
   pub record SomePart (n : ℕ) (ks : List ℕ) (m : Marks) : Type 0 where
@@ -71,7 +73,7 @@ module _ (ev : ℕ → Event) where
 
   -- load k repeats the load noted at its location
   abbrev pub again? : Marks → ℕ → Bool
-  again? m k = repeated m.counts (head_of (chain ev k)) (location ev k) (source ev k)
+  again? m k = repeated m (head_of (chain ev k)) (location ev k) (source ev k)
 
   -- load k by the rows l, walked from the head; and of a close, walked from `first` on and noted with the source `back`
   abbrev pub walked_one : List ℕ → Marks → ℕ → Marks
@@ -165,17 +167,11 @@ module _ (ev : ℕ → Event) where
       marks : (p : ℕ) → (passed (source ev k) p ps || F p) ≡ also_marks ev k F p
       reached : Reached (also_marks ev k F) (also_sees ev k O) (chain ev k) back
 
-    -- noting a load leaves what the marks say, and which load breaks the trace
-    says_noted :
-        {F O : ℕ → Bool} {C : Choice} (v : Marks) (back : ℕ) → Says ev F O C v
-        → Says ev F O C (marks_of (noted v.counts h x back) v.flags)
+    -- noting a load leaves what the marks say
+    says_noted : {F O : ℕ → Bool} {C : Choice} (v : Marks) (back : ℕ) → Says ev F O C v → Says ev F O C (noted v h x back)
     says_noted v back =
-        says_there ev v _ (noted_size v.counts h x back)
-        (λ i below. noted_leaves v.counts h x back i (λ same. omega arith) (λ same. omega arith))
-
-    broken_noted : (counts : List ℕ) (back : ℕ) → broken_in (noted counts h x back) ≡ broken_in counts
-    broken_noted counts back =
-        noted_leaves counts h x back broken_cell (λ same. omega arith) (λ same. omega arith)
+        says_there ev v _ _ v.broken (length-set v.last (location_cell x) h)
+        (length-set v.source (location_cell x) back)
 
     walk_next : (first back : ℕ) (ps : List ℕ) → Walk first back ps → Part n ks F' O' C' (walked_back l m k first back)
     walk_next first back ps walk = record {
@@ -184,19 +180,18 @@ module _ (ev : ℕ → Event) where
           load_says ev n l k accepted found F O C before (says_noted m back part.says) first ps walk.along
           walk.marks;
       loads =
-          loads_later ev (suc n) (suc n) F' F' O' O' (omega arith) (λ p in_f. in_f) (λ q in_o. in_o) before after
-          (λ i from_128 below. loaded_leaves l before first s i from_128)
+          loads_later ev (suc n) (suc n) F' F' O' O' (omega arith) (λ p in_f. in_f) (λ q in_o. in_o) before _
+          kept.0 kept.1
           (noted_loads ev n k accepted found.not_later x_there F O m part.loads back walk.reached
-          part.says.counts_size);
-      unbroken =
-          loaded_leaves l before first s broken_cell (omega arith) ∙ (broken_noted m.counts back ∙ part.unbroken);
+          part.says.last_size part.says.source_size);
+      unbroken = kept.2 ∙ part.unbroken;
     }
       where
         before : Marks
-        before = marks_of (noted m.counts h x back) m.flags
+        before = noted m h x back
 
-        after : Marks
-        after = loaded l before first s
+        kept : Kept before (loaded l before first s)
+        kept = loaded_keeps l before first s
 
     -- back to its own source
     reached_source : Reached F' O' (chain ev k) s
@@ -217,11 +212,14 @@ module _ (ev : ℕ → Event) where
       loads =
           noted_loads ev n k accepted found.not_later x_there F O after
           (loads_later ev (suc n) (suc n) F F O O (omega arith) (λ p in_f. in_f) (λ q in_o. in_o) m after
-          (λ i from_128 below. loaded_leaves l m h s i from_128) part.loads)
-          s reached_source says_after.counts_size;
-      unbroken = broken_noted after.counts s ∙ (loaded_leaves l m h s broken_cell (omega arith) ∙ part.unbroken);
+          kept.0 kept.1 part.loads)
+          s reached_source says_after.last_size says_after.source_size;
+      unbroken = kept.2 ∙ part.unbroken;
     }
       where
+        kept : Kept m (loaded l m h s)
+        kept = loaded_keeps l m h s
+
         after : Marks
         after = loaded l m h s
 
@@ -233,9 +231,9 @@ module _ (ev : ℕ → Event) where
 
     module _
         (b : ℕ) (falls : Falls l b (chain ev k))
-        (same : eqb (count_in m.counts (last_cell (location ev k))) (head_of (chain ev k)) ≡ true) where
+        (same : eqb (last_in m (location ev k)) (head_of (chain ev k)) ≡ true) where
       abbrev d : ℕ
-      d = count_in m.counts (source_cell x)
+      d = source_in m x
 
       to_d : Reached F O (chain ev k) d
       to_d = noted_reached ev n k accepted found.not_later x_there F O m part.loads same
@@ -313,16 +311,16 @@ module _ (ev : ℕ → Event) where
     held_next b falls = by_again (test (again? m k))
       where
         first : ℕ
-        first = start_of l m.counts h x s
+        first = start_of l m h x s
 
         back : ℕ
-        back = deepest_of l m.counts h x s
+        back = deepest_of l m h x s
 
         same_head : Bool
-        same_head = eqb (count_in m.counts (last_cell x)) h
+        same_head = eqb (last_in m x) h
 
         older : Bool
-        older = older_in l s (count_in m.counts (source_cell x))
+        older = older_in l s (source_in m x)
 
         by_age :
             same_head ≡ true → (older ≡ true) ⊎ (older ≡ false) → Part n ks F' O' C' (walked_back l m k first back)

@@ -73,7 +73,7 @@ module _
     where
       by_test :
           (marked? ev N p ≡ true) ⊎ (marked? ev N p ≡ false)
-          → (marked? ev N p && in_cut l m.counts p) ≡ hit? ev N p
+          → (marked? ev N p && in_cut l m.cut p) ≡ hit? ev N p
       by_test (inl marked) =
           let fit = marked_fits p marked in
           let in_closure = in_cut_lem ev N l rows p fit (marked? ev N) (observed? ev N) (closure ev N) m judging in

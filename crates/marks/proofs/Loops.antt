@@ -1,7 +1,7 @@
 -- One turn of each of the code's loops, and what the code's searches find: laws over plain variables, which the
 -- functions' proofs hand what their calls ensure.
 -- In order: the walk; a load that breaks the trace; the loads that a close counts; the searches.
-use Rattle.std.specs.Prelude.{Option, Some, None, MatchOption, unwrap_or}
+use Rattle.std.specs.Prelude.{Option, Some, None, MatchOption, unwrap_or, is_some}
 use Rattle.std.specs.List.{list_any, range_with_len}
 use Prim.Native.Nat.{ℕ, zero, suc, ◌+◌, ◌-◌, ◌≤◌, ◌<◌}
 use native.Mathlib.Nat.{not-suc-le-zero}
@@ -11,15 +11,14 @@ use mathlib.Core.Path.{◌≡◌, refl, sym, ap, ◌∙◌}
 use mathlib.Core.List.{List}
 use mathlib.Core.Logic.{◌⊎◌, inl, inr, ◌≢◌}
 use mathlib.Core.Bool.{Bool, true, false, cond, ◌||◌, or-false, or_assoc, or_comm}
-use lib.ListN.{set}
 use borrow.Author.Tests.{eq-eqb, ne_eqb}
 use Rattle.model.specs.Search.{some, first_from, first}
 use Rattle.model.proofs.Searching.{same?}
 use Rattle.area.specs.Cells.{get_row}
 use Rattle.marks.specs.declared.cells.Marks.{Marks}
-use Rattle.marks.specs.Marks.{marks_of, broken_cell, broken_in}
+use Rattle.marks.specs.Marks.{marks_of}
 use Rattle.marks.specs.Marking.{marked, walked, loaded}
-use Rattle.marks.specs.Testing.{mark_hits, walk_hits, load_hits}
+use Rattle.marks.specs.Testing.{in_cut, walk_hits, load_hits}
 use Rattle.marks.specs.Judged.{repeated, noted, judged, held_at, all_held}
 
 -- ---- the walk
@@ -28,12 +27,12 @@ use Rattle.marks.specs.Judged.{repeated, noted, judged, held_at, all_held}
 -- it stands at p, and `hit` says what it has found.
 module _ (l : List ℕ) (stop : ℕ) (w : Marks) (b : Bool) where
   abbrev pub Left : ℕ → Marks → ℕ → Bool → Type 0
-  Left n m p hit = (walked n l m p stop ≡ w) × ((hit || walk_hits n l m.counts p stop) ≡ b)
+  Left n m p hit = (walked n l m p stop ≡ w) × ((hit || walk_hits n l m.cut p stop) ≡ b)
 
   -- nothing more is marked and nothing more is found
   no_more :
       (n : ℕ) (m : Marks) (p : ℕ) (hit : Bool) → Left n m p hit
-      → walked n l m p stop ≡ m → walk_hits n l m.counts p stop ≡ false → (hit ≡ b) × (m ≡ w)
+      → walked n l m p stop ≡ m → walk_hits n l m.cut p stop ≡ false → (hit ≡ b) × (m ≡ w)
   no_more n m p hit (walk_is, hit_is) no_mark no_hit = (sym (or-false hit) ∙ rw no_hit at hit_is, sym no_mark ∙ walk_is)
 
   pub walk_none : (n : ℕ) (m : Marks) (p : ℕ) (hit : Bool) → Left n m p hit → n ≡ 0 → (hit ≡ b) × (m ≡ w)
@@ -57,7 +56,7 @@ module _ (l : List ℕ) (stop : ℕ) (w : Marks) (b : Bool) where
   pub walk_more :
       (n : ℕ) (m : Marks) (p : ℕ) (hit : Bool) (m₁ : Marks) (next : ℕ) (here found : Bool)
       → Left n m p hit → 0 < n → (p ≡ 0 → ⊥) → (p ≡ stop → ⊥)
-      → m₁ ≡ marked l m p → next ≡ get_row l p 14 → here ≡ mark_hits l m.counts p → found ≡ (hit || here)
+      → m₁ ≡ marked l m p → next ≡ get_row l p 14 → here ≡ in_cut l m.cut p → found ≡ (hit || here)
       → Left (n - 1) m₁ next found
   unfolding walked walk_hits marked
   walk_more zero m p hit m₁ next here found left some store not_stop mark_is next_is here_is found_is =
@@ -65,19 +64,19 @@ module _ (l : List ℕ) (stop : ℕ) (w : Marks) (b : Bool) where
   walk_more (suc n) m p hit m₁ next here found (walk_is, hit_is) some store not_stop mark_is next_is here_is found_is =
       rw (found_is, here_is, mark_is, next_is, sub-one) (
         rw (ne_eqb p 0 store, ne_eqb p stop not_stop) at walk_is,
-        or_assoc hit (mark_hits l m.counts p) _ ∙ rw (ne_eqb p 0 store, ne_eqb p stop not_stop) at hit_is,
+        or_assoc hit (in_cut l m.cut p) _ ∙ rw (ne_eqb p 0 store, ne_eqb p stop not_stop) at hit_is,
       )
 
 -- ---- a load that breaks the trace
 
 pub judged_breaks :
-    (l : List ℕ) (m : Marks) (h x s e : ℕ) (again : Bool) → again ≡ repeated m.counts h x s → again ≡ false
-    → broken_in m.counts ≡ 0 → (m₁ : Marks) (breaks : Bool) (counts : List ℕ)
-    → (breaks ≡ load_hits l m h s) × (m₁ ≡ loaded l m h s) → counts ≡ noted m₁.counts h x s → breaks ≡ true
-    → (e' : ℕ) → e' ≡ e → marks_of (set counts broken_cell e') m₁.flags ≡ judged l m h x s e
+    (l : List ℕ) (m : Marks) (h x s e : ℕ) (again : Bool) → again ≡ repeated m h x s → again ≡ false
+    → is_some m.broken ≡ false → (m₁ m₂ : Marks) (breaks : Bool)
+    → (breaks ≡ load_hits l m h s) × (m₁ ≡ loaded l m h s) → m₂ ≡ noted m₁ h x s → breaks ≡ true → (e' : ℕ) → e' ≡ e
+    → marks_of m₂.cut m₂.low m₂.last m₂.source (Some e') m₂.flags ≡ judged l m h x s e
 unfolding judged
-judged_breaks l m h x s e again again_is new unbroken m₁ breaks counts loads notes passes e' e_is =
-    rw (← again_is, new, eq-eqb (broken_in m.counts) 0 unbroken, ← loads.0, passes, e_is, notes, loads.1) refl
+judged_breaks l m h x s e again again_is new unbroken m₁ m₂ breaks loads notes passes e' e_is =
+    rw (← again_is, new, unbroken, ← loads.0, passes, e_is, notes, loads.1) refl
 
 -- ---- the loads that a close counts
 

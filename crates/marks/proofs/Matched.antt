@@ -5,14 +5,13 @@
 -- load counts, for a load and for a close; `match_start`; the ends, `broken_at_ruling` and `unbroken_robust`.
 use Prim.Native.Nat.{ℕ, suc, ◌≤◌, ◌<◌, min}
 use native.Mathlib.Omega.{arith}
-use mathlib.Core.Path.{◌≡◌, refl, sym, ◌∙◌}
+use mathlib.Core.Path.{◌≡◌, refl, sym, ◌∙◌, ap}
 use mathlib.Core.Bool.{Bool, true, false, cond}
-use mathlib.Core.Logic.{◌⊎◌, inl, inr, ◌≢◌}
+use mathlib.Core.Logic.{◌⊎◌, inl, inr}
 use mathlib.Core.List.{List, [], ◌∷◌}
 use lib.Dec.{eqb}
-use lib.ListN.{length, set, length-set, replicate, length-replicate}
-use lib.Seq.{get_or-set_same, get_or-set_other}
-use borrow.Author.Tests.{eq-eqb, ne_eqb}
+use lib.ListN.{length, length-replicate}
+use Rattle.std.specs.Prelude.{Option, Some, None, is_some, unwrap_or}
 use Rattle.record.specs.declared.events.Event.{Event}
 use Rattle.model.specs.Search.{some, any, most}
 use Rattle.model.specs.Trace.{thread, location, source, stretch}
@@ -22,15 +21,15 @@ use Rattle.model.specs.Rules.{Accepted}
 use Rattle.model.specs.Choice.{Choice, robust, broken, finished}
 use Rattle.model.specs.Verdict.{forbidden?, observed?, bad?, closure, ruling_of}
 use Rattle.model.specs.Answers.{sum, percent, cut_of, share_of}
-use Rattle.model.proofs.Searching.{false_true, test, same?, same_test, or_left, eqb_same}
+use Rattle.model.proofs.Searching.{false_true, test, same_test, or_left, eqb_same}
 use Rattle.model.proofs.Roles.{one_kind, begin_no_load}
-use Rattle.model.proofs.Acceptance.{prefix, begins, store_not_0}
+use Rattle.model.proofs.Acceptance.{prefix, begins}
 use Rattle.model.proofs.RulingSteps.{Over, marked_over, hit→, →hit, hit_is_bad, bad_has_hit}
 use Rattle.model.proofs.RulingSteps.{robust_ruling, broken_ruling}
 use Rattle.area.specs.Rows.{Linked, HeldLinked, Rows}
 use Rattle.area.proofs.ReadBack.{cleared_at}
 use Rattle.marks.specs.declared.cells.Marks.{Marks}
-use Rattle.marks.specs.Marks.{marks_of, broken_cell, count_in, broken_in}
+use Rattle.marks.specs.Marks.{marks_of, no_marks, thread_cell, location_cell, flag_cell}
 use Rattle.marks.specs.Testing.{load_hits, missing_by, observed_by}
 use Rattle.marks.specs.Judged.{with_breaking, judged, all_held, pair_in, judged_held}
 use Rattle.marks.specs.Ending.{copied, stores_in}
@@ -47,38 +46,43 @@ use Rattle.marks.proofs.HeldLoads.{held_in_turn}
 
 module _ (ev : ℕ → Event) where
   -- no load has broken the trace, and one has
-  match_unbroken : (n : ℕ) (m : Marks) → broken_in m.counts ≡ 0 → Unbroken ev n m → MarksMatch ev n m
+  match_unbroken : (n : ℕ) (m : Marks) → m.broken ≡ None → Unbroken ev n m → MarksMatch ev n m
   match_unbroken n m none so_far = record {
     none_yet = λ _. so_far;
-    early = λ some. absurd (some none);
-    broken_at = λ some. absurd (some none);
+    early = λ load is. false_true (ap is_some (sym none ∙ is));
+    broken_at = λ load is. false_true (ap is_some (sym none ∙ is));
   }
 
   match_broken :
-      (n load : ℕ) (m : Marks) → broken_in m.counts ≡ load → load ≢ 0 → load < n → BrokenAt ev load m
-      → MarksMatch ev n m
-  match_broken n load m is_load some early broken_at = record {
-    none_yet = λ none. absurd (some (sym is_load ∙ none));
-    early = λ _. rw is_load early;
-    broken_at = λ _. rw is_load broken_at;
+      (n load : ℕ) (m : Marks) → m.broken ≡ Some load → load < n → BrokenAt ev load m → MarksMatch ev n m
+  match_broken n load m is_load early broken_at = record {
+    none_yet = λ none. false_true (ap is_some (sym none ∙ is_load));
+    early = λ it is. rw (same it is) early;
+    broken_at = λ it is. rw (same it is) broken_at;
   }
+    where
+      same : (it : ℕ) → m.broken ≡ Some it → it ≡ load
+      same it is = ap (λ (o : Option ℕ). unwrap_or o 0) (sym is ∙ is_load)
 
   -- cleared marks
-  unbroken_start :
-      (m : Marks) → length m.counts ≡ 648 → length m.flags ≡ 2048
-      → ((i : ℕ) → count_in m.counts i ≡ 0) → ((i : ℕ) → count_in m.flags i ≡ 0) → Unbroken ev 0 m
+  unbroken_start : Unbroken ev 0 no_marks
   unfolding marked? forbidden? observed? closure bad? some most
-  unbroken_start m counts_size flags_size no_counts no_flags = record {
+  unbroken_start = record {
     judging = record {
-      counts_size = counts_size;
-      flags_size = flags_size;
-      flags = λ e to_2048. no_flags _;
-      cuts = λ j t from_1 to_7 there. no_counts _;
-      lows = λ j t from_1 to_7 there some. absurd (some (no_counts _));
+      cut_size = length-replicate {A = ℕ} 64 0;
+      low_size = length-replicate {A = ℕ} 64 0;
+      last_size = length-replicate {A = ℕ} 256 0;
+      source_size = length-replicate {A = ℕ} 256 0;
+      flags_size = length-replicate {A = ℕ} 2048 0;
+      flags = λ e to_2048. cleared_at 2048 (flag_cell e);
+      cuts = λ j t from_1 to_7 there. cleared_at 64 (thread_cell j t);
+      lows = λ j t from_1 to_7 there some. absurd (some (cleared_at 64 (thread_cell j t)));
       lowest = λ j t from_1 to_7 there p in_f. false_true in_f;
     };
     no_pair = refl;
-    loads = loads_start ev (marked? ev 0) (observed? ev 0) m no_counts;
+    loads =
+        loads_start ev (marked? ev 0) (observed? ev 0) no_marks (λ x. cleared_at 256 (location_cell x))
+        (λ x. cleared_at 256 (location_cell x));
   }
 
   hit_bad : (N : ℕ) → Accepted ev N → Hit ev (marked? ev N) (closure ev N) → bad? ev N ≡ true
@@ -88,15 +92,15 @@ module _ (ev : ℕ → Event) where
   -- ---- the event
 
   module _
-      (n : ℕ) (accepted : Accepted ev (suc n)) (m : Marks) (none : broken_in m.counts ≡ 0)
+      (n : ℕ) (accepted : Accepted ev (suc n)) (m : Marks) (none : m.broken ≡ None)
       (so_far : Unbroken ev n m) where
     start : Part ev n (counting ev n) (marked? ev n) (observed? ev n) (closure ev n) m
     start = record {
       due = due_start ev n accepted;
       says = so_far.judging;
       loads =
-          loads_later ev n (suc n) _ _ _ _ (omega arith) (λ p in_f. in_f) (λ q in_o. in_o) m m
-          (λ i from_128 below. refl) so_far.loads;
+          loads_later ev n (suc n) _ _ _ _ (omega arith) (λ p in_f. in_f) (λ q in_o. in_o) m m refl refl
+          so_far.loads;
       unbroken = none;
     }
 
@@ -120,8 +124,7 @@ module _ (ev : ℕ → Event) where
       loads_after : Loads ev (suc n) (marked? ev (suc n)) (observed? ev (suc n)) after
       loads_after =
           loads_later ev (suc n) (suc n) F _ O _ (omega arith) (λ p in_f. sym (same_f p) ∙ in_f)
-          (λ q in_o. sym (all_seen ev n F O C end.due q) ∙ in_o) after after (λ i from_128 below. refl)
-          end.loads
+          (λ q in_o. sym (all_seen ev n F O C end.due q) ∙ in_o) after after refl refl end.loads
 
       -- the event breaks the trace exactly if there is a pair with it
       breaks_is_bad : breaks ≡ bad? ev (suc n)
@@ -148,13 +151,6 @@ module _ (ev : ℕ → Event) where
                 inside = omega (arith, inside, same_c (stretch ev p) (thread ev p));
               })
 
-      -- then it is not the begin, which stores nothing
-      not_begin : breaks ≡ true → n ≢ 0
-      not_begin passes is_0 =
-          let hit = told passes in
-          let it = marked_over ev (suc n) hit.p (sym (same_f hit.p) ∙ hit.in_f) in
-          store_not_0 ev (suc n) accepted (omega arith) it.store (omega (arith, it.early))
-
       unbroken_event : breaks ≡ false → Unbroken ev (suc n) after
       unbroken_event holds = record {
         judging = judging_after;
@@ -162,14 +158,12 @@ module _ (ev : ℕ → Event) where
         loads = loads_after;
       }
 
-      broken_event : breaks ≡ true → BrokenAt ev n (marks_of (set after.counts broken_cell n) after.flags)
+      broken_event : breaks ≡ true → BrokenAt ev n (marks_of after.cut after.low after.last after.source (Some n) after.flags)
       broken_event passes = record {
         accepted = accepted;
         no_pair_before = so_far.no_pair;
         pair = sym breaks_is_bad ∙ passes;
-        judging =
-            says_there ev after _ (length-set after.counts broken_cell n)
-            (λ i below. get_or-set_other after.counts broken_cell i n 0 (λ same. omega arith)) judging_after;
+        judging = says_there ev after after.last after.source (Some n) refl refl judging_after;
       }
 
       match_judged : MarksMatch ev (suc n) (with_breaking n breaks after)
@@ -177,30 +171,25 @@ module _ (ev : ℕ → Event) where
         where
           by_test : (breaks ≡ true) ⊎ (breaks ≡ false) → MarksMatch ev (suc n) (with_breaking n breaks after)
           by_test (inr holds) = rw holds (match_unbroken (suc n) after end.unbroken (unbroken_event holds))
-          by_test (inl passes) =
-              let room = judging_after.counts_size in
-              rw passes
-              (match_broken (suc n) n _ (get_or-set_same after.counts broken_cell n 0 (omega arith)) (not_begin passes)
-              (omega arith) (broken_event passes))
+          by_test (inl passes) = rw passes (match_broken (suc n) n _ refl (omega arith) (broken_event passes))
 
   -- the marks stay behind the event that broke the trace
   match_behind :
-      (n : ℕ) (m : Marks) → broken_in m.counts ≢ 0 → MarksMatch ev n m → MarksMatch ev (suc n) m
-  match_behind n m some matching =
-      match_broken (suc n) (broken_in m.counts) m refl some (omega (arith, matching.early some))
-      (matching.broken_at some)
+      (n load : ℕ) (m : Marks) → m.broken ≡ Some load → MarksMatch ev n m → MarksMatch ev (suc n) m
+  match_behind n load m is_load matching =
+      match_broken (suc n) load m is_load (omega (arith, matching.early load is_load)) (matching.broken_at load is_load)
 
   -- they stay where what is due adds nothing
   match_same :
       (n : ℕ) (m : Marks) → Accepted ev (suc n) → MarksMatch ev n m
-      → ((so_far : Unbroken ev n m) → broken_in m.counts ≡ 0
+      → ((so_far : Unbroken ev n m) → m.broken ≡ None
       → Part ev n [] (marked? ev n) (observed? ev n) (closure ev n) m)
       → MarksMatch ev (suc n) m
-  match_same n m accepted matching end = by_broken (same? (broken_in m.counts) 0)
+  match_same n m accepted matching end = by_broken m.broken refl
     where
-      by_broken : (broken_in m.counts ≡ 0) ⊎ (broken_in m.counts ≢ 0) → MarksMatch ev (suc n) m
-      by_broken (inr some) = match_behind n m some matching
-      by_broken (inl none) =
+      by_broken : (recorded : Option ℕ) → m.broken ≡ recorded → MarksMatch ev (suc n) m
+      by_broken (Some load) is_load = match_behind n load m is_load matching
+      by_broken None none =
           let so_far = matching.none_yet none in
           match_judged n accepted m none so_far (marked? ev n) (observed? ev n) (closure ev n) m (end so_far none) false
           (λ never. false_true never) (no_hit n accepted m none so_far)
@@ -229,12 +218,12 @@ module _ (ev : ℕ → Event) where
     found = found_it ev n l n (rw alone (or_left (eqb n n) _ (eqb_same n))) rows links
 
     load_due :
-        (so_far : Unbroken ev n m) → broken_in m.counts ≡ 0
+        (so_far : Unbroken ev n m) → m.broken ≡ None
         → Part ev n (n ∷ []) (marked? ev n) (observed? ev n) (closure ev n) m
     load_due so_far none = rw alone at (start n accepted m none so_far)
 
     walked_load :
-        broken_in m.counts ≡ 0
+        m.broken ≡ None
         → MarksMatch ev (suc n) (with_breaking n (load_hits l m h s) (walked_one ev l m n))
     walked_load none =
         match_judged n accepted m none so_far F' (also_sees ev n (observed? ev n)) C' _ end (load_hits l m h s)
@@ -267,23 +256,21 @@ module _ (ev : ℕ → Event) where
 
     pub match_load : MarksMatch ev (suc n) (judged l m (head_of (chain ev n)) (location ev n) (source ev n) n)
     unfolding judged
-    match_load = by_tests (test (again? ev m n)) (same? (broken_in m.counts) 0)
+    match_load = by_tests (test (again? ev m n)) m.broken refl
       where
         by_tests :
-            (again? ev m n ≡ true) ⊎ (again? ev m n ≡ false)
-            → (broken_in m.counts ≡ 0) ⊎ (broken_in m.counts ≢ 0)
+            (again? ev m n ≡ true) ⊎ (again? ev m n ≡ false) → (recorded : Option ℕ) → m.broken ≡ recorded
             → MarksMatch ev (suc n)
             (cond (again? ev m n) m
-            (cond (eqb (broken_in m.counts) 0) (with_breaking n (load_hits l m h s) (walked_one ev l m n)) m))
-        by_tests (inl again) either =
+            (cond (is_some recorded) m (with_breaking n (load_hits l m h s) (walked_one ev l m n))))
+        by_tests (inl again) recorded is =
             rw again
             (match_same n m accepted matching
             (λ so_far none.
             again_next ev n l n [] accepted found (marked? ev n) (observed? ev n) (closure ev n) m
             (load_due so_far none) again))
-        by_tests (inr new) (inl none) = rw (new, eq-eqb (broken_in m.counts) 0 none) (walked_load none)
-        by_tests (inr new) (inr some) =
-            rw (new, ne_eqb (broken_in m.counts) 0 some) (match_behind n m some matching)
+        by_tests (inr new) None none = rw new (walked_load none)
+        by_tests (inr new) (Some load) is_load = rw new (match_behind n load m is_load matching)
 
   -- THE LOADS OF A CLOSE
   module _
@@ -291,10 +278,10 @@ module _ (ev : ℕ → Event) where
       (newest : ℕ) (links : HeldLinked ev l newest (counting ev n)) (few : length (counting ev n) ≤ 2048)
       (m : Marks) (matching : MarksMatch ev n m) where
     all_held_lem :
-        broken_in m.counts ≡ 0
-        → MarksMatch ev (suc n) (with_breaking n (pair_in (all_held 2048 l m newest).counts) (all_held 2048 l m newest))
+        m.broken ≡ None
+        → MarksMatch ev (suc n) (with_breaking n (pair_in (all_held 2048 l m newest)) (all_held 2048 l m newest))
     all_held_lem none =
-        match_judged n accepted m none so_far end.F end.O end.C after end.part (pair_in after.counts)
+        match_judged n accepted m none so_far end.F end.O end.C after end.part (pair_in after)
         (pair→ ev (suc n) accepted end.F end.O end.C over after end.part.says)
         (→pair ev (suc n) accepted end.F end.O end.C over after end.part.says)
       where
@@ -315,15 +302,15 @@ module _ (ev : ℕ → Event) where
 
     pub match_held : MarksMatch ev (suc n) (judged_held l m newest n)
     unfolding judged_held
-    match_held = by_broken (same? (broken_in m.counts) 0)
+    match_held = by_broken m.broken refl
       where
         by_broken :
-            (broken_in m.counts ≡ 0) ⊎ (broken_in m.counts ≢ 0)
+            (recorded : Option ℕ) → m.broken ≡ recorded
             → MarksMatch ev (suc n)
-            (cond (eqb (broken_in m.counts) 0)
-            (with_breaking n (pair_in (all_held 2048 l m newest).counts) (all_held 2048 l m newest)) m)
-        by_broken (inl none) = rw (eq-eqb (broken_in m.counts) 0 none) (all_held_lem none)
-        by_broken (inr some) = rw (ne_eqb (broken_in m.counts) 0 some) (match_behind n m some matching)
+            (cond (is_some recorded) m
+            (with_breaking n (pair_in (all_held 2048 l m newest)) (all_held 2048 l m newest)))
+        by_broken None none = all_held_lem none
+        by_broken (Some load) is_load = match_behind n load m is_load matching
 
   -- ---- the start
 
@@ -334,15 +321,9 @@ module _ (ev : ℕ → Event) where
       let begun = begins ev 1 accepted (omega arith) in
       rw (begin_no_load ev 0 begun, one_kind ev 0 1 16 (omega arith) begun)
 
-  pub match_start : Accepted ev 1 → MarksMatch ev 1 (marks_of (replicate 648 0) (replicate 2048 0))
+  pub match_start : Accepted ev 1 → MarksMatch ev 1 no_marks
   match_start accepted =
-      match_none 0 cleared accepted (none_at_begin accepted)
-      (match_unbroken 0 cleared (cleared_at 648 broken_cell)
-      (unbroken_start cleared (length-replicate {A = ℕ} 648 0) (length-replicate {A = ℕ} 2048 0) (cleared_at 648)
-      (cleared_at 2048)))
-    where
-      cleared : Marks
-      cleared = marks_of (replicate 648 0) (replicate 2048 0)
+      match_none 0 no_marks accepted (none_at_begin accepted) (match_unbroken 0 no_marks refl unbroken_start)
 
   -- ---- the ends of an accepted trace of N events
 
@@ -358,24 +339,23 @@ module _ (ev : ℕ → Event) where
 
   -- a load broke it
   pub broken_at_ruling :
-      (N : ℕ) (l : List ℕ) (m : Marks) → Accepted ev N → Rows ev N l → MarksMatch ev N m → broken_in m.counts ≢ 0
-      → let load = broken_in m.counts in
-      let missing = missing_by l m (suc load) in
+      (N : ℕ) (l : List ℕ) (m : Marks) → Accepted ev N → Rows ev N l → MarksMatch ev N m → (load : ℕ)
+      → m.broken ≡ Some load
+      → let missing = missing_by l m (suc load) in
       ruling_of ev N ≡ broken load missing (observed_by l m.flags (suc load) missing)
-  broken_at_ruling N l m accepted rows matching some =
-      let load = broken_in m.counts in
-      let broke = matching.broken_at some in
-      let first_rows = rows_earlier (suc load) N l (matching.early some) rows in
+  broken_at_ruling N l m accepted rows matching load is_load =
+      let broke = matching.broken_at load is_load in
+      let first_rows = rows_earlier (suc load) N l (matching.early load is_load) rows in
       let missing = missing_is ev (suc load) broke.accepted l first_rows m broke.judging in
       let observed = observed_is ev (suc load) broke.accepted l first_rows m broke.judging broke.pair in
       rw (missing, observed)
-      (broken_ruling ev N load accepted (matching.early some) broke.no_pair_before broke.pair)
+      (broken_ruling ev N load accepted (matching.early load is_load) broke.no_pair_before broke.pair)
 
   -- none did
   pub record RobustEnd (N : ℕ) (m : Marks) : Type 0 where
     pub ruling : ruling_of ev N ≡ robust (closure ev N)
-    pub cut : (out : List ℕ) → length out ≡ 56 → copied 56 m.counts out ≡ cut_of (closure ev N)
-    pub stores_in_lem : stores_in m.counts ≡ sum (cut_of (closure ev N))
+    pub cut : (out : List ℕ) → length out ≡ 56 → copied 56 m.cut out ≡ cut_of (closure ev N)
+    pub stores_in_lem : stores_in m.cut ≡ sum (cut_of (closure ev N))
     pub share :
         min (percent (sum (cut_of (closure ev N))) (sum (cut_of (finished ev N)))) 65535
         ≡ share_of (closure ev N) (finished ev N)

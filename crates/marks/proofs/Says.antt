@@ -31,9 +31,9 @@ use Rattle.area.specs.Cells.{row_start, get_row, joined}
 use Rattle.area.specs.Rows.{StoreRow, Rows}
 use Rattle.area.proofs.Joins.{joined_size, joined_leaves, joined_there}
 use Rattle.marks.specs.declared.cells.Marks.{Marks}
-use Rattle.marks.specs.Marks.{marks_of, cut_cell, low_cell, flag_cell, count_in, flag_in}
+use Rattle.marks.specs.Marks.{marks_of, thread_cell, flag_cell, count_in, flag_in, low_in}
 use Rattle.marks.specs.Marking.{forbid, observe, lower, own_in, marked, seen_from}
-use Rattle.marks.specs.Testing.{in_cut, mark_hits}
+use Rattle.marks.specs.Testing.{in_cut}
 use Rattle.marks.specs.Matching.{PlaceOf, AtMost, Says}
 
 -- ---- flags
@@ -106,7 +106,7 @@ module _ (ev : ℕ → Event) where
 
   low_of :
       {F O : ℕ → Bool} {C : Choice} {m : Marks} → Says ev F O C m
-      → (j t : ℕ) → 1 ≤ j → j ≤ 7 → t < 8 → Low F j t (count_in m.counts (low_cell j t))
+      → (j t : ℕ) → 1 ≤ j → j ≤ 7 → t < 8 → Low F j t (low_in m j t)
   low_of says j t from_1 to_7 there =
       record { of_store = says.lows j t from_1 to_7 there; not_above = says.lowest j t from_1 to_7 there }
 
@@ -198,7 +198,7 @@ module _ (ev : ℕ → Event) where
 
     module _ (F O : ℕ → Bool) (C : Choice) (m : Marks) (says : Says ev F O C m) where
       -- it is in the cut exactly if it is in the choice that the cut says
-      pub in_cut_lem : in_cut l m.counts q ≡ ltb (place ev q) (C (stretch ev q) (thread ev q))
+      pub in_cut_lem : in_cut l m.cut q ≡ ltb (place ev q) (C (stretch ev q) (thread ev q))
       in_cut_lem =
           rw (own_is, row.stretch_is, row.thread_is)
           (rw (says.cuts (stretch ev q) (thread ev q) fit.stretch_from_1 fit.stretch_to_7 fit.thread_below_8)
@@ -225,42 +225,45 @@ module _ (ev : ℕ → Event) where
 
       -- ---- marking it
 
-      abbrev at_low : ℕ
-      at_low = low_cell (stretch ev q) (thread ev q)
+      abbrev at : ℕ
+      at = thread_cell (stretch ev q) (thread ev q)
 
-      abbrev lowest_counts : List ℕ
-      lowest_counts = set m.counts at_low (lower (count_in m.counts at_low) (suc (place ev q)))
+      abbrev lowest_places : List ℕ
+      lowest_places = set m.low at (lower (count_in m.low at) (suc (place ev q)))
 
       marked_is :
-          marked l m q ≡ marks_of lowest_counts (set m.flags (flag_cell q) (forbid (flag_in m.flags q)))
+          marked l m q
+          ≡ marks_of m.cut lowest_places m.last m.source m.broken
+          (set m.flags (flag_cell q) (forbid (flag_in m.flags q)))
       unfolding marked
       marked_is = rw (own_is, row.thread_is, row.stretch_is)
 
       low_after :
-          (j t : ℕ) → 1 ≤ j → j ≤ 7 → t < 8 → (low_cell j t ≡ at_low) ⊎ (low_cell j t ≢ at_low)
-          → Low (with_q F q) j t (count_in lowest_counts (low_cell j t))
+          (j t : ℕ) → 1 ≤ j → j ≤ 7 → t < 8 → (thread_cell j t ≡ at) ⊎ (thread_cell j t ≢ at)
+          → Low (with_q F q) j t (count_in lowest_places (thread_cell j t))
       low_after j t from_1 to_7 there (inl same) =
-          let old : Low F j t (count_in m.counts at_low) = rw same at (low_of says j t from_1 to_7 there) in
-          rw (same, get_or-set_same m.counts at_low _ 0 (omega (arith, says.counts_size)))
+          let old : Low F j t (count_in m.low at) = rw same at (low_of says j t from_1 to_7 there) in
+          rw (same, get_or-set_same m.low at _ 0 (omega (arith, says.low_size)))
           (low_lowered F q j t _ old (omega arith) (omega arith))
       low_after j t from_1 to_7 there (inr differs) =
-          rw (get_or-set_other m.counts at_low (low_cell j t) _ 0 differs)
+          rw (get_or-set_other m.low at (thread_cell j t) _ 0 differs)
           (low_elsewhere F q j t _ (low_of says j t from_1 to_7 there)
-          (λ in_j by_t. differs (sym (ap₂ low_cell in_j by_t))))
+          (λ in_j by_t. differs (sym (ap₂ thread_cell in_j by_t))))
 
       pub mark_says : Says ev (λ p. eqb q p || F p) O C (marked l m q)
       mark_says = rw marked_is (record {
-        counts_size = length-set m.counts at_low _ ∙ says.counts_size;
+        cut_size = says.cut_size;
+        low_size = length-set m.low at _ ∙ says.low_size;
+        last_size = says.last_size;
+        source_size = says.source_size;
         flags_size = length-set m.flags (flag_cell q) _ ∙ says.flags_size;
         flags =
             flags_stored (with_q F q) O _
             (ap forbid (says.flags q (omega arith)) ∙ rw (eqb_same q) (forbid_bits (F q) (O q)))
             (λ e. not_q (F e) e) (λ e differs. refl);
-        cuts = λ j t from_1 to_7 there.
-            get_or-set_other m.counts at_low (cut_cell j t) _ 0 (λ same. omega arith)
-            ∙ says.cuts j t from_1 to_7 there;
-        lows = λ j t from_1 to_7 there. (low_after j t from_1 to_7 there (same? (low_cell j t) at_low)).of_store;
-        lowest = λ j t from_1 to_7 there. (low_after j t from_1 to_7 there (same? (low_cell j t) at_low)).not_above;
+        cuts = says.cuts;
+        lows = λ j t from_1 to_7 there. (low_after j t from_1 to_7 there (same? (thread_cell j t) at)).of_store;
+        lowest = λ j t from_1 to_7 there. (low_after j t from_1 to_7 there (same? (thread_cell j t) at)).not_above;
       })
 
       -- ---- observing it
@@ -268,50 +271,41 @@ module _ (ev : ℕ → Event) where
       abbrev raised_choice : Choice
       raised_choice j t = cond (eqb (stretch ev q) j) (max (C j t) (vc ev q t)) (C j t)
 
-      abbrev raised_counts : List ℕ
-      raised_counts = joined 8 l q (cut_cell (stretch ev q) 0) m.counts
+      abbrev raised_cut : List ℕ
+      raised_cut = joined 8 l q (thread_cell (stretch ev q) 0) m.cut
 
       cut_after_lem :
           (j t : ℕ) → 1 ≤ j → j ≤ 7 → t < 8 → (stretch ev q ≡ j) ⊎ (stretch ev q ≢ j)
-          → count_in raised_counts (cut_cell j t) ≡ raised_choice j t
+          → count_in raised_cut (thread_cell j t) ≡ raised_choice j t
       cut_after_lem j t from_1 to_7 there (inl in_j) =
-          let at : cut_cell j t ≡ cut_cell (stretch ev q) 0 + t = omega arith in
-          let old : count_in m.counts (cut_cell (stretch ev q) 0 + t) ≡ C j t =
-          rw (← at) (says.cuts j t from_1 to_7 there)
+          let at_t : thread_cell j t ≡ thread_cell (stretch ev q) 0 + t = omega arith in
+          let old : count_in m.cut (thread_cell (stretch ev q) 0 + t) ≡ C j t =
+          rw (← at_t) (says.cuts j t from_1 to_7 there)
           in
-          rw (eq-eqb (stretch ev q) j in_j, at)
-          (joined_there l q (cut_cell (stretch ev q) 0) m.counts 8 t (omega (arith, says.counts_size)) there
+          rw (eq-eqb (stretch ev q) j in_j, at_t)
+          (joined_there l q (thread_cell (stretch ev q) 0) m.cut 8 t (omega (arith, says.cut_size)) there
           ∙ ap₂ max old (clock_at t there))
       cut_after_lem j t from_1 to_7 there (inr elsewhere) =
           rw (ne_eqb (stretch ev q) j elsewhere)
-          (joined_leaves l q (cut_cell (stretch ev q) 0) m.counts 8 (cut_cell j t)
+          (joined_leaves l q (thread_cell (stretch ev q) 0) m.cut 8 (thread_cell j t)
           (λ low high. elsewhere (omega arith))
           ∙ says.cuts j t from_1 to_7 there)
-
-      low_stays : (j t : ℕ) → 1 ≤ j → j ≤ 7 → t < 8 → Low F j t (count_in raised_counts (low_cell j t))
-      low_stays j t from_1 to_7 there =
-          rw (joined_leaves l q (cut_cell (stretch ev q) 0) m.counts 8 (low_cell j t) (λ low high. omega arith))
-          (low_of says j t from_1 to_7 there)
 
       pub see_says :
           Says ev F (λ p. eqb q p || O p) (λ j t. cond (eqb (stretch ev q) j) (max (C j t) (vc ev q t)) (C j t))
           (seen_from l m q (get_row l q 10))
       unfolding seen_from
       see_says = rw row.stretch_is (record {
-        counts_size = joined_size l q (cut_cell (stretch ev q) 0) m.counts 8 ∙ says.counts_size;
+        cut_size = joined_size l q (thread_cell (stretch ev q) 0) m.cut 8 ∙ says.cut_size;
+        low_size = says.low_size;
+        last_size = says.last_size;
+        source_size = says.source_size;
         flags_size = length-set m.flags (flag_cell q) _ ∙ says.flags_size;
         flags =
             flags_stored F (with_q O q) _
             (ap observe (says.flags q (omega arith)) ∙ rw (eqb_same q) (observe_bits (F q) (O q)))
             (λ e differs. refl) (λ e. not_q (O e) e);
         cuts = λ j t from_1 to_7 there. cut_after_lem j t from_1 to_7 there (same? (stretch ev q) j);
-        lows = λ j t from_1 to_7 there. (low_stays j t from_1 to_7 there).of_store;
-        lowest = λ j t from_1 to_7 there. (low_stays j t from_1 to_7 there).not_above;
+        lows = says.lows;
+        lowest = says.lowest;
       })
-
-    -- marking it tests the cut behind the lowering, which leaves the cut
-    pub mark_hits_lem :
-        (F O : ℕ → Bool) (C : Choice) (m : Marks) → Says ev F O C m
-        → mark_hits l m.counts q ≡ ltb (place ev q) (C (stretch ev q) (thread ev q))
-    unfolding marked
-    mark_hits_lem F O C m says = in_cut_lem (λ p. eqb q p || F p) O C (marked l m q) (mark_says F O C m says)

@@ -270,7 +270,7 @@ module _ (ev : ℕ → Event) where
       pub load_walk :
           (first : ℕ) (ps : List ℕ) → Segment first ps
           → Walked ev O C (source ev k) ps F (walked 2048 l m first (source ev k))
-          (walk_hits 2048 l m.counts first (source ev k))
+          (walk_hits 2048 l m.cut first (source ev k))
       load_walk first ps it =
           walk_along ev O C s (suc n) l found.rows ps 2048 m first F it.links it.fit it.short says
 

@@ -19,10 +19,10 @@ use Rattle.area.specs.Cells.{get_row}
 use Rattle.area.specs.Rows.{Linked, Rows}
 use Rattle.marks.specs.declared.cells.Marks.{Marks}
 use Rattle.marks.specs.Marking.{marked, walked}
-use Rattle.marks.specs.Testing.{mark_hits, walk_hits}
+use Rattle.marks.specs.Testing.{in_cut, walk_hits}
 use Rattle.marks.specs.Matching.{Says}
 use Rattle.marks.proofs.Loops.{walk_end, walk_more}
-use Rattle.marks.proofs.Says.{Fit, says_same, mark_says, mark_hits_lem}
+use Rattle.marks.proofs.Says.{Fit, says_same, in_cut_lem, mark_says}
 
 -- each store of the list has its row and numbers
 abbrev pub AllFit : (ℕ → Event) → ℕ → List ℕ → Type 0
@@ -90,11 +90,11 @@ module _ (ev : ℕ → Event) (O : ℕ → Bool) (C : Choice) (s : ℕ) where
 
   module _ (n : ℕ) (l : List ℕ) (rows : Rows ev n l) where
     abbrev After : (k : ℕ) (m : Marks) (h : ℕ) (ps : List ℕ) (F : ℕ → Bool) → Type 0
-    After k m h ps F = Walked ps F (walked k l m h s) (walk_hits k l m.counts h s)
+    After k m h ps F = Walked ps F (walked k l m h s) (walk_hits k l m.cut h s)
 
     by_turn :
         (k : ℕ) (m : Marks) (h : ℕ) (ps : List ℕ) (F : ℕ → Bool) (v : Marks) (hit : Bool)
-        → (hit ≡ walk_hits k l m.counts h s) × (v ≡ walked k l m h s) → Walked ps F v hit → After k m h ps F
+        → (hit ≡ walk_hits k l m.cut h s) × (v ≡ walked k l m h s) → Walked ps F v hit → After k m h ps F
     by_turn k m h ps F v hit (hits_are, marks_are) it = rw (← marks_are, ← hits_are) it
 
     -- the walk stops at q, or marks it and goes on
@@ -115,11 +115,11 @@ module _ (ev : ℕ → Event) (O : ℕ → Bool) (C : Choice) (s : ℕ) where
         by_store (inr differs) =
             let (marks_are, hits_are) =
             rw sub-one at
-            (walk_more l s _ _ (suc k) m q false (marked l m q) (get_row l q 14) (mark_hits l m.counts q) _
+            (walk_more l s _ _ (suc k) m q false (marked l m q) (get_row l q 14) (in_cut l m.cut q) _
             (refl, refl) (omega arith) store differs refl refl refl refl)
             in
             by_turn (suc k) m q (q ∷ ps) F _ _ (hits_are, marks_are)
-            (goes_past q ps F _ _ _ differs (mark_hits_lem ev n l rows q fit F O C m says)
+            (goes_past q ps F _ _ _ differs (in_cut_lem ev n l rows q fit F O C m says)
             (further (mark_says ev n l rows q fit F O C m says)))
 
     pub walk_along :

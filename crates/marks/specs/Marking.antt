@@ -5,7 +5,7 @@
 use Rattle.std.specs.Prelude.{ℕ, zero, suc, ◌+◌, ◌*◌, ◌/◌, cond, List, eqb, ltb, set}
 use Rattle.area.specs.Cells.{get_row, joined}
 use Rattle.marks.specs.declared.cells.Marks.{Marks}
-use Rattle.marks.specs.Marks.{marks_of, cut_cell, low_cell, flag_cell, count_in, flag_in}
+use Rattle.marks.specs.Marks.{marks_of, thread_cell, flag_cell, count_in, flag_in}
 
 -- ---- flags and the lowest places
 
@@ -27,15 +27,15 @@ lower old new = cond (eqb old 0) new (cond (ltb new old) new old)
 abbrev pub own_in : List ℕ → ℕ → ℕ
 own_in l p = get_row l p (get_row l p 8)
 
--- where the lowest forbidden place of p's stretch and thread stands
-abbrev pub low_in : List ℕ → ℕ → ℕ
-low_in l p = low_cell (get_row l p 10) (get_row l p 8)
+-- where the numbers of p's stretch and thread stand
+abbrev pub cell_of : List ℕ → ℕ → ℕ
+cell_of l p = thread_cell (get_row l p 10) (get_row l p 8)
 
 -- store p becomes forbidden
 unfoldable pub marked : List ℕ → Marks → ℕ → Marks
 marked l m p =
-    marks_of (set m.counts (low_in l p) (lower (count_in m.counts (low_in l p)) (own_in l p)))
-    (set m.flags (flag_cell p) (forbid (flag_in m.flags p)))
+    marks_of m.cut (set m.low (cell_of l p) (lower (count_in m.low (cell_of l p)) (own_in l p))) m.last m.source
+    m.broken (set m.flags (flag_cell p) (forbid (flag_in m.flags p)))
 
 -- the stores of the chain from h on become forbidden, up to store s, for at most n stores
 unfoldable pub walked : ℕ → List ℕ → Marks → ℕ → ℕ → Marks
@@ -47,7 +47,8 @@ walked (suc n) l m h s = cond (eqb h 0) m (cond (eqb h s) m (walked n l (marked 
 -- store s, of stretch j, becomes observed: its flag, and the cut of its stretch
 unfoldable pub seen_from : List ℕ → Marks → ℕ → ℕ → Marks
 seen_from l m s j =
-    marks_of (joined 8 l s (cut_cell j 0) m.counts) (set m.flags (flag_cell s) (observe (flag_in m.flags s)))
+    marks_of (joined 8 l s (thread_cell j 0) m.cut) m.low m.last m.source m.broken
+    (set m.flags (flag_cell s) (observe (flag_in m.flags s)))
 
 -- ---- a counted load from s of the location whose chain begins with h
 

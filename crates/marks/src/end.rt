@@ -9,16 +9,16 @@ impl Marks {
     // The least choice's 56 counts into the cut buffer.
     pub fn copy_cut(&self, out: &mut [u16])
         requires { length out.old ≡ 56 }
-        ensures { out.new ≡ copied 56 self.now.counts out.old }
+        ensures { out.new ≡ copied 56 self.now.cut out.old }
     {
-        out.copy_from_slice(&self.counts[8..8 + 56]);
+        out.copy_from_slice(&self.cut[8..64]);
     }
 
     // The stores that are in the least choice.
     pub fn stores_in(&self) -> u32
-        ensures { (result ≡ stores_in self.now.counts) × (result ≤ 65535 * 56) }
+        ensures { (result ≡ stores_in self.now.cut) × (result ≤ 65535 * 56) }
     {
-        area::total(&self.counts, 8)
+        area::total(&self.cut, 8)
     }
 }
 

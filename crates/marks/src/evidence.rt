@@ -18,7 +18,7 @@ impl Marks {
         let t = area::row_get(rows, p, 8);
         let own = area::row_get(rows, p, t);
         let j = area::row_get(rows, p, 10);
-        own <= self.counts[cells::cut(j, t)]
+        own <= self.cut[cells::thread(j, t)]
     }
 
     // Store q is the observed one of a pair with m: it is observed, and is m or happens after it.

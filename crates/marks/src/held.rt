@@ -8,7 +8,7 @@ ghost use Rattle.marks.specs.Marking.{loaded};
 ghost use Rattle.marks.specs.Judged.{older_in, start_of, deepest_of, held_at, all_held, pair_in, judged_held};
 
 use crate::cells;
-use crate::cells::{BROKEN, Marks};
+use crate::cells::Marks;
 use crate::rows::Rows;
 
 // Store s was committed before store d; 0 stands behind all.
@@ -23,13 +23,14 @@ impl Marks {
     // It starts at the head; or where the walks there ended so far, if its source is older; or nowhere, which is at its
     // source. To note is the oldest source that loads of that chain have walked to.
     fn segment(&self, rows: &Rows, h: u16, x: u16, s: u16) -> (u16, u16)
-        ensures { (result.0 ≡ start_of rows.now self.now.counts h x s)
-            × (result.1 ≡ deepest_of rows.now self.now.counts h x s) }
+        ensures { (result.0 ≡ start_of rows.now self.now h x s)
+            × (result.1 ≡ deepest_of rows.now self.now h x s) }
     {
-        if self.counts[cells::last(x)] != h {
+        let at = cells::location(x);
+        if self.last[at] != h {
             return (h, s);
         }
-        let d = self.counts[cells::source(x)];
+        let d = self.source[at];
         if older(rows, s, d) { (d, s) } else { (s, d) }
     }
 
@@ -78,7 +79,7 @@ impl Marks {
 
     // There is a pair: a forbidden store is in the cut, of whichever stretch.
     fn pair(&self) -> bool
-        ensures { result ≡ pair_in self.now.counts }
+        ensures { result ≡ pair_in self.now }
     {
         (1..8).any(|j| self.hits(j))
     }
@@ -89,12 +90,12 @@ impl Marks {
         requires { (row ≤ 32768) × (32768 ≤ length rows.now) }
         ensures { self.new ≡ judged_held rows.now self.old newest (event_at row) }
     {
-        if self.counts[BROKEN] != 0 {
+        if self.broken.is_some() {
             return;
         }
         self.mark_all(&Rows::of(rows), newest);
         if self.pair() {
-            self.counts[BROKEN] = area::event_at(row);
+            self.broken = Some(area::event_at(row));
         }
     }
 }

@@ -16,13 +16,12 @@ impl Marks {
     // Of stretch j and whichever thread: all eight are looked at, so that the compiler compares them at once.
     #[tactic(auto, unfolding(model::specs::Search::some))]
     pub(crate) fn hits(&self, j: u16) -> bool
-        ensures { result ≡ hits self.now.counts j }
+        ensures { result ≡ hits self.now j }
     {
-        let low = cells::low(j, 0);
-        let cut = cells::cut(j, 0);
+        let at = cells::thread(j, 0);
         let mut any = false;
         for t in 0..8 {
-            any |= hit(self.counts[low + t], self.counts[cut + t]);
+            any |= hit(self.low[at + t], self.cut[at + t]);
         }
         any
     }

@@ -4,28 +4,29 @@
 // them.
 ghost use Rattle.std.specs.Prelude.{◌≡◌, ◌≤◌, length};
 ghost use Rattle.area.specs.Cells.{event_at};
-ghost use Rattle.marks.specs.Marks.{marks_of};
 ghost use Rattle.marks.specs.Judged.{repeated, noted, judged};
 
 use crate::cells;
-use crate::cells::{BROKEN, Marks};
+use crate::cells::Marks;
 use crate::rows::Rows;
 
 impl Marks {
     // The load noted at location x has the last store h and the source s.
     pub(crate) fn repeats(&self, h: u16, x: u16, s: u16) -> bool
-        ensures { result ≡ repeated self.now.counts h x s }
+        ensures { result ≡ repeated self.now h x s }
     {
-        self.counts[cells::last(x)] == h && self.counts[cells::source(x)] == s
+        let at = cells::location(x);
+        self.last[at] == h && self.source[at] == s
     }
 
     // A load with the last store h is noted at location x, and s as its source.
     #[tactic(auto, unfolding(crate::specs::Judged::noted))]
     pub(crate) fn note(&mut self, h: u16, x: u16, s: u16)
-        ensures { self.new ≡ marks_of (noted self.old.counts h x s) self.old.flags }
+        ensures { self.new ≡ noted self.old h x s }
     {
-        self.counts[cells::last(x)] = h;
-        self.counts[cells::source(x)] = s;
+        let at = cells::location(x);
+        self.last[at] = h;
+        self.source[at] = s;
     }
 
     // A load that counts, the event whose row begins at `row`, of location x from s, whose chain begins with store h.
@@ -37,13 +38,13 @@ impl Marks {
         if self.repeats(h, x, s) {
             return;
         }
-        if self.counts[BROKEN] != 0 {
+        if self.broken.is_some() {
             return;
         }
         let breaks = self.load(&Rows::of(rows), h, s);
         self.note(h, x, s);
         if breaks {
-            self.counts[BROKEN] = area::event_at(row);
+            self.broken = Some(area::event_at(row));
         }
     }
 }

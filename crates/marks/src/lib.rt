@@ -1,6 +1,6 @@
 // What counted loads do to the judge's marks: which stores are forbidden and which observed, the cut, the lowest
 // forbidden places; the test for broken, the evidence, and the cut buffer and the share at the end. The marks stand in
-// two arrays of their own; the machine's rows are only read.
+// arrays of their own; the machine's rows are only read.
 #![tactic(auto)]
 
 mod cells;

@@ -15,7 +15,7 @@ impl Marks {
     {
         let i = cells::flag(s);
         self.flags[i] = flags::observe(self.flags[i]);
-        rows.join(&mut self.counts, cells::cut(j, 0), s);
+        rows.join(&mut self.cut, cells::thread(j, 0), s);
     }
 
     // A counted load from s of the location whose chain begins with store h. It answers whether with it there is a

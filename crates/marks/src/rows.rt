@@ -40,11 +40,11 @@ impl<'a> Rows<'a> {
         area::committed_at(self.work, p)
     }
 
-    // The eight counts from `to` on become the larger of them and of event s's clock.
-    pub(crate) fn join(&self, counts: &mut [u16; 648], to: usize, s: u16)
-        requires { to ≤ 640 }
-        ensures { counts.new ≡ joined 8 self.now s to counts.old }
+    // The eight numbers of the cut from `to` on become the larger of them and of event s's clock.
+    pub(crate) fn join(&self, cut: &mut [u16; 64], to: usize, s: u16)
+        requires { to ≤ 56 }
+        ensures { cut.new ≡ joined 8 self.now s to cut.old }
     {
-        area::join(counts, to, self.work, s);
+        area::join(cut, to, self.work, s);
     }
 }

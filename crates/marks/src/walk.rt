@@ -1,7 +1,7 @@
 // The stores on a location's chain become forbidden, from the newest back to a load's source.
 ghost use Rattle.std.specs.Prelude.{◌≡◌};
 ghost use Rattle.marks.specs.Marking.{marked, walked};
-ghost use Rattle.marks.specs.Testing.{mark_hits, walk_hits};
+ghost use Rattle.marks.specs.Testing.{in_cut, walk_hits};
 
 use crate::cells::Marks;
 use crate::rows::Rows;
@@ -12,7 +12,7 @@ impl Marks {
     // the cut.
     #[tactic(auto, unfolding(crate::specs::Marking::marked))]
     fn mark(&mut self, rows: &Rows, p: u16) -> bool
-        ensures value { result ≡ mark_hits rows.now self.old.counts p }
+        ensures value { result ≡ in_cut rows.now self.old.cut p }
         ensures marks_after { self.new ≡ marked rows.now self.old p }
     {
         let j = rows.get(p, 10);
@@ -20,15 +20,15 @@ impl Marks {
         let own = rows.get(p, t);
         let i = cells::flag(p);
         self.flags[i] = flags::forbid(self.flags[i]);
-        let low = cells::low(j, t);
-        self.counts[low] = flags::lower(self.counts[low], own);
-        own <= self.counts[cells::cut(j, t)]
+        let at = cells::thread(j, t);
+        self.low[at] = flags::lower(self.low[at], own);
+        own <= self.cut[at]
     }
 
     // Each store of the chain from `first` on, up to `stop`; a chain has at most 2,048 stores. It answers whether one
     // is in the cut, and goes on behind such a store, since the evidence is looked for among all marks.
     pub(crate) fn walk(&mut self, rows: &Rows, first: u16, stop: u16) -> bool
-        ensures value { result ≡ walk_hits 2048 rows.now self.old.counts first stop }
+        ensures value { result ≡ walk_hits 2048 rows.now self.old.cut first stop }
         ensures marks_after { self.new ≡ walked 2048 rows.now self.old first stop }
     {
         let mut p = first;

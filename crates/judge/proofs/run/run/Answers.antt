@@ -28,7 +28,7 @@ answered :
     → cut ≡ cut₀
     → end ≡ record { number = k; event = n }
     → v ≡ verdict_after bytes end tables m work
-    → cut' ≡ cut_from end m.counts cut
+    → cut' ≡ cut_from end m cut
     → AnswersAsDefined bytes v work × (cut' ≡ reading_cut bytes cut₀ (begun_reading bytes))
 answered bytes version threads locations n k tables m work cut₀ cut cut' end v stopped size lent end_is v_is cut_is =
     rw (v_is, cut_is, end_is, lent) (

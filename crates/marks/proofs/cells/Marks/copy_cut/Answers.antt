@@ -6,4 +6,4 @@ use Rattle.marks.proofs.cells.Marks.copy_cut.Goals as goal
 pub returns : goal.returns
 returns c =
     c.copy_from_slice.ensures.after
-    ∙ copied_part c.args.self.now.counts 56 _ c.args.out.now (λ i. refl) c.requires (search rules)
+    ∙ copied_part c.args.self.now.cut 56 _ c.args.out.now (λ i. refl) c.requires (search rules)

@@ -7,4 +7,4 @@ pub returns : goal.returns
 unfolding hits
 returns c =
     let end : c.loop-t.t ≡ 8 = omega arith in
-    rw (end, c.low-low.ensures.0, c.cut-cut.ensures.0) at c.loop-t.invariant
+    rw (end, c.thread-at.ensures.0) at c.loop-t.invariant

@@ -7,4 +7,4 @@ use Rattle.marks.proofs.cells.Marks.hits.Given as goal
 
 abbrev pub invariant-loop-t : goal.invariant-loop-t
 invariant-loop-t l =
-    l.any ≡ some l.t (λ u. hit (count_in l.self.counts (l.low + u)) (count_in l.self.counts (l.cut + u)))
+    l.any ≡ some l.t (λ u. hit (count_in l.self.low (l.at + u)) (count_in l.self.cut (l.at + u)))

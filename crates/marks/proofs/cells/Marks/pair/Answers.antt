@@ -10,7 +10,7 @@ use Rattle.marks.proofs.cells.Marks.pair.Goals as goal
 pub returns : goal.returns
 unfolding pair_in
 returns c =
-    let counts = c.args.self.now.counts in
-    any_from_yields_List (hits counts) _ _ c.any.result c.any.ensures.ran (YieldsList-from_range 1 8 7 refl refl)
+    let marks = c.args.self.now in
+    any_from_yields_List (hits marks) _ _ c.any.result c.any.ensures.ran (YieldsList-from_range 1 8 7 refl refl)
     (λ j b q called. search rules)
-    ∙ some_of_range 7 1 (hits counts) (λ i. hits counts (suc i)) (λ i. ap (hits counts) (omega arith))
+    ∙ some_of_range 7 1 (hits marks) (λ i. hits marks (suc i)) (λ i. ap (hits marks) (omega arith))

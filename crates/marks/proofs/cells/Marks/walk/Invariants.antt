@@ -9,4 +9,4 @@ use Rattle.marks.proofs.cells.Marks.walk.Given as goal
 abbrev pub invariant-loop-n : goal.invariant-loop-n
 invariant-loop-n l =
     Left l.rows l.stop (walked 2048 l.rows l.initial.self l.initial.p l.stop)
-    (walk_hits 2048 l.rows l.initial.self.counts l.initial.p l.stop) (2048 - l.n) l.self l.p l.hit
+    (walk_hits 2048 l.rows l.initial.self.cut l.initial.p l.stop) (2048 - l.n) l.self l.p l.hit
