@@ -66,7 +66,8 @@ pub(crate) fn region_of(tables: &Tables, t: ThreadId) -> Region
     }
 }
 
-// Thread t is in no skip and not open.
+// Thread t is in no skip and not open. Its limit is said too: so the source that a crossing load notes, which stands
+// behind the threads' rows, changes nothing of the thread.
 pub(crate) fn is_plain(tables: &Tables, t: ThreadId) -> bool
     ensures { (result ≡ plain_in tables.now t) × (t < 8) }
 {
