@@ -168,7 +168,8 @@ module _ (ev : ℕ → Event) where
       reached : Reached (also_marks ev k F) (also_sees ev k O) (chain ev k) back
 
     -- noting a load leaves what the marks say
-    says_noted : {F O : ℕ → Bool} {C : Choice} (v : Marks) (back : ℕ) → Says ev F O C v → Says ev F O C (noted v h x back)
+    says_noted :
+        {F O : ℕ → Bool} {C : Choice} (v : Marks) (back : ℕ) → Says ev F O C v → Says ev F O C (noted v h x back)
     says_noted v back =
         says_there ev v _ _ v.broken (length-set v.last (location_cell x) h)
         (length-set v.source (location_cell x) back)

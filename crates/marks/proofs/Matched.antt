@@ -158,7 +158,8 @@ module _ (ev : ℕ → Event) where
         loads = loads_after;
       }
 
-      broken_event : breaks ≡ true → BrokenAt ev n (marks_of after.cut after.low after.last after.source (Some n) after.flags)
+      broken_event :
+          breaks ≡ true → BrokenAt ev n (marks_of after.cut after.low after.last after.source (Some n) after.flags)
       broken_event passes = record {
         accepted = accepted;
         no_pair_before = so_far.no_pair;

@@ -1,6 +1,6 @@
--- The marks: the least choice and the lowest forbidden places, 64 numbers each, eight for each stretch, of which what
--- would be stretch 0 or 8 shares eight that nobody asks for; of 256 locations the last counted load, by two numbers; the
--- load that breaks the trace; and the flags of 2,048 events, 1 forbidden and 2 observed.
+-- The marks: the least choice and the lowest forbidden places, 64 numbers each, eight for each stretch, where what would
+-- be stretch 0 or 8 shares eight that nobody asks for; of 256 locations the last counted load, by two numbers; the load
+-- that breaks the trace; and the flags of 2,048 events, 1 forbidden and 2 observed.
 use Rattle.std.specs.Prelude.{ℕ, ◌+◌, ◌*◌, ◌%◌, List, get_or, replicate, Option, None}
 use Rattle.marks.specs.declared.cells.Marks.{Marks}
 

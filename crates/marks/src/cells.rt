@@ -1,7 +1,7 @@
 // The marks: the cut and the lowest forbidden places, eight numbers for each stretch; of each location its last counted
 // load; the load that breaks the trace; and the flags of each event. specs/Marks.antt has the places. Remainders keep
-// every place inside its array without a test. A place is a function's answer, since it serves reads, stores and where a
-// clock is joined.
+// every place inside its array without a test. A place is a function's answer, since it serves reads, stores and where
+// a clock is joined.
 ghost use Rattle.std.specs.Prelude.{◌≡◌, ◌<◌};
 ghost use Rattle.marks.specs.Marks.{no_marks, thread_cell, location_cell, flag_cell, broken_at};
 
