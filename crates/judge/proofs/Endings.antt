@@ -35,7 +35,7 @@ use Rattle.area.specs.Cells.{one_line_w}
 use Rattle.area.proofs.ReadBack.{up_is}
 use Rattle.area.proofs.SameLine.{one_line_is}
 use Rattle.machine.specs.Orders.{store_w, order_w}
-use Rattle.machine.specs.Twin.{World}
+use Rattle.machine.specs.Twin.{World, state_of, world}
 use Rattle.machine.specs.Sim.{Sim}
 use Rattle.machine.proofs.Standings.{store_is, order_is}
 use Rattle.machine.proofs.Closing.{committed_is}
@@ -44,8 +44,8 @@ use Rattle.marks.specs.Marks.{broken_in}
 use Rattle.marks.proofs.Matched.{broken_at_ruling, unbroken_robust}
 use Rattle.windows.specs.Finding.{windows_by}
 use Rattle.windows.proofs.Answered.{flush_answered}
-use Rattle.judge.specs.declared.verdict.End.{End}
-use Rattle.judge.specs.Runs.{world_of, AllRead, Stopped, AnswersAsDefined}
+use Rattle.judge.specs.declared.stop.Stop.{Stop}
+use Rattle.judge.specs.Runs.{number_of, AllRead, Stopped, AnswersAsDefined}
 use Rattle.judge.specs.Standings.{stand_by, standing_after}
 use Rattle.judge.specs.Verdicts.{kind_by, verdict_after, cut_from}
 
@@ -78,8 +78,8 @@ module _ (bytes : List ℕ) where
   -- ---- all records of an accepted trace
 
   module _
-      (version threads locations N : ℕ) (tables : List ℕ) (m : Marks) (work : List ℕ)
-      (all : AllRead bytes version threads locations N tables m work) where
+      (N : ℕ) (tables : List ℕ) (m : Marks) (work : List ℕ)
+      (all : AllRead bytes N tables m work) where
     is_accepted : begun_reading bytes ≡ accepted N
     is_accepted = (begun_accepted_exactly bytes N).1 (all.accepted, all.state.limits.begun)
 
@@ -87,7 +87,7 @@ module _ (bytes : List ℕ) where
     whole = all.state.limits.accepted
 
     abbrev w : World
-    w = world_of bytes version threads locations all.stretch all.row tables work
+    w = world (state_of all.machine) tables work
 
     -- the rows after a run that answers v
     rows_there :
@@ -140,75 +140,69 @@ module _ (bytes : List ℕ) where
     abbrev load : ℕ
     load = broken_in m.counts
 
-    -- the end of the run
-    abbrev end_at : End
-    end_at = record { number = 1; event = N }
-
-    module _ (cut : List ℕ) (right_size : length cut ≡ 56) where
+    module _ (stop : Stop) (is_1 : number_of stop ≡ 1) (cut : List ℕ) (right_size : length cut ≡ 56) where
       abbrev cut' : List ℕ
-      cut' = cut_from end_at m.counts cut
+      cut' = cut_from stop m.counts cut
 
-      broken_with_cut : load ≢ 0 → AnsweredWithCut (verdict_after bytes end_at tables m work) cut cut'
+      broken_with_cut : load ≢ 0 → AnsweredWithCut (verdict_after bytes stop N tables m work) cut cut'
       broken_with_cut some_load =
           let some = ne_eqb load 0 some_load in
           let early = all.loads.early some_load in
           let few : load ≤ 2049 = omega (arith, all.state.limits.few_events) in
           let ruling = broken_at_ruling (events bytes) N work m whole all.state.rows all.loads some_load in (
-            rw (some, is_accepted, up_is load few, ruling, kind_is load _ _ ruling) refl,
-            rw (some, is_accepted, ruling) refl,
+            rw (is_1, some, is_accepted, up_is load few, ruling, kind_is load _ _ ruling) refl,
+            rw (is_1, some, is_accepted, ruling) refl,
           )
 
-      robust_with_cut : load ≡ 0 → AnsweredWithCut (verdict_after bytes end_at tables m work) cut cut'
+      robust_with_cut : load ≡ 0 → AnsweredWithCut (verdict_after bytes stop N tables m work) cut cut'
       robust_with_cut none_found =
           let none = eq-eqb load 0 none_found in
           let end = unbroken_robust (events bytes) N m whole (all.loads.none_yet none_found) in
           let total = committed_is (events bytes) N w all.state in (
-            rw (none, is_accepted, end.ruling, end.stores_in_lem, total, end.share) refl,
-            rw (none, is_accepted, end.ruling, end.cut cut right_size) refl,
+            rw (is_1, none, is_accepted, end.ruling, end.stores_in_lem, total, end.share) refl,
+            rw (is_1, none, is_accepted, end.ruling, end.cut cut right_size) refl,
           )
 
       -- THE VERDICT AFTER ALL RECORDS, AND THE CUT BUFFER, ARE THE DEFINITIONS'
-      all_with_cut : AnsweredWithCut (verdict_after bytes end_at tables m work) cut cut'
+      all_with_cut : AnsweredWithCut (verdict_after bytes stop N tables m work) cut cut'
       all_with_cut = by_load (same? load 0)
         where
-          by_load : (load ≡ 0) ⊎ (load ≢ 0) → AnsweredWithCut (verdict_after bytes end_at tables m work) cut cut'
+          by_load : (load ≡ 0) ⊎ (load ≢ 0) → AnsweredWithCut (verdict_after bytes stop N tables m work) cut cut'
           by_load (inl none_found) = robust_with_cut none_found
           by_load (inr some_load) = broken_with_cut some_load
 
-      all_answers : AnswersAsDefined bytes (verdict_after bytes end_at tables m work) work
-      all_answers = rows_there (verdict_after bytes end_at tables m work) all_with_cut.0
+      all_answers : AnswersAsDefined bytes (verdict_after bytes stop N tables m work) work
+      all_answers = rows_there (verdict_after bytes stop N tables m work) all_with_cut.0
 
-  -- ---- a run that is over before record n, by number k
+  -- ---- a run that is over before record n
 
   module _
-      (version threads locations n k : ℕ) (tables : List ℕ) (m : Marks) (work : List ℕ)
-      (stopped : Stopped bytes version threads locations n k tables m work) (cut : List ℕ)
+      (n : ℕ) (stop : Stop) (tables : List ℕ) (m : Marks) (work : List ℕ)
+      (stopped : Stopped bytes n (number_of stop) tables m work) (cut : List ℕ)
       (right_size : length cut ≡ 56)
     where
-      -- the end of the run
-      abbrev end_by : End
-      end_by = record { number = k; event = n }
-
       abbrev Over : Result Verdict Refusal → List ℕ → Type 0
       Over v cut' = AnsweredWithCut v cut cut' × AnswersAsDefined bytes v work
 
-      over : (k ≡ 1) ⊎ (k ≢ 1) → Over (verdict_after bytes end_by tables m work) (cut_from end_by m.counts cut)
+      over :
+          (number_of stop ≡ 1) ⊎ (number_of stop ≢ 1)
+          → Over (verdict_after bytes stop n tables m work) (cut_from stop m.counts cut)
       over (inl is_1) =
-          let all = stopped.all_read is_1 in
-          rw is_1 (
-            all_with_cut version threads locations n tables m work all cut right_size,
-            all_answers version threads locations n tables m work all cut right_size,
+          let all = stopped.all_read is_1 in (
+            all_with_cut n tables m work all stop is_1 cut right_size,
+            all_answers n tables m work all stop is_1 cut right_size,
           )
       over (inr not_1) =
+          let k = number_of stop in
           let away = begun_away bytes k n (stopped.is_turned_away not_1) in
           rw (ne_eqb k 1 not_1) (refused_with_cut k n away cut, refused_answers k n away work)
 
       pub stopped_with_cut :
-          AnsweredWithCut (verdict_after bytes end_by tables m work) cut (cut_from end_by m.counts cut)
-      stopped_with_cut = (over (same? k 1)).0
+          AnsweredWithCut (verdict_after bytes stop n tables m work) cut (cut_from stop m.counts cut)
+      stopped_with_cut = (over (same? (number_of stop) 1)).0
 
-      pub stopped_answers : AnswersAsDefined bytes (verdict_after bytes end_by tables m work) work
-      stopped_answers = (over (same? k 1)).1
+      pub stopped_answers : AnswersAsDefined bytes (verdict_after bytes stop n tables m work) work
+      stopped_answers = (over (same? (number_of stop) 1)).1
 
   -- ---- the order query
 

@@ -15,8 +15,9 @@ use Rattle.marks.specs.Marks.{broken_in}
 use Rattle.marks.specs.Ending.{copied, stores_in}
 use Rattle.windows.specs.Finding.{windows_by}
 use Rattle.judge.specs.declared.loads.Evidence.{Evidence}
-use Rattle.judge.specs.declared.verdict.End.{End}
+use Rattle.judge.specs.declared.stop.Stop.{Stop}
 use Rattle.judge.specs.Judging.{evidence_at}
+use Rattle.judge.specs.Runs.{number_of}
 
 -- two stores that are equal are on one line
 abbrev pub kind_by : List ℕ → List ℕ → ℕ → ℕ → Kind
@@ -31,15 +32,17 @@ broken_by bytes work events f =
 abbrev pub share_by : List ℕ → List ℕ → ℕ
 share_by counts tables = min (percent (stores_in counts) (committed_in tables)) 65535
 
-abbrev pub verdict_after : List ℕ → End → List ℕ → Marks → List ℕ → Result Verdict Refusal
-verdict_after bytes t tables m work =
-    let events = t.event - 1 in
+-- of a run that ended so before this event: number 1 where no record was left
+abbrev pub verdict_after : List ℕ → Stop → ℕ → List ℕ → Marks → List ℕ → Result Verdict Refusal
+verdict_after bytes stop event tables m work =
+    let events = event - 1 in
     let load = broken_in m.counts in
-    eqb t.number 1 gives
+    eqb (number_of stop) 1 gives
     (eqb load 0 gives Ok (Robust events (share_by m.counts tables)) else
     Ok (broken_by bytes work events (evidence_at work m load)))
     else
-    Err (record { number = t.number; event = t.event })
+    Err (record { number = number_of stop; event = event })
 
-abbrev pub cut_from : End → List ℕ → List ℕ → List ℕ
-cut_from t counts cut = (eqb t.number 1 && eqb (broken_in counts) 0) gives copied 56 counts cut else cut
+abbrev pub cut_from : Stop → List ℕ → List ℕ → List ℕ
+cut_from stop counts cut =
+    (eqb (number_of stop) 1 && eqb (broken_in counts) 0) gives copied 56 counts cut else cut
