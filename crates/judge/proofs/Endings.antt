@@ -35,7 +35,7 @@ use Rattle.area.specs.Cells.{one_line_w}
 use Rattle.area.proofs.ReadBack.{up_is}
 use Rattle.area.proofs.SameLine.{one_line_is}
 use Rattle.machine.specs.Orders.{store_w, order_w}
-use Rattle.machine.specs.Twin.{World, state_of, world}
+use Rattle.machine.specs.Twin.{World}
 use Rattle.machine.specs.Sim.{Sim}
 use Rattle.machine.proofs.Standings.{store_is, order_is}
 use Rattle.machine.proofs.Closing.{committed_is}
@@ -44,8 +44,9 @@ use Rattle.marks.specs.Marks.{broken_in}
 use Rattle.marks.proofs.Matched.{broken_at_ruling, unbroken_robust}
 use Rattle.windows.specs.Finding.{windows_by}
 use Rattle.windows.proofs.Answered.{flush_answered}
+use Rattle.judge.specs.declared.run.Begun.{Begun}
 use Rattle.judge.specs.declared.stop.Stop.{Stop}
-use Rattle.judge.specs.Runs.{number_of, AllRead, Stopped, AnswersAsDefined}
+use Rattle.judge.specs.Runs.{number_of, world_of, AllRead, Stopped, AnswersAsDefined}
 use Rattle.judge.specs.Standings.{stand_by, standing_after}
 use Rattle.judge.specs.Verdicts.{kind_by, verdict_after, cut_from}
 
@@ -78,8 +79,8 @@ module _ (bytes : List ℕ) where
   -- ---- all records of an accepted trace
 
   module _
-      (N : ℕ) (tables : List ℕ) (m : Marks) (work : List ℕ)
-      (all : AllRead bytes N tables m work) where
+      (b : Begun) (N : ℕ) (tables : List ℕ) (m : Marks) (work : List ℕ)
+      (all : AllRead bytes b N tables m work) where
     is_accepted : begun_reading bytes ≡ accepted N
     is_accepted = (begun_accepted_exactly bytes N).1 (all.accepted, all.state.limits.begun)
 
@@ -87,7 +88,7 @@ module _ (bytes : List ℕ) where
     whole = all.state.limits.accepted
 
     abbrev w : World
-    w = world (state_of all.machine) tables work
+    w = world_of bytes b all.stretch all.row tables work
 
     -- the rows after a run that answers v
     rows_there :
@@ -177,8 +178,8 @@ module _ (bytes : List ℕ) where
   -- ---- a run that is over before record n
 
   module _
-      (n : ℕ) (stop : Stop) (tables : List ℕ) (m : Marks) (work : List ℕ)
-      (stopped : Stopped bytes n (number_of stop) tables m work) (cut : List ℕ)
+      (b : Begun) (n : ℕ) (stop : Stop) (tables : List ℕ) (m : Marks) (work : List ℕ)
+      (stopped : Stopped bytes b n (number_of stop) tables m work) (cut : List ℕ)
       (right_size : length cut ≡ 56)
     where
       abbrev Over : Result Verdict Refusal → List ℕ → Type 0
@@ -189,8 +190,8 @@ module _ (bytes : List ℕ) where
           → Over (verdict_after bytes stop n tables m work) (cut_from stop m.counts cut)
       over (inl is_1) =
           let all = stopped.all_read is_1 in (
-            all_with_cut n tables m work all stop is_1 cut right_size,
-            all_answers n tables m work all stop is_1 cut right_size,
+            all_with_cut b n tables m work all stop is_1 cut right_size,
+            all_answers b n tables m work all stop is_1 cut right_size,
           )
       over (inr not_1) =
           let k = number_of stop in

@@ -35,8 +35,7 @@ use Rattle.model.proofs.NoBytes.{begun_none, begun_away, no_begin_first}
 use Rattle.area.specs.Cells.{event_at}
 use Rattle.area.specs.Rows.{HeldLinked}
 use Rattle.machine.specs.Tables.{held_in}
-use Rattle.machine.specs.declared.state.Machine.{Machine}
-use Rattle.machine.specs.Twin.{State, World, state_of, world, begun, started}
+use Rattle.machine.specs.Twin.{State, World, world, started}
 use Rattle.machine.specs.Turning.{refusal_w, counts_w, begin_refusal}
 use Rattle.machine.specs.Effects.{step_w}
 use Rattle.std.specs.Prelude.{Result, Ok, Err}
@@ -44,7 +43,7 @@ use Rattle.machine.specs.declared.forbidden.Forbidden.{Forbidden}
 use Rattle.machine.specs.declared.state.Step.{Step}
 use Rattle.machine.specs.Forbidden.{number_of}
 use Rattle.machine.proofs.RuleLaws.{number_not_0}
-use Rattle.machine.specs.Outcomes.{Outcome, state_after, outcome, step_o}
+use Rattle.machine.specs.Outcomes.{Outcome, outcome, step_o}
 use Rattle.machine.specs.Sim.{Sim}
 use Rattle.machine.proofs.Refusals.{refusals, begin_refusals}
 use Rattle.machine.proofs.Simulation.{step_next, counts_is, held_is}
@@ -53,25 +52,15 @@ use Rattle.machine.proofs.Start.{sim_start}
 use Rattle.marks.specs.declared.cells.Marks.{Marks}
 use Rattle.marks.specs.Matching.{MarksMatch}
 use Rattle.marks.proofs.Matched.{match_start}
+use Rattle.judge.specs.declared.run.Begun.{Begun}
 use Rattle.judge.specs.declared.run.Cursor.{Cursor}
 use Rattle.judge.specs.Judging.{Stepped}
-use Rattle.judge.specs.Runs.{no_tables, Reached, AllRead, Stopped, Began}
+use Rattle.judge.specs.Runs.{no_tables, machine_in, world_of, Reached, AllRead, Stopped, Began}
 use Rattle.judge.proofs.Judging.{event_here}
 
--- the cursor behind a record, whose step leaves this machine
-abbrev pub behind : Machine → ℕ → ℕ → Cursor
-behind m row at =
-    record {
-      machine =
-          record {
-            row = row;
-            stretch = m.stretch;
-            version = m.version;
-            threads = m.threads;
-            locations = m.locations;
-          };
-      at = at;
-    }
+-- the cursor before the next record
+abbrev pub cursor : ℕ → ℕ → ℕ → Cursor
+cursor j row at = record { stretch = j; row = row; at = at }
 
 module _ (bytes : List ℕ) where
   -- ---- what turns record n away
@@ -138,9 +127,9 @@ module _ (bytes : List ℕ) where
       (forbidden_away 0 none_earlier k x past is_read
       (sym (begin_refusals (events bytes)) ∙ (ap begin_refusal (event_is 0 x past is_read) ∙ is)) some_number)
 
-  -- the cursor after an accepted begin
-  abbrev begun_by : Fields → ℕ → Cursor
-  begun_by f past = record { machine = begun f.version f.threads f.locations; at = past }
+  -- what an accepted begin says
+  abbrev begun_by : Fields → ℕ → Begun
+  begun_by f past = record { version = f.version; threads = f.threads; locations = f.locations; at = past }
 
   pub first_passes :
       (x : Event) (past : ℕ) → read_at bytes 0 ≡ event x past → begin_refusal x ≡ 0
@@ -170,13 +159,13 @@ module _ (bytes : List ℕ) where
   -- ---- a later record
 
   module _
-      (n : ℕ) (t : Cursor) (tables : List ℕ) (m : Marks) (work : List ℕ)
-      (reached : Reached bytes n t tables m work) where
+      (b : Begun) (n : ℕ) (t : Cursor) (tables : List ℕ) (m : Marks) (work : List ℕ)
+      (reached : Reached bytes b n t tables m work) where
     abbrev at : ℕ
     at = t.at
 
     abbrev w : World
-    w = world (state_of t.machine) tables work
+    w = world_of bytes b t.stretch t.row tables work
 
     read_there : (a : Answer) → read_at bytes at ≡ a → read_at bytes (start bytes n) ≡ a
     read_there a is = ap (read_at bytes) (sym reached.position) ∙ is
@@ -188,13 +177,14 @@ module _ (bytes : List ℕ) where
     still_inside : (read_at bytes at ≡ refused 1 0 → ⊥) → start bytes n ≢ length bytes
     still_inside not_1 same = not_1 (sym (read_past_end bytes at (omega (arith, reached.position))))
 
-    all_read : length bytes ≤ at → AllRead bytes n tables m work
+    all_read : length bytes ≤ at → AllRead bytes b n tables m work
     all_read past = record {
       accepted = record {
         all_pass = reached.all_pass;
         ends = ends_there bytes n (omega (arith, start_inside bytes n, reached.position));
       };
-      machine = t.machine;
+      stretch = t.stretch;
+      row = t.row;
       state = reached.state;
       loads = reached.loads;
     }
@@ -204,14 +194,14 @@ module _ (bytes : List ℕ) where
     rule_is x past is_read =
         sym (refusals (events bytes) n w reached.state) ∙ ap (refusal_w w) (at_event x past is_read)
 
-    -- its number, by the trace's version
-    in_trace_is : (k : ℕ) → later_refusal t.machine.version bytes at k ≡ in_trace bytes n k
+    -- its number, by the version that the begin said
+    in_trace_is : (k : ℕ) → later_refusal b.version bytes at k ≡ in_trace bytes n k
     in_trace_is k =
         rw (lt-ltb 0 n reached.state.limits.begun, ← reached.state.numbers.version_is, ← reached.position) refl
 
     later_unread :
         (k : ℕ) → read_at bytes at ≡ refused k 0
-        → Stopped bytes n (later_refusal t.machine.version bytes at k) tables m work
+        → Stopped bytes b n (later_refusal b.version bytes at k) tables m work
     later_unread k is = record {
       all_read = λ is_1.
           let alone : k ≡ 1 = in_trace_one bytes n k (sym (in_trace_is k) ∙ is_1) in
@@ -229,7 +219,7 @@ module _ (bytes : List ℕ) where
     later_forbidden :
         (k : ℕ) (tables' : List ℕ) (m' : Marks) (work' : List ℕ) (x : Event) (past : ℕ)
         → read_at bytes at ≡ event x past → refusal_w w x ≡ k → k ≢ 0
-        → Stopped bytes n k tables' m' work'
+        → Stopped bytes b n k tables' m' work'
     later_forbidden k tables' m' work' x past is_read is some_number = record {
       all_read = λ is_1.
           let first = (no_begin_first (events bytes) n (rule_is x past is_read ∙ (is ∙ is_1))).0 in
@@ -245,15 +235,15 @@ module _ (bytes : List ℕ) where
         Stepped (events bytes) n k counted' tables' work' → fields_of (events bytes n) ≡ f
         → MarksMatch (events bytes) n m → MarksMatch (events bytes) (suc n) m'
 
-    -- after the machine's step the machine, the tables and the work area, and the marks after judging the event
+    -- after the machine's step the tables and the work area, and the marks after judging the event
     later_passes :
         (x : Event) (past : ℕ) → read_at bytes at ≡ event x past → refusal_w w x ≡ 0
-        → (v : Machine) (counted' : Bool) (tables' : List ℕ) (m' : Marks) (work' : List ℕ)
+        → (j' row' : ℕ) (counted' : Bool) (tables' : List ℕ) (m' : Marks) (work' : List ℕ)
         → counted' ≡ counts_w w x
-        → world (state_of v) tables' work' ≡ step_w w x
+        → world_of bytes b j' row' tables' work' ≡ step_w w x
         → JudgedTo (kind_of x) (fields_of x) counted' tables' work' m'
-        → Reached bytes (suc n) (record { machine = v; at = past }) tables' m' work'
-    later_passes x past is_read is v counted' tables' m' work' counted_is step_is judged_to = record {
+        → Reached bytes b (suc n) (cursor j' row' past) tables' m' work'
+    later_passes x past is_read is j' row' counted' tables' m' work' counted_is step_is judged_to = record {
       position = read_next bytes n x past (read_there (event x past) is_read);
       all_pass = passing_on n x past reached.all_pass (read_there (event x past) is_read) passes;
       state = after;
@@ -269,7 +259,7 @@ module _ (bytes : List ℕ) where
             held_are = λ close.
                 let there = held_is ev n w reached.state passes close in
                 let world_is = step_is ∙ ap (step_w w) (sym event_n) in
-                subst (λ (u : World). HeldLinked ev u.work (held_in u.tables (thread ev n))
+                subst (λ (v : World). HeldLinked ev v.work (held_in v.tables (thread ev n))
                 (held ev n (thread ev n)))
                 (sym world_is) there;
           })
@@ -285,28 +275,38 @@ module _ (bytes : List ℕ) where
         passes : refusal ev n ≡ 0
         passes = rule_is x past is_read ∙ is
 
-        after : Sim ev (suc n) (world (state_of v) tables' work')
+        after : Sim ev (suc n) (world_of bytes b j' row' tables' work')
         after =
             subst (Sim ev (suc n)) (sym (step_is ∙ ap (step_w w) (sym event_n)))
             (step_next ev n w reached.state passes)
 
-    -- the machine's step goes on to the next row
-    next_row :
+    -- the machine's step keeps the begin, which the run knows, and goes on to the next row
+    known_begin :
         (x : Event) (past : ℕ) → read_at bytes at ≡ event x past → refusal_w w x ≡ 0
         → (st : State) (tables' work' : List ℕ) → world st tables' work' ≡ step_w w x
-        → t.machine.row + 16 ≡ st.row
-    next_row x past is_read is st tables' work' step_is =
+        → world_of bytes b st.stretch (t.row + 16) tables' work' ≡ step_w w x
+    known_begin x past is_read is st tables' work' step_is =
         let event_n = at_event x past is_read in
         let next = subst (Sim (events bytes) (suc n)) (sym (step_is ∙ ap (step_w w) (sym event_n)))
         (step_next (events bytes) n w reached.state (rule_is x past is_read ∙ is))
         in
-        omega (arith, next.numbers.row_is, reached.state.numbers.row_is)
+        let row : t.row + 16 ≡ st.row = omega (arith, next.numbers.row_is, reached.state.numbers.row_is) in
+        same st row (reached.state.numbers.version_is ∙ sym next.numbers.version_is)
+        (reached.state.numbers.threads_is ∙ sym next.numbers.threads_is)
+        (reached.state.numbers.locations_is ∙ sym next.numbers.locations_is)
+        ∙ step_is
+      where
+        same :
+            (st : State) → t.row + 16 ≡ st.row → b.version ≡ st.version → b.threads ≡ st.threads
+            → b.locations ≡ st.locations
+            → world_of bytes b st.stretch (t.row + 16) tables' work' ≡ world st tables' work'
+        same st row version_is threads_is locations_is = rw (row, version_is, threads_is, locations_is) refl
 
     -- ---- by the record's scan
 
     pub scanned_unread :
         (k : ℕ) → Err k ≡ scan_of (read_at bytes at)
-        → Stopped bytes n (later_refusal t.machine.version bytes at k) tables m work
+        → Stopped bytes b n (later_refusal b.version bytes at k) tables m work
     scanned_unread k is = later_unread k (scan_refused bytes at k is)
 
     -- what the machine's step gave
@@ -314,13 +314,13 @@ module _ (bytes : List ℕ) where
         (r : Scan) (is : Ok r ≡ scan_of (read_at bytes at)) (tables' work' : List ℕ)
       where
         abbrev given : Result Step Forbidden → Outcome
-        given a = outcome t.machine a tables' work'
+        given a = outcome (machine_in bytes b t.stretch t.row) a tables' work'
 
         -- a rule turned the event away
         pub scanned_forbidden :
             (e : Forbidden) → given (Err e) ≡ step_o w r.kind r.fields
             → (tables'' : List ℕ) (m' : Marks) (work'' : List ℕ)
-            → Stopped bytes n (number_of e) tables'' m' work''
+            → Stopped bytes b n (number_of e) tables'' m' work''
         scanned_forbidden e step_is tables'' m' work'' =
             let (x, (read_is, kind_is, fields_are)) = scan_read bytes at r is in
             later_forbidden (number_of e) tables'' m' work'' x r.next read_is
@@ -330,31 +330,29 @@ module _ (bytes : List ℕ) where
         pub scanned_passes :
             (s : Step) → given (Ok s) ≡ step_o w r.kind r.fields
             → (m' : Marks) → JudgedTo r.kind r.fields s.counted tables' work' m'
-            → Reached bytes (suc n) (behind s.machine (t.machine.row + 16) r.next) tables' m' work'
+            → Reached bytes b (suc n) (cursor s.machine.stretch (t.row + 16) r.next) tables' m' work'
         scanned_passes s step_is m' judged_to =
             let (x, (read_is, kind_is, fields_are)) = scan_read bytes at r is in
             let told : given (Ok s) ≡ step_o w (kind_of x) (fields_of x) = rw (← kind_is, ← fields_are) step_is in
             let passes = refusal_told w x (given (Ok s)) told in
-            let after_is = after_told w x (given (Ok s)) told refl in
-            let row = next_row x r.next read_is passes (state_after t.machine (Ok s)) tables' work' after_is in
-            later_passes x r.next read_is passes (behind s.machine (t.machine.row + 16) r.next).machine
+            later_passes x r.next read_is passes s.machine.stretch (t.row + 16)
             s.counted tables' m' work' (counted_told w x (given (Ok s)) told refl)
-            (rw row after_is)
+            (known_begin x r.next read_is passes _ tables' work' (after_told w x (given (Ok s)) told refl))
             (subst (λ (f : Fields). JudgedTo (kind_of x) f s.counted tables' work' m') fields_are
             (subst (λ (k : ℕ). JudgedTo k r.fields s.counted tables' work' m') kind_is judged_to))
 
     -- ---- what is left of the run
 
     -- the cursor knows the record's number
-    pub reached_here : Reached bytes (event_at t.machine.row) t tables m work
+    pub reached_here : Reached bytes b (event_at t.row) t tables m work
     reached_here =
-        subst (λ (e : ℕ). Reached bytes e t tables m work)
+        subst (λ (e : ℕ). Reached bytes b e t tables m work)
         (sym (event_here (events bytes) n w reached.state)) reached
 
     -- the next record lies further on
     pub less_left :
         (t' : Cursor) (tables' : List ℕ) (m' : Marks) (work' : List ℕ)
-        → Reached bytes (suc n) t' tables' m' work'
+        → Reached bytes b (suc n) t' tables' m' work'
         → length bytes - t'.at < length bytes - at
     less_left t' tables' m' work' next =
         let p = passed→ bytes n (next.all_pass n (omega arith)) in

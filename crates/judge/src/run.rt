@@ -11,30 +11,37 @@ use machine::{Machine, Tables};
 use marks::Marks;
 use model::{Refusal, Verdict};
 
-// Between two records: the machine before the next event, and the position of the next record.
+// What the begin says, and the position past it.
+#[derive(Clone, Copy)]
+pub struct Begun {
+    pub version: u16,
+    pub threads: u16,
+    pub locations: u16,
+    pub at: usize,
+}
+
+// Between two records: the stretch, where the row of the next event begins, and the position of the next record. With
+// the begin's numbers beside them, in a `Machine`, the compiler packs all four in one number at each record and takes
+// them apart again, which costs half as many instructions again.
 #[derive(Clone, Copy)]
 pub struct Cursor {
-    pub machine: Machine,
+    pub stretch: u16,
+    pub row: usize,
     pub at: usize,
 }
 
 // The first record. A second caller of `scan_at` would keep the compiler from taking the scan into the loop below, so
 // the begin is read as an event.
-fn begin(trace: &[u8]) -> Result<Cursor, Stop>
+fn begin(trace: &[u8]) -> Result<Begun, Stop>
     ensures { Began trace.now result }
 {
     let read = record::read_at(trace, 0)?;
     let f = record::fields_of(read.event);
     machine::begin_refusal(record::kind_of(read.event), f)?;
-    let machine = Machine {
-        row: 0,
-        stretch: 1,
+    Ok(Begun {
         version: f.version,
         threads: f.threads,
         locations: f.locations,
-    };
-    Ok(Cursor {
-        machine,
         at: read.next,
     })
 }
@@ -45,28 +52,33 @@ fn begin(trace: &[u8]) -> Result<Cursor, Stop>
 // reader's refusal 1; no later record has that number otherwise.
 fn judge_record(
     trace: &[u8],
+    b: Begun,
     t: Cursor,
     tables: &mut Tables,
     marks: &mut Marks,
     work: &mut [u16; 32768],
 ) -> Result<Cursor, Stop>
-    requires { Reached trace.now (event_at t.machine.row) t tables.old marks.old work.old }
-    ensures { After trace.now (event_at t.machine.row) result tables.new marks.new work.new }
+    requires { Reached trace.now b (event_at t.row) t tables.old marks.old work.old }
+    ensures { After trace.now b (event_at t.row) result tables.new marks.new work.new }
 {
-    let row = t.machine.row;
+    let row = t.row;
     let scanned = record::scan_at(trace, t.at);
     let Ok(e) = scanned else {
-        let refusal = scanned.unwrap_err().later(t.machine.version, trace, t.at);
+        let refusal = scanned.unwrap_err().later(b.version, trace, t.at);
         return Err(Stop::Unread(refusal));
     };
-    let s = t.machine.step(tables, work, e.kind, e.fields)?;
-    loads::judge_event(tables, marks, s.counted, work, e.kind, row, e.fields);
-    let machine = Machine {
-        row: row + 16,
-        ..s.machine
+    let m = Machine {
+        row,
+        stretch: t.stretch,
+        version: b.version,
+        threads: b.threads,
+        locations: b.locations,
     };
+    let s = m.step(tables, work, e.kind, e.fields)?;
+    loads::judge_event(tables, marks, s.counted, work, e.kind, row, e.fields);
     Ok(Cursor {
-        machine,
+        stretch: s.machine.stretch,
+        row: row + 16,
         at: e.next,
     })
 }
@@ -83,8 +95,8 @@ pub(crate) fn run(
     ensures cut_after { cut.new
         ≡ reading_cut trace.now cut.old (begun_reading trace.now) }
 {
-    let mut t = match begin(trace) {
-        Ok(t) => t,
+    let b = match begin(trace) {
+        Ok(b) => b,
         Err(stop) => {
             return Err(Refusal {
                 number: stop.number(),
@@ -94,11 +106,16 @@ pub(crate) fn run(
     };
     let mut tables: Tables = [0; 3008];
     let mut marks = Marks::new();
+    let mut t = Cursor {
+        stretch: 1,
+        row: 0,
+        at: b.at,
+    };
     loop {
-        match judge_record(trace, t, &mut tables, &mut marks, work) {
+        match judge_record(trace, b, t, &mut tables, &mut marks, work) {
             Ok(next) => t = next,
             Err(stop) => {
-                let event = area::event_at(t.machine.row);
+                let event = area::event_at(t.row);
                 return verdict::verdict(trace, stop, event, &tables, &marks, work, cut);
             }
         }

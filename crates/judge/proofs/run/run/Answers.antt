@@ -11,29 +11,29 @@ pub loop-next-init : goal.loop-next-init
 loop-next-init c = record {
   as_lent = refl;
   reached = rw c.new-marks.ensures
-      (reached_here c.args.trace.now 1 c.in-Ok.t _ _ c.args.work.now (c.in-Ok.ensures _ (omega arith)));
+      (reached_here c.args.trace.now c.in-Ok.b 1 _ _ _ c.args.work.now (c.in-Ok.ensures _ (omega arith)));
 }
 
 pub loop-next-smaller : goal.loop-next-smaller
 loop-next-smaller c =
     let here = c.loop-next in
-    less_left c.args.trace.now (event_at here.t.machine.row) here.t here.tables here.marks here.work
+    less_left c.args.trace.now c.in-Ok.b (event_at here.t.row) here.t here.tables here.marks here.work
     here.invariant.reached c.in-Ok-judge_record.next _ _ _ c.in-Ok-judge_record.ensures
 
 pub loop-next-preserved : goal.loop-next-preserved
 loop-next-preserved c = record {
   as_lent = c.loop-next.invariant.as_lent;
-  reached = reached_here c.args.trace.now _ c.in-Ok-judge_record.next _ _ _ c.in-Ok-judge_record.ensures;
+  reached = reached_here c.args.trace.now c.in-Ok.b _ c.in-Ok-judge_record.next _ _ _ c.in-Ok-judge_record.ensures;
 }
 
 pub returns-in-Err-judge_record-clause-answers_as_defined : goal.returns-in-Err-judge_record-clause-answers_as_defined
 returns-in-Err-judge_record-clause-answers_as_defined c =
     rw (c.verdict.ensures.value, c.event_at-event.ensures)
-    (stopped_answers c.args.trace.now _ c.in-Err-judge_record.stop _ _ _ c.in-Err-judge_record.ensures
+    (stopped_answers c.args.trace.now c.in-Ok.b _ c.in-Err-judge_record.stop _ _ _ c.in-Err-judge_record.ensures
     c.args.cut.now (omega arith))
 
 pub returns-in-Err-judge_record-clause-cut_after : goal.returns-in-Err-judge_record-clause-cut_after
 returns-in-Err-judge_record-clause-cut_after c =
     rw (c.verdict.ensures.cut_after, c.loop-next.invariant.as_lent)
-    (stopped_with_cut c.args.trace.now _ c.in-Err-judge_record.stop _ _ _ c.in-Err-judge_record.ensures
+    (stopped_with_cut c.args.trace.now c.in-Ok.b _ c.in-Err-judge_record.stop _ _ _ c.in-Err-judge_record.ensures
     c.args.cut.now (omega arith)).1
