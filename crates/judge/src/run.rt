@@ -111,13 +111,12 @@ pub(crate) fn run(
         row: 0,
         at: b.at,
     };
-    loop {
+    let stop = loop {
         match judge_record(trace, b, t, &mut tables, &mut marks, work) {
             Ok(next) => t = next,
-            Err(stop) => {
-                let event = area::event_at(t.row);
-                return verdict::verdict(trace, stop, event, &tables, &marks, work, cut);
-            }
+            Err(stop) => break stop,
         }
-    }
+    };
+    let event = area::event_at(t.row);
+    verdict::verdict(trace, stop, event, &tables, &marks, work, cut)
 }

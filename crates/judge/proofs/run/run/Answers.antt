@@ -1,18 +1,10 @@
 -- `run` meets its contract: each round of the loop takes the run on by a record, and less is left after it; where a
 -- record ends the run, what is answered is what the definitions say (proofs/Endings.antt).
-use mathlib.Core.Path.{refl}
 use native.Mathlib.Omega.{arith}
 use Rattle.area.specs.Cells.{event_at}
 use Rattle.judge.proofs.Records.{reached_here, less_left}
 use Rattle.judge.proofs.Endings.{stopped_with_cut, stopped_answers}
 use Rattle.judge.proofs.run.run.Goals as goal
-
-pub loop-next-init : goal.loop-next-init
-loop-next-init c = record {
-  as_lent = refl;
-  reached = rw c.new-marks.ensures
-      (reached_here c.args.trace.now c.in-Ok.b 1 _ _ _ c.args.work.now (c.in-Ok.ensures _ (omega arith)));
-}
 
 pub loop-next-smaller : goal.loop-next-smaller
 loop-next-smaller c =
@@ -26,14 +18,14 @@ loop-next-preserved c = record {
   reached = reached_here c.args.trace.now c.in-Ok.b _ c.in-Ok-judge_record.next _ _ _ c.in-Ok-judge_record.ensures;
 }
 
-pub returns-in-Err-judge_record-clause-answers_as_defined : goal.returns-in-Err-judge_record-clause-answers_as_defined
-returns-in-Err-judge_record-clause-answers_as_defined c =
+pub returns-clause-answers_as_defined : goal.returns-clause-answers_as_defined
+returns-clause-answers_as_defined c =
     rw (c.verdict.ensures.value, c.event_at-event.ensures)
-    (stopped_answers c.args.trace.now c.in-Ok.b _ c.in-Err-judge_record.stop _ _ _ c.in-Err-judge_record.ensures
+    (stopped_answers c.args.trace.now c.in-Ok.b _ _ _ _ _ c.in-Err-judge_record.ensures
     c.args.cut.now (omega arith))
 
-pub returns-in-Err-judge_record-clause-cut_after : goal.returns-in-Err-judge_record-clause-cut_after
-returns-in-Err-judge_record-clause-cut_after c =
+pub returns-clause-cut_after : goal.returns-clause-cut_after
+returns-clause-cut_after c =
     rw (c.verdict.ensures.cut_after, c.loop-next.invariant.as_lent)
-    (stopped_with_cut c.args.trace.now c.in-Ok.b _ c.in-Err-judge_record.stop _ _ _ c.in-Err-judge_record.ensures
+    (stopped_with_cut c.args.trace.now c.in-Ok.b _ _ _ _ _ c.in-Err-judge_record.ensures
     c.args.cut.now (omega arith)).1
