@@ -44,8 +44,9 @@ use Rattle.marks.specs.Ending.{copied}
 use Rattle.marks.proofs.Matched.{broken_at_ruling, unbroken_robust}
 use Rattle.windows.specs.Finding.{windows_by}
 use Rattle.windows.proofs.Answered.{flush_answered}
-use Rattle.judge.specs.declared.verdict.End.{End}
-use Rattle.judge.specs.Runs.{world_of, AllRead, Stopped, AnswersAsDefined}
+use Rattle.judge.specs.declared.run.Begun.{Begun}
+use Rattle.judge.specs.declared.stop.Stop.{Stop}
+use Rattle.judge.specs.Runs.{number_of, world_of, AllRead, Stopped, AnswersAsDefined}
 use Rattle.judge.specs.Standings.{stand_by, standing_after}
 use Rattle.judge.specs.Verdicts.{kind_by, verdict_by, verdict_after, cut_from}
 
@@ -78,8 +79,8 @@ module _ (bytes : List ℕ) where
   -- ---- all records of an accepted trace
 
   module _
-      (version threads locations N : ℕ) (tables : List ℕ) (m : Marks) (work : List ℕ)
-      (all : AllRead bytes version threads locations N tables m work) where
+      (b : Begun) (N : ℕ) (tables : List ℕ) (m : Marks) (work : List ℕ)
+      (all : AllRead bytes b N tables m work) where
     is_accepted : begun_reading bytes ≡ accepted N
     is_accepted = (begun_accepted_exactly bytes N).1 (all.accepted, all.state.limits.begun)
 
@@ -87,7 +88,7 @@ module _ (bytes : List ℕ) where
     whole = all.state.limits.accepted
 
     abbrev w : World
-    w = world_of bytes version threads locations all.stretch all.row tables work
+    w = world_of bytes b all.stretch all.row tables work
 
     -- the rows after a run that answers v
     rows_there :
@@ -137,13 +138,9 @@ module _ (bytes : List ℕ) where
             let differ : p ≢ q = λ same. omega (arith, before_lt (events bytes) before) in
             rw (lines_are, ne_eqb p q differ) (by_line before (eqb (line (events bytes) p) (line (events bytes) q)))
 
-    -- the end of the run
-    abbrev end_at : End
-    end_at = record { number = 1; event = N }
-
-    module _ (cut : List ℕ) (right_size : length cut ≡ 56) where
+    module _ (stop : Stop) (is_1 : number_of stop ≡ 1) (cut : List ℕ) (right_size : length cut ≡ 56) where
       abbrev cut' : List ℕ
-      cut' = cut_from end_at m cut
+      cut' = cut_from stop m cut
 
       -- what is answered by the load that breaks the trace, and what becomes of the cut buffer
       abbrev AnsweredBy : Option ℕ → Type 0
@@ -169,47 +166,45 @@ module _ (bytes : List ℕ) where
           )
 
       -- THE VERDICT AFTER ALL RECORDS, AND THE CUT BUFFER, ARE THE DEFINITIONS'
-      all_with_cut : AnsweredWithCut (verdict_after bytes end_at tables m work) cut cut'
-      all_with_cut = by_load m.broken refl
+      all_with_cut : AnsweredWithCut (verdict_after bytes stop N tables m work) cut cut'
+      all_with_cut = rw is_1 (by_load m.broken refl)
         where
           by_load : (recorded : Option ℕ) → m.broken ≡ recorded → AnsweredBy recorded
           by_load None none = robust_with_cut none
           by_load (Some load) is_load = broken_with_cut load is_load
 
-      all_answers : AnswersAsDefined bytes (verdict_after bytes end_at tables m work) work
-      all_answers = rows_there (verdict_after bytes end_at tables m work) all_with_cut.0
+      all_answers : AnswersAsDefined bytes (verdict_after bytes stop N tables m work) work
+      all_answers = rows_there (verdict_after bytes stop N tables m work) all_with_cut.0
 
-  -- ---- a run that is over before record n, by number k
+  -- ---- a run that is over before record n
 
   module _
-      (version threads locations n k : ℕ) (tables : List ℕ) (m : Marks) (work : List ℕ)
-      (stopped : Stopped bytes version threads locations n k tables m work) (cut : List ℕ)
+      (b : Begun) (n : ℕ) (stop : Stop) (tables : List ℕ) (m : Marks) (work : List ℕ)
+      (stopped : Stopped bytes b n (number_of stop) tables m work) (cut : List ℕ)
       (right_size : length cut ≡ 56)
     where
-      -- the end of the run
-      abbrev end_by : End
-      end_by = record { number = k; event = n }
-
       abbrev Over : Result Verdict Refusal → List ℕ → Type 0
       Over v cut' = AnsweredWithCut v cut cut' × AnswersAsDefined bytes v work
 
-      over : (k ≡ 1) ⊎ (k ≢ 1) → Over (verdict_after bytes end_by tables m work) (cut_from end_by m cut)
+      over :
+          (number_of stop ≡ 1) ⊎ (number_of stop ≢ 1)
+          → Over (verdict_after bytes stop n tables m work) (cut_from stop m cut)
       over (inl is_1) =
-          let all = stopped.all_read is_1 in
-          rw is_1 (
-            all_with_cut version threads locations n tables m work all cut right_size,
-            all_answers version threads locations n tables m work all cut right_size,
+          let all = stopped.all_read is_1 in (
+            all_with_cut b n tables m work all stop is_1 cut right_size,
+            all_answers b n tables m work all stop is_1 cut right_size,
           )
       over (inr not_1) =
+          let k = number_of stop in
           let away = begun_away bytes k n (stopped.is_turned_away not_1) in
           rw (ne_eqb k 1 not_1) (refused_with_cut k n away cut, refused_answers k n away work)
 
       pub stopped_with_cut :
-          AnsweredWithCut (verdict_after bytes end_by tables m work) cut (cut_from end_by m cut)
-      stopped_with_cut = (over (same? k 1)).0
+          AnsweredWithCut (verdict_after bytes stop n tables m work) cut (cut_from stop m cut)
+      stopped_with_cut = (over (same? (number_of stop) 1)).0
 
-      pub stopped_answers : AnswersAsDefined bytes (verdict_after bytes end_by tables m work) work
-      stopped_answers = (over (same? k 1)).1
+      pub stopped_answers : AnswersAsDefined bytes (verdict_after bytes stop n tables m work) work
+      stopped_answers = (over (same? (number_of stop) 1)).1
 
   -- ---- the order query
 

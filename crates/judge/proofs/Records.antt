@@ -55,7 +55,7 @@ use Rattle.marks.proofs.Matched.{match_start}
 use Rattle.judge.specs.declared.run.Begun.{Begun}
 use Rattle.judge.specs.declared.run.Cursor.{Cursor}
 use Rattle.judge.specs.Judging.{Stepped}
-use Rattle.judge.specs.Runs.{begin_ended, no_tables, machine_in, world_of, Reached, AllRead, Stopped, Began}
+use Rattle.judge.specs.Runs.{no_tables, machine_in, world_of, Reached, AllRead, Stopped, Began}
 use Rattle.judge.proofs.Judging.{event_here}
 
 -- the cursor before the next record
@@ -107,12 +107,9 @@ module _ (bytes : List ℕ) where
   none_earlier : (e : ℕ) → e < 0 → record_at bytes e ≡ passing
   none_earlier e inside = absurd (not-suc-le-zero inside)
 
-  began_ended : (k : ℕ) → k ≢ 0 → begun_reading bytes ≡ turned_away k 0 → Began bytes (begin_ended k)
-  began_ended k some_number away = record { passes = λ none. absurd (some_number none); is_turned_away = λ _. away }
-
-  pub first_unread : (k : ℕ) → read_at bytes 0 ≡ refused k 0 → Began bytes (begin_ended k)
+  pub first_unread : (k : ℕ) → read_at bytes 0 ≡ refused k 0 → begun_reading bytes ≡ turned_away k 0
   unfolding start
-  first_unread k is = began_ended k (unread_some 0 k 0 is) (by_size (same? (length bytes) 0))
+  first_unread k is = by_size (same? (length bytes) 0)
     where
       by_size : (length bytes ≡ 0) ⊎ (length bytes ≢ 0) → begun_reading bytes ≡ turned_away k 0
       by_size (inl none) =
@@ -123,34 +120,29 @@ module _ (bytes : List ℕ) where
 
   pub first_forbidden :
       (k : ℕ) (x : Event) (past : ℕ) → read_at bytes 0 ≡ event x past → begin_refusal x ≡ k → k ≢ 0
-      → Began bytes (begin_ended k)
+      → begun_reading bytes ≡ turned_away k 0
   unfolding start
   first_forbidden k x past is_read is some_number =
-      began_ended k some_number
-      (begun_away bytes k 0
+      begun_away bytes k 0
       (forbidden_away 0 none_earlier k x past is_read
-      (sym (begin_refusals (events bytes)) ∙ (ap begin_refusal (event_is 0 x past is_read) ∙ is)) some_number))
+      (sym (begin_refusals (events bytes)) ∙ (ap begin_refusal (event_is 0 x past is_read) ∙ is)) some_number)
 
   -- what an accepted begin says
   abbrev begun_by : Fields → ℕ → Begun
-  begun_by f past =
-      record { version = f.version; threads = f.threads; locations = f.locations; at = past; refusal = 0 }
+  begun_by f past = record { version = f.version; threads = f.threads; locations = f.locations; at = past }
 
   pub first_passes :
       (x : Event) (past : ℕ) → read_at bytes 0 ≡ event x past → begin_refusal x ≡ 0
-      → Began bytes (begun_by (fields_of x) past)
+      → Began bytes (Ok (begun_by (fields_of x) past))
   unfolding start
-  first_passes x past is_read is = record {
-    passes = λ _ work room.
-        let state = first_state work room in
-        record {
-          position = read_next bytes 0 x past is_read;
-          all_pass = passing_on 0 x past none_earlier is_read passes;
-          state = state;
-          loads = match_start (events bytes) state.limits.accepted;
-        };
-    is_turned_away = λ some_number. absurd (some_number refl);
-  }
+  first_passes x past is_read is = λ work room.
+      let state = first_state work room in
+      record {
+        position = read_next bytes 0 x past is_read;
+        all_pass = passing_on 0 x past none_earlier is_read passes;
+        state = state;
+        loads = match_start (events bytes) state.limits.accepted;
+      }
     where
       event_0 : events bytes 0 ≡ x
       event_0 = event_is 0 x past is_read
@@ -167,13 +159,13 @@ module _ (bytes : List ℕ) where
   -- ---- a later record
 
   module _
-      (version threads locations n : ℕ) (t : Cursor) (tables : List ℕ) (m : Marks) (work : List ℕ)
-      (reached : Reached bytes version threads locations n t tables m work) where
+      (b : Begun) (n : ℕ) (t : Cursor) (tables : List ℕ) (m : Marks) (work : List ℕ)
+      (reached : Reached bytes b n t tables m work) where
     abbrev at : ℕ
     at = t.at
 
     abbrev w : World
-    w = world_of bytes version threads locations t.stretch t.row tables work
+    w = world_of bytes b t.stretch t.row tables work
 
     read_there : (a : Answer) → read_at bytes at ≡ a → read_at bytes (start bytes n) ≡ a
     read_there a is = ap (read_at bytes) (sym reached.position) ∙ is
@@ -185,7 +177,7 @@ module _ (bytes : List ℕ) where
     still_inside : (read_at bytes at ≡ refused 1 0 → ⊥) → start bytes n ≢ length bytes
     still_inside not_1 same = not_1 (sym (read_past_end bytes at (omega (arith, reached.position))))
 
-    all_read : length bytes ≤ at → AllRead bytes version threads locations n tables m work
+    all_read : length bytes ≤ at → AllRead bytes b n tables m work
     all_read past = record {
       accepted = record {
         all_pass = reached.all_pass;
@@ -203,13 +195,13 @@ module _ (bytes : List ℕ) where
         sym (refusals (events bytes) n w reached.state) ∙ ap (refusal_w w) (at_event x past is_read)
 
     -- its number, by the version that the begin said
-    in_trace_is : (k : ℕ) → later_refusal version bytes at k ≡ in_trace bytes n k
+    in_trace_is : (k : ℕ) → later_refusal b.version bytes at k ≡ in_trace bytes n k
     in_trace_is k =
         rw (lt-ltb 0 n reached.state.limits.begun, ← reached.state.numbers.version_is, ← reached.position) refl
 
     later_unread :
         (k : ℕ) → read_at bytes at ≡ refused k 0
-        → Stopped bytes version threads locations n (later_refusal version bytes at k) tables m work
+        → Stopped bytes b n (later_refusal b.version bytes at k) tables m work
     later_unread k is = record {
       all_read = λ is_1.
           let alone : k ≡ 1 = in_trace_one bytes n k (sym (in_trace_is k) ∙ is_1) in
@@ -227,7 +219,7 @@ module _ (bytes : List ℕ) where
     later_forbidden :
         (k : ℕ) (tables' : List ℕ) (m' : Marks) (work' : List ℕ) (x : Event) (past : ℕ)
         → read_at bytes at ≡ event x past → refusal_w w x ≡ k → k ≢ 0
-        → Stopped bytes version threads locations n k tables' m' work'
+        → Stopped bytes b n k tables' m' work'
     later_forbidden k tables' m' work' x past is_read is some_number = record {
       all_read = λ is_1.
           let first = (no_begin_first (events bytes) n (rule_is x past is_read ∙ (is ∙ is_1))).0 in
@@ -248,9 +240,9 @@ module _ (bytes : List ℕ) where
         (x : Event) (past : ℕ) → read_at bytes at ≡ event x past → refusal_w w x ≡ 0
         → (j' row' : ℕ) (counted' : Bool) (tables' : List ℕ) (m' : Marks) (work' : List ℕ)
         → counted' ≡ counts_w w x
-        → world_of bytes version threads locations j' row' tables' work' ≡ step_w w x
+        → world_of bytes b j' row' tables' work' ≡ step_w w x
         → JudgedTo (kind_of x) (fields_of x) counted' tables' work' m'
-        → Reached bytes version threads locations (suc n) (cursor j' row' past) tables' m' work'
+        → Reached bytes b (suc n) (cursor j' row' past) tables' m' work'
     later_passes x past is_read is j' row' counted' tables' m' work' counted_is step_is judged_to = record {
       position = read_next bytes n x past (read_there (event x past) is_read);
       all_pass = passing_on n x past reached.all_pass (read_there (event x past) is_read) passes;
@@ -283,7 +275,7 @@ module _ (bytes : List ℕ) where
         passes : refusal ev n ≡ 0
         passes = rule_is x past is_read ∙ is
 
-        after : Sim ev (suc n) (world_of bytes version threads locations j' row' tables' work')
+        after : Sim ev (suc n) (world_of bytes b j' row' tables' work')
         after =
             subst (Sim ev (suc n)) (sym (step_is ∙ ap (step_w w) (sym event_n)))
             (step_next ev n w reached.state passes)
@@ -292,7 +284,7 @@ module _ (bytes : List ℕ) where
     known_begin :
         (x : Event) (past : ℕ) → read_at bytes at ≡ event x past → refusal_w w x ≡ 0
         → (st : State) (tables' work' : List ℕ) → world st tables' work' ≡ step_w w x
-        → world_of bytes version threads locations st.stretch (t.row + 16) tables' work' ≡ step_w w x
+        → world_of bytes b st.stretch (t.row + 16) tables' work' ≡ step_w w x
     known_begin x past is_read is st tables' work' step_is =
         let event_n = at_event x past is_read in
         let next = subst (Sim (events bytes) (suc n)) (sym (step_is ∙ ap (step_w w) (sym event_n)))
@@ -305,16 +297,16 @@ module _ (bytes : List ℕ) where
         ∙ step_is
       where
         same :
-            (st : State) → t.row + 16 ≡ st.row → version ≡ st.version → threads ≡ st.threads
-            → locations ≡ st.locations
-            → world_of bytes version threads locations st.stretch (t.row + 16) tables' work' ≡ world st tables' work'
+            (st : State) → t.row + 16 ≡ st.row → b.version ≡ st.version → b.threads ≡ st.threads
+            → b.locations ≡ st.locations
+            → world_of bytes b st.stretch (t.row + 16) tables' work' ≡ world st tables' work'
         same st row version_is threads_is locations_is = rw (row, version_is, threads_is, locations_is) refl
 
     -- ---- by the record's scan
 
     pub scanned_unread :
         (k : ℕ) → Err k ≡ scan_of (read_at bytes at)
-        → Stopped bytes version threads locations n (later_refusal version bytes at k) tables m work
+        → Stopped bytes b n (later_refusal b.version bytes at k) tables m work
     scanned_unread k is = later_unread k (scan_refused bytes at k is)
 
     -- what the machine's step gave
@@ -322,13 +314,13 @@ module _ (bytes : List ℕ) where
         (r : Scan) (is : Ok r ≡ scan_of (read_at bytes at)) (tables' work' : List ℕ)
       where
         abbrev given : Result Step Forbidden → Outcome
-        given a = outcome (machine_in bytes version threads locations t.stretch t.row) a tables' work'
+        given a = outcome (machine_in bytes b t.stretch t.row) a tables' work'
 
         -- a rule turned the event away
         pub scanned_forbidden :
             (e : Forbidden) → given (Err e) ≡ step_o w r.kind r.fields
             → (tables'' : List ℕ) (m' : Marks) (work'' : List ℕ)
-            → Stopped bytes version threads locations n (number_of e) tables'' m' work''
+            → Stopped bytes b n (number_of e) tables'' m' work''
         scanned_forbidden e step_is tables'' m' work'' =
             let (x, (read_is, kind_is, fields_are)) = scan_read bytes at r is in
             later_forbidden (number_of e) tables'' m' work'' x r.next read_is
@@ -338,8 +330,7 @@ module _ (bytes : List ℕ) where
         pub scanned_passes :
             (s : Step) → given (Ok s) ≡ step_o w r.kind r.fields
             → (m' : Marks) → JudgedTo r.kind r.fields s.counted tables' work' m'
-            → Reached bytes version threads locations (suc n)
-            (cursor s.machine.stretch (t.row + 16) r.next) tables' m' work'
+            → Reached bytes b (suc n) (cursor s.machine.stretch (t.row + 16) r.next) tables' m' work'
         scanned_passes s step_is m' judged_to =
             let (x, (read_is, kind_is, fields_are)) = scan_read bytes at r is in
             let told : given (Ok s) ≡ step_o w (kind_of x) (fields_of x) = rw (← kind_is, ← fields_are) step_is in
@@ -353,15 +344,15 @@ module _ (bytes : List ℕ) where
     -- ---- what is left of the run
 
     -- the cursor knows the record's number
-    pub reached_here : Reached bytes version threads locations (event_at t.row) t tables m work
+    pub reached_here : Reached bytes b (event_at t.row) t tables m work
     reached_here =
-        subst (λ (e : ℕ). Reached bytes version threads locations e t tables m work)
+        subst (λ (e : ℕ). Reached bytes b e t tables m work)
         (sym (event_here (events bytes) n w reached.state)) reached
 
     -- the next record lies further on
     pub less_left :
         (t' : Cursor) (tables' : List ℕ) (m' : Marks) (work' : List ℕ)
-        → Reached bytes version threads locations (suc n) t' tables' m' work'
+        → Reached bytes b (suc n) t' tables' m' work'
         → length bytes - t'.at < length bytes - at
     less_left t' tables' m' work' next =
         let p = passed→ bytes n (next.all_pass n (omega arith)) in

@@ -15,8 +15,9 @@ use Rattle.marks.specs.Marks.{broken_at}
 use Rattle.marks.specs.Ending.{copied, stores_in}
 use Rattle.windows.specs.Finding.{windows_by}
 use Rattle.judge.specs.declared.loads.Evidence.{Evidence}
-use Rattle.judge.specs.declared.verdict.End.{End}
+use Rattle.judge.specs.declared.stop.Stop.{Stop}
 use Rattle.judge.specs.Judging.{evidence_at}
+use Rattle.judge.specs.Runs.{number_of}
 
 -- two stores that are equal are on one line
 abbrev pub kind_by : List ℕ → List ℕ → ℕ → ℕ → Kind
@@ -36,11 +37,11 @@ abbrev pub verdict_by : List ℕ → ℕ → List ℕ → Marks → List ℕ →
 verdict_by bytes events tables m work None = Robust events (share_by m.cut tables)
 verdict_by bytes events tables m work (Some load) = broken_by bytes work events (evidence_at work m load)
 
-abbrev pub verdict_after : List ℕ → End → List ℕ → Marks → List ℕ → Result Verdict Refusal
-verdict_after bytes t tables m work =
-    let events = t.event - 1 in
-    eqb t.number 1 gives Ok (verdict_by bytes events tables m work (broken_at m)) else
-    Err (record { number = t.number; event = t.event })
+-- of a run that ended so before this event: number 1 where no record was left
+abbrev pub verdict_after : List ℕ → Stop → ℕ → List ℕ → Marks → List ℕ → Result Verdict Refusal
+verdict_after bytes stop event tables m work =
+    eqb (number_of stop) 1 gives Ok (verdict_by bytes (event - 1) tables m work (broken_at m)) else
+    Err (record { number = number_of stop; event = event })
 
-abbrev pub cut_from : End → Marks → List ℕ → List ℕ
-cut_from t m cut = (eqb t.number 1 && is_none (broken_at m)) gives copied 56 m.cut cut else cut
+abbrev pub cut_from : Stop → Marks → List ℕ → List ℕ
+cut_from stop m cut = (eqb (number_of stop) 1 && is_none (broken_at m)) gives copied 56 m.cut cut else cut

@@ -13,6 +13,7 @@ ghost use Rattle.model.specs.Demand.{Claims, Stands};
 mod loads;
 mod run;
 mod standing;
+mod stop;
 mod verdict;
 
 use model::{Order, Refusal, Verdict};

@@ -1,41 +1,28 @@
-// A trace's records, one after the other, and the verdict. A record that is turned away ends the run there.
+// A trace's records, one after the other, and the verdict. What ends the run before a record is a `Stop`.
 ghost use Rattle.std.specs.Prelude.{◌≡◌};
 ghost use Rattle.area.specs.Cells.{event_at};
 ghost use Rattle.model.specs.Reading.{begun_reading};
 ghost use Rattle.model.specs.Judge.{reading_cut};
-ghost use Rattle.judge.specs.Runs.{begin_ended, started_at, number_in, Began, Reached, After, AnswersAsDefined};
+ghost use Rattle.judge.specs.Runs.{Began, Reached, After, AnswersAsDefined};
 
-use crate::verdict::End;
+use crate::stop::Stop;
 use crate::{loads, verdict};
 use machine::{Machine, Tables};
 use marks::Marks;
 use model::{Refusal, Verdict};
 
-// What the begin says, the position past it, and refusal 0. Or the refusal's number.
+// What the begin says, and the position past it.
 #[derive(Clone, Copy)]
 pub struct Begun {
     pub version: u16,
     pub threads: u16,
     pub locations: u16,
     pub at: usize,
-    pub refusal: u16,
 }
 
-impl Begun {
-    fn refuse(refusal: u16) -> Begun
-        ensures { result ≡ begin_ended refusal }
-    {
-        Begun {
-            version: 0,
-            threads: 0,
-            locations: 0,
-            at: 0,
-            refusal,
-        }
-    }
-}
-
-// Between two records: the stretch, where the row of the next event begins, and the position of the next record.
+// Between two records: the stretch, where the row of the next event begins, and the position of the next record. With
+// the begin's numbers beside them, in a `Machine`, the compiler packs all four in one number at each record and takes
+// them apart again, which costs half as many instructions again.
 #[derive(Clone, Copy)]
 pub struct Cursor {
     pub stretch: u16,
@@ -43,56 +30,20 @@ pub struct Cursor {
     pub at: usize,
 }
 
-impl Cursor {
-    // After an accepted begin, which ends at `at`.
-    fn start(at: usize) -> Cursor
-        ensures { result ≡ started_at at }
-    {
-        Cursor {
-            stretch: 1,
-            row: 0,
-            at,
-        }
-    }
-}
-
-// After a record: what the next one meets; or the number of what ends the run, which is 1 where no record is left.
-#[derive(Clone, Copy)]
-pub enum Next {
-    On(Cursor),
-    Ended(u16),
-}
-
-// The number of what ends the run, 0 if it goes on.
-fn number_in(t: Next) -> u16
-    ensures { result ≡ number_in t }
-{
-    match t {
-        Next::On(_) => 0,
-        Next::Ended(k) => k,
-    }
-}
-
 // The first record. A second caller of `scan_at` would keep the compiler from taking the scan into the loop below, so
 // the begin is read as an event.
-fn begin(trace: &[u8]) -> Begun
+fn begin(trace: &[u8]) -> Result<Begun, Stop>
     ensures { Began trace.now result }
 {
-    let first = record::read_at(trace, 0);
-    let Ok(read) = first else {
-        return Begun::refuse(record::refusal_of(first));
-    };
+    let read = record::read_at(trace, 0)?;
     let f = record::fields_of(read.event);
-    if let Err(k) = machine::begin_refusal(record::kind_of(read.event), f) {
-        return Begun::refuse(k.number());
-    }
-    Begun {
+    machine::begin_refusal(record::kind_of(read.event), f)?;
+    Ok(Begun {
         version: f.version,
         threads: f.threads,
         locations: f.locations,
         at: read.next,
-        refusal: 0,
-    }
+    })
 }
 
 // The judging step: a record that can't be read ends the judging there with its refusal, which is 3 in the place of a
@@ -101,40 +52,31 @@ fn begin(trace: &[u8]) -> Begun
 // reader's refusal 1; no later record has that number otherwise.
 fn judge_record(
     trace: &[u8],
-    version: u16,
-    threads: u16,
-    locations: u16,
+    b: Begun,
     t: Cursor,
     tables: &mut Tables,
     marks: &mut Marks,
     work: &mut [u16; 32768],
-) -> Next
-    requires { Reached trace.now version threads locations (event_at t.row) t
-        tables.old marks.old work.old }
-    ensures { After trace.now version threads locations (event_at t.row) result
-        tables.new marks.new work.new }
+) -> Result<Cursor, Stop>
+    requires { Reached trace.now b (event_at t.row) t tables.old marks.old work.old }
+    ensures { After trace.now b (event_at t.row) result tables.new marks.new work.new }
 {
     let row = t.row;
-    let scanned = record::scan_at(trace, t.at).map_err(|refusal| refusal.later(
-        version, trace, t.at,
-    ));
+    let scanned = record::scan_at(trace, t.at);
     let Ok(e) = scanned else {
-        return Next::Ended(record::refusal_of(scanned));
+        let refusal = scanned.unwrap_err().later(b.version, trace, t.at);
+        return Err(Stop::Unread(refusal));
     };
-    let f = e.fields;
     let m = Machine {
         row,
         stretch: t.stretch,
-        version,
-        threads,
-        locations,
+        version: b.version,
+        threads: b.threads,
+        locations: b.locations,
     };
-    let s = match m.step(tables, work, e.kind, f) {
-        Ok(s) => s,
-        Err(k) => return Next::Ended(k.number()),
-    };
-    loads::judge_event(tables, marks, s.counted, work, e.kind, row, f);
-    Next::On(Cursor {
+    let s = m.step(tables, work, e.kind, e.fields)?;
+    loads::judge_event(tables, marks, s.counted, work, e.kind, row, e.fields);
+    Ok(Cursor {
         stretch: s.machine.stretch,
         row: row + 16,
         at: e.next,
@@ -153,34 +95,28 @@ pub(crate) fn run(
     ensures cut_after { cut.new
         ≡ reading_cut trace.now cut.old (begun_reading trace.now) }
 {
-    let b = begin(trace);
-    if b.refusal != 0 {
-        return Err(Refusal {
-            number: b.refusal,
-            event: 0,
-        });
-    }
+    let b = match begin(trace) {
+        Ok(b) => b,
+        Err(stop) => {
+            return Err(Refusal {
+                number: stop.number(),
+                event: 0,
+            });
+        }
+    };
     let mut tables: Tables = [0; 3008];
     let mut marks = Marks::new();
-    let mut t = Cursor::start(b.at);
-    loop {
-        let r = judge_record(
-            trace,
-            b.version,
-            b.threads,
-            b.locations,
-            t,
-            &mut tables,
-            &mut marks,
-            work,
-        );
-        let Next::On(next) = r else {
-            let end = End {
-                number: number_in(r),
-                event: area::event_at(t.row),
-            };
-            return verdict::verdict(trace, end, &tables, &marks, work, cut);
-        };
-        t = next;
-    }
+    let mut t = Cursor {
+        stretch: 1,
+        row: 0,
+        at: b.at,
+    };
+    let stop = loop {
+        match judge_record(trace, b, t, &mut tables, &mut marks, work) {
+            Ok(next) => t = next,
+            Err(stop) => break stop,
+        }
+    };
+    let event = area::event_at(t.row);
+    verdict::verdict(trace, stop, event, &tables, &marks, work, cut)
 }

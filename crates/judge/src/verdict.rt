@@ -4,17 +4,10 @@ ghost use Rattle.judge.specs.Verdicts.{kind_by, broken_by, share_by, verdict_aft
 
 use crate::loads;
 use crate::loads::Evidence;
+use crate::stop::Stop;
 use machine::Tables;
 use marks::Marks;
 use model::{Kind, Refusal, Verdict};
-
-// The end of a run: what ended it, 1 where no record was left, or the number of what turned a record away; and the
-// number of the event that would have been next.
-#[derive(Clone, Copy)]
-pub struct End {
-    pub number: u16,
-    pub event: u16,
-}
 
 // "contradiction" if they are equal, "impossible" if they are two on one cache line, else "flush", with its windows.
 // Stores that are equal are on one line, so the lines are asked first.
@@ -50,27 +43,27 @@ fn share(marks: &Marks, tables: &Tables) -> u16
     marks::percentage(marks.stores_in(), machine::all_committed(tables))
 }
 
-// The verdict on the trace whose run ended so. Only a robust trace changes the cut buffer.
+// The verdict on the trace whose run that ended before this event: of all records where none was left, number 1. Only a
+// robust trace changes the cut buffer.
 #[tactic(auto, unfolding(crate::specs::Verdicts::verdict_after, crate::specs::Verdicts::cut_from))]
 pub(crate) fn verdict(
     trace: &[u8],
-    t: End,
+    stop: Stop,
+    event: u16,
     tables: &Tables,
     marks: &Marks,
     work: &[u16],
     cut: &mut [u16; 56],
 ) -> Result<Verdict, Refusal>
-    ensures value { result ≡ verdict_after trace.now t
+    ensures value { result ≡ verdict_after trace.now stop event
         tables.now marks.now work.now }
-    ensures cut_after { cut.new ≡ cut_from t marks.now cut.old }
+    ensures cut_after { cut.new ≡ cut_from stop marks.now cut.old }
 {
-    if t.number != 1 {
-        return Err(Refusal {
-            number: t.number,
-            event: t.event,
-        });
+    let number = stop.number();
+    if number != 1 {
+        return Err(Refusal { number, event });
     }
-    let events = t.event.saturating_sub(1);
+    let events = event.saturating_sub(1);
     if let Some(load) = marks.broken_at() {
         let evidence = loads::evidence_at(marks, work, load);
         return Ok(broken(trace, work, events, evidence));

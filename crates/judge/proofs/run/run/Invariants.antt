@@ -10,7 +10,7 @@ use Rattle.judge.proofs.run.run.Given as goal
 abbrev pub invariant-loop-next : goal.invariant-loop-next
 invariant-loop-next l = record {
   as_lent : l.cut ≡ l.initial.cut;
-  reached : Reached l.trace l.b.version l.b.threads l.b.locations (event_at l.t.row) l.t l.tables l.marks l.work;
+  reached : Reached l.trace l.b (event_at l.t.row) l.t l.tables l.marks l.work;
 }
 
 abbrev pub decreases-loop-next : goal.decreases-loop-next
