@@ -1,11 +1,8 @@
 -- `judge_record` meets its contract: the laws of proofs/Records.antt, for a later record that cannot be read, that is
 -- turned away, and that passes.
-use mathlib.Core.Path.{◌≡◌, sym, ap, ◌∙◌}
-use borrow.Author.Rules.{rules}
+use mathlib.Core.Path.{sym, ap, ◌∙◌}
 use Rattle.std.proofs.lemmas.Result.{err_from_is_err_and}
-use Rattle.std.specs.Prelude.{Ok}
-use Rattle.record.specs.Answers.{number_of, numbered, scan_of}
-use Rattle.record.specs.Reading.{read_at}
+use Rattle.record.specs.Answers.{number_of, numbered}
 use Rattle.area.specs.Cells.{event_at}
 use Rattle.model.specs.Reading.{events}
 use Rattle.judge.proofs.Records.{scanned_unread, scanned_forbidden, scanned_passes}
