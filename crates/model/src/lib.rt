@@ -26,6 +26,17 @@ pub enum Kind {
     Impossible,
 }
 
+// What is said of a broken trace: the events after its begin, the event that breaks it, the missing and the observed
+// store, and why.
+#[derive(Clone, Copy, Debug, PartialEq, Eq)]
+pub struct Broken {
+    pub events: u16,
+    pub load: u16,
+    pub missing: u16,
+    pub observed: u16,
+    pub kind: Kind,
+}
+
 // What judging a trace answers, unless it refuses.
 #[derive(Clone, Copy, Debug, PartialEq, Eq)]
 pub enum Verdict {
@@ -33,13 +44,7 @@ pub enum Verdict {
         events: u16,
         share: u16,
     },
-    Broken {
-        events: u16,
-        load: u16,
-        missing: u16,
-        observed: u16,
-        kind: Kind,
-    },
+    Broken(Broken),
 }
 
 // How the first of two stores stands to the second, by happens-before.
