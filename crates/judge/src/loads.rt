@@ -9,7 +9,7 @@ ghost use Rattle.marks.specs.Matching.{MarksMatch};
 ghost use Rattle.judge.specs.Judging.{Stepped};
 
 use machine::Tables;
-use marks::Marks;
+use marks::{Load, Marks};
 use record::Fields;
 
 // The last store committed at location x before the event whose row begins at `row`, a counted load of x; 0 if there is
@@ -54,6 +54,10 @@ pub(crate) fn judge_event(
         marks.judge_held(work, k, row);
         return;
     }
-    let h = head_found(tables, work, kind, row, f.location);
-    marks.judge_load(work, h, f.location, f.source, row);
+    let load = Load {
+        head: head_found(tables, work, kind, row, f.location),
+        location: f.location,
+        source: f.source,
+    };
+    marks.judge_load(work, load, row);
 }
