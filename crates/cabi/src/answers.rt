@@ -4,7 +4,7 @@ ghost use Rattle.model.specs.declared.Kind.TheVariants.{Flush};
 ghost use Rattle.model.specs.Answers.{broken, window_answer, kind_answer, verdict_answer, order_answer};
 ghost use Rattle.cabi.specs.Answers.{window_numbers, bare_numbers, broken_numbers, verdict_numbers, standing_numbers};
 
-use model::{Broken, Kind, Order, Refusal, Verdict, Window, Windows};
+use model::{Kind, Order, Refusal, Verdict, Window, Windows};
 
 // A window's first and last place; 0 and 0 for none.
 fn window_numbers(window: Option<Window>) -> [u16; 2]
@@ -17,36 +17,36 @@ fn window_numbers(window: Option<Window>) -> [u16; 2]
 }
 
 // A broken answer of a kind, by its number, with no windows.
-fn bare_numbers(b: Broken, kind: u16) -> [u16; 26]
-    ensures { result ≡ broken_numbers b.events b.load b.missing b.observed (bare_numbers kind) }
+fn bare_numbers(events: u16, load: u16, missing: u16, observed: u16, kind: u16) -> [u16; 26]
+    ensures { result ≡ broken_numbers events load missing observed (bare_numbers kind) }
 {
     let mut bare = [0; 26];
     bare[2] = 2;
-    bare[3] = b.events;
-    bare[5] = b.load;
-    bare[6] = b.missing;
-    bare[7] = b.observed;
+    bare[3] = events;
+    bare[5] = load;
+    bare[6] = missing;
+    bare[7] = observed;
     bare[8] = kind;
     bare
 }
 
-fn flush_numbers(b: Broken, w: Windows) -> [u16; 26]
-    ensures { result ≡ verdict_numbers (broken b.events b.load b.missing b.observed (kind_answer (Flush w))) }
+fn flush_numbers(events: u16, load: u16, missing: u16, observed: u16, w: Windows) -> [u16; 26]
+    ensures { result ≡ verdict_numbers (broken events load missing observed (kind_answer (Flush w))) }
 {
-    let mut numbers = bare_numbers(b, 2);
+    let mut numbers = bare_numbers(events, load, missing, observed, 2);
     numbers[9] = w.primary.wrapping_add(1);
     let windows = w.threads.map(window_numbers);
     numbers[10..].copy_from_slice(windows.as_flattened());
     numbers
 }
 
-fn broken_numbers(b: Broken) -> [u16; 26]
-    ensures { result ≡ verdict_numbers (broken b.events b.load b.missing b.observed (kind_answer b.kind)) }
+fn broken_numbers(events: u16, load: u16, missing: u16, observed: u16, kind: Kind) -> [u16; 26]
+    ensures { result ≡ verdict_numbers (broken events load missing observed (kind_answer kind)) }
 {
-    match b.kind {
-        Kind::Contradiction => bare_numbers(b, 1),
-        Kind::Flush(w) => flush_numbers(b, w),
-        Kind::Impossible => bare_numbers(b, 3),
+    match kind {
+        Kind::Contradiction => bare_numbers(events, load, missing, observed, 1),
+        Kind::Flush(w) => flush_numbers(events, load, missing, observed, w),
+        Kind::Impossible => bare_numbers(events, load, missing, observed, 3),
     }
 }
 
@@ -61,7 +61,15 @@ pub(crate) fn verdict_numbers(v: Result<Verdict, Refusal>) -> [u16; 26]
             numbers[4] = share;
             numbers
         }
-        Ok(Verdict::Broken(b)) => broken_numbers(b),
+        Ok(
+            Verdict::Broken {
+                events,
+                load,
+                missing,
+                observed,
+                kind,
+            },
+        ) => broken_numbers(events, load, missing, observed, kind),
         Err(refusal) => {
             numbers[0] = refusal.number;
             numbers[1] = refusal.event;

@@ -264,15 +264,15 @@ module _ (bytes : List ℕ) where
         → answers.order_answer (standing_after u work p q) ≡ standing (events bytes) N p q
     accepted_standing N is (Ok (Robust count share)) answer_is =
         stands N is count (robust_events N (ruling_of (events bytes) N) answer_is)
-    accepted_standing N is (Ok (Broken b)) answer_is =
-        stands N is b.events (broken_events N (ruling_of (events bytes) N) answer_is)
+    accepted_standing N is (Ok (Broken count l missing observed kind)) answer_is =
+        stands N is count (broken_events N (ruling_of (events bytes) N) answer_is)
     accepted_standing N is (Err r) answer_is = absurd (never_refused N (ruling_of (events bytes) N) answer_is)
 
     refused_standing :
         (k e : ℕ) (u : Result Verdict Refusal) → answers.verdict_answer u ≡ answers.refused k e
         → answers.order_answer (standing_after u work p q) ≡ answers.refused k e
     refused_standing k e (Ok (Robust count share)) answer_is = cc
-    refused_standing k e (Ok (Broken b)) answer_is = cc
+    refused_standing k e (Ok (Broken count l missing observed kind)) answer_is = cc
     refused_standing k e (Err r) answer_is = cc
 
     -- THE ANSWER AFTER A RUN IS THE DEFINITIONS'

@@ -16,5 +16,5 @@ stand_by events work p q =
 -- after the run that answered this
 abbrev pub standing_after : Result Verdict Refusal → List ℕ → ℕ → ℕ → Result Order Refusal
 standing_after (Ok (Robust events share)) work p q = stand_by events work p q
-standing_after (Ok (Broken b)) work p q = stand_by b.events work p q
+standing_after (Ok (Broken events load missing observed kind)) work p q = stand_by events work p q
 standing_after (Err r) work p q = Err r

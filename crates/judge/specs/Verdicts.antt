@@ -6,17 +6,17 @@ use Rattle.model.specs.Answers.{percent}
 use Rattle.model.specs.declared.Kind.{Kind}
 use Rattle.model.specs.declared.Kind.TheVariants.{Contradiction, Flush, Impossible}
 use Rattle.model.specs.declared.Verdict.{Verdict}
-use Rattle.model.specs.declared.Verdict.TheVariants as verdict
-use Rattle.model.specs.declared.Broken.{Broken}
+use Rattle.model.specs.declared.Verdict.TheVariants.{Robust, Broken}
 use Rattle.model.specs.declared.Refusal.{Refusal}
-use Rattle.area.specs.Cells.{up, one_line_w}
+use Rattle.area.specs.Cells.{one_line_w}
 use Rattle.machine.specs.Tables.{committed_in}
 use Rattle.marks.specs.declared.cells.Marks.{Marks}
 use Rattle.marks.specs.Marks.{broken_in}
 use Rattle.marks.specs.Ending.{copied, stores_in}
-use Rattle.marks.specs.Testing.{missing_by, observed_by}
 use Rattle.windows.specs.Finding.{windows_by}
+use Rattle.judge.specs.declared.loads.Evidence.{Evidence}
 use Rattle.judge.specs.declared.verdict.End.{End}
+use Rattle.judge.specs.Judging.{evidence_at}
 
 -- two stores that are equal are on one line
 abbrev pub kind_by : List ℕ → List ℕ → ℕ → ℕ → Kind
@@ -24,18 +24,9 @@ kind_by bytes work missing observed =
     one_line_w work missing observed gives (eqb missing observed gives Contradiction else Impossible) else
     Flush (windows_by bytes work missing observed)
 
--- the evidence of event `load`, by the rows and the marks as that load or a later event leaves them, and its kind
-abbrev pub broken_by : List ℕ → List ℕ → Marks → ℕ → ℕ → Broken
-broken_by bytes work m events load =
-    let missing = missing_by work m (up load) in
-    let observed = observed_by work m.flags (up load) missing in
-    record {
-      events = events;
-      load = load;
-      missing = missing;
-      observed = observed;
-      kind = kind_by bytes work missing observed;
-    }
+abbrev pub broken_by : List ℕ → List ℕ → ℕ → Evidence → Verdict
+broken_by bytes work events f =
+    Broken events f.load f.missing f.observed (kind_by bytes work f.missing f.observed)
 
 abbrev pub share_by : List ℕ → List ℕ → ℕ
 share_by counts tables = min (percent (stores_in counts) (committed_in tables)) 65535
@@ -45,8 +36,8 @@ verdict_after bytes t tables m work =
     let events = t.event - 1 in
     let load = broken_in m.counts in
     eqb t.number 1 gives
-    (eqb load 0 gives Ok (verdict.Robust events (share_by m.counts tables)) else
-    Ok (verdict.Broken (broken_by bytes work m events load)))
+    (eqb load 0 gives Ok (Robust events (share_by m.counts tables)) else
+    Ok (broken_by bytes work events (evidence_at work m load)))
     else
     Err (record { number = t.number; event = t.event })
 

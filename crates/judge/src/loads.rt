@@ -1,4 +1,4 @@
-// The loads that count as of an event, judged when it comes.
+// The loads that count as of an event, judged when it comes, and the evidence of the event that breaks the trace.
 ghost use Rattle.std.specs.Prelude.{◌≡◌, true, ◌≢◌, ℕ, suc, ◌≤◌};
 ghost use Rattle.record.specs.declared.events.Event.{Event};
 ghost use Rattle.record.specs.Fields.{fields_of};
@@ -6,11 +6,34 @@ ghost use Rattle.model.specs.Trace.{location};
 ghost use Rattle.model.specs.Stores.{head_of, landed};
 ghost use Rattle.area.specs.Cells.{event_at};
 ghost use Rattle.marks.specs.Matching.{MarksMatch};
-ghost use Rattle.judge.specs.Judging.{Stepped};
+ghost use Rattle.judge.specs.Judging.{evidence_at, Stepped};
 
 use machine::Tables;
 use marks::{Load, Marks};
 use record::Fields;
+
+// The load that breaks the trace, with the missing and the observed store.
+#[derive(Clone, Copy)]
+pub struct Evidence {
+    pub load: u16,
+    pub missing: u16,
+    pub observed: u16,
+}
+
+// The evidence over records 0 to `load`, whose marks these are: later loads leave none.
+#[tactic(auto, unfolding(crate::specs::Judging::evidence_at))]
+pub(crate) fn evidence_at(marks: &Marks, work: &[u16], load: u16) -> Evidence
+    ensures { result ≡ evidence_at work.now marks.now load }
+{
+    let n = area::numbers::next_number(load);
+    let missing = marks.missing(work, n);
+    let observed = marks.observed(work, n, missing);
+    Evidence {
+        load,
+        missing,
+        observed,
+    }
+}
 
 // The last store committed at location x before the event whose row begins at `row`, a counted load of x; 0 if there is
 // none. The links of the rows lead from it to the others. This is the one lookup of the location's stores; all of the

@@ -2,7 +2,7 @@
 ghost use Rattle.std.specs.Prelude.{◌≡◌};
 ghost use Rattle.judge.specs.Standings.{stand_by, standing_after};
 
-use model::{Broken, Order, Refusal, Verdict};
+use model::{Order, Refusal, Verdict};
 
 // Of a trace with so many events after its begin: 16 for a number that is no issue, or what the rows say.
 fn stand(events: u16, work: &[u16], first: u16, second: u16) -> Result<Order, Refusal>
@@ -27,7 +27,7 @@ pub(crate) fn standing(
     ensures { result ≡ standing_after v work.now first second }
 {
     match v? {
-        Verdict::Robust { events, .. } | Verdict::Broken(Broken { events, .. }) => {
+        Verdict::Robust { events, .. } | Verdict::Broken { events, .. } => {
             stand(events, work, first, second)
         }
     }

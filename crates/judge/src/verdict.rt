@@ -2,9 +2,11 @@
 ghost use Rattle.std.specs.Prelude.{◌≡◌};
 ghost use Rattle.judge.specs.Verdicts.{kind_by, broken_by, share_by, verdict_after, cut_from};
 
+use crate::loads;
+use crate::loads::Evidence;
 use machine::Tables;
 use marks::Marks;
-use model::{Broken, Kind, Refusal, Verdict};
+use model::{Kind, Refusal, Verdict};
 
 // The end of a run: what ended it, 1 where no record was left, or the number of what turned a record away; and the
 // number of the event that would have been next.
@@ -28,19 +30,16 @@ fn kind_of(trace: &[u8], work: &[u16], missing: u16, observed: u16) -> Kind
     }
 }
 
-// The evidence over records 0 to `load`, whose marks these are: later loads leave none.
-fn broken(trace: &[u8], work: &[u16], marks: &Marks, events: u16, load: u16) -> Broken
-    ensures { result ≡ broken_by trace.now work.now marks.now events load }
+// The answer of a broken trace, with its evidence.
+fn broken(trace: &[u8], work: &[u16], events: u16, f: Evidence) -> Verdict
+    ensures { result ≡ broken_by trace.now work.now events f }
 {
-    let n = area::numbers::next_number(load);
-    let missing = marks.missing(work, n);
-    let observed = marks.observed(work, n, missing);
-    Broken {
+    Verdict::Broken {
         events,
-        load,
-        missing,
-        observed,
-        kind: kind_of(trace, work, missing, observed),
+        load: f.load,
+        missing: f.missing,
+        observed: f.observed,
+        kind: kind_of(trace, work, f.missing, f.observed),
     }
 }
 
@@ -73,7 +72,8 @@ pub(crate) fn verdict(
     }
     let events = t.event.saturating_sub(1);
     if let Some(load) = marks.broken_at() {
-        return Ok(Verdict::Broken(broken(trace, work, marks, events, load)));
+        let evidence = loads::evidence_at(marks, work, load);
+        return Ok(broken(trace, work, events, evidence));
     }
     marks.copy_cut(cut);
     let share = share(marks, tables);

@@ -82,7 +82,8 @@ kind_answer Impossible = impossible
 
 abbrev pub verdict_answer : Result Verdict Refusal → Answer
 verdict_answer (Ok (Robust events share)) = robust events share
-verdict_answer (Ok (Broken b)) = broken b.events b.load b.missing b.observed (kind_answer b.kind)
+verdict_answer (Ok (Broken events load missing observed kind)) =
+    broken events load missing observed (kind_answer kind)
 verdict_answer (Err r) = refused r.number r.event
 
 -- ---- the order query

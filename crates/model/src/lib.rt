@@ -26,25 +26,21 @@ pub enum Kind {
     Impossible,
 }
 
-// What is said of a broken trace: the events after its begin, the event that breaks it, the missing and the observed
-// store, and why.
-#[derive(Clone, Copy, Debug, PartialEq, Eq)]
-pub struct Broken {
-    pub events: u16,
-    pub load: u16,
-    pub missing: u16,
-    pub observed: u16,
-    pub kind: Kind,
-}
-
-// What judging a trace answers, unless it refuses.
+// What judging a trace answers, unless it refuses. The five facts of a broken trace are fields here and no struct in
+// the variant: with one a whole judgement of locked operations took 1.044 times the instructions.
 #[derive(Clone, Copy, Debug, PartialEq, Eq)]
 pub enum Verdict {
     Robust {
         events: u16,
         share: u16,
     },
-    Broken(Broken),
+    Broken {
+        events: u16,
+        load: u16,
+        missing: u16,
+        observed: u16,
+        kind: Kind,
+    },
 }
 
 // How the first of two stores stands to the second, by happens-before.

@@ -7,7 +7,7 @@ ghost use Rattle.report.specs.Lines.{printed, Front};
 ghost use Rattle.report.specs.Page.{Puts};
 
 use crate::page::Page;
-use model::{Broken, Kind, Refusal, Verdict};
+use model::{Kind, Refusal, Verdict};
 
 // A line that is a text alone.
 fn text_line(page: &mut Page, s: &[u8])
@@ -125,16 +125,16 @@ fn kind_line(page: &mut Page, kind: Kind)
 }
 
 // The lines of a broken trace.
-fn broken_lines(page: &mut Page, b: Broken)
+fn broken_lines(page: &mut Page, events: u16, load: u16, missing: u16, observed: u16, kind: Kind)
     ensures { Puts page.old
-        (broken_lines b.events b.load b.missing b.observed (kind_answer b.kind)) 87 page.new }
+        (broken_lines events load missing observed (kind_answer kind)) 87 page.new }
 {
-    number_line(page, b"events", b.events);
+    number_line(page, b"events", events);
     text_line(page, b"verdict broken");
-    number_line(page, b"load", b.load);
-    number_line(page, b"missing", b.missing);
-    number_line(page, b"observed", b.observed);
-    kind_line(page, b.kind);
+    number_line(page, b"load", load);
+    number_line(page, b"missing", missing);
+    number_line(page, b"observed", observed);
+    kind_line(page, kind);
 }
 
 // The lines of a verdict, or of a refusal.
@@ -153,7 +153,13 @@ fn lines(
             let cut = Cut::new(cut, threads, finished);
             robust_lines(page, events, share, cut);
         }
-        Ok(Verdict::Broken(b)) => broken_lines(page, b),
+        Ok(Verdict::Broken {
+            events,
+            load,
+            missing,
+            observed,
+            kind,
+        }) => broken_lines(page, events, load, missing, observed, kind),
         Err(refusal) => refused_line(page, refusal.number, refusal.event),
     }
 }

@@ -3,24 +3,8 @@
 // `stdout` is worked by hand from documents 01 and 02.
 #![tactic(auto)]
 
-use model::{Broken, Kind, Refusal, Verdict, Window, Windows};
+use model::{Kind, Refusal, Verdict, Window, Windows};
 use std::io;
-
-const CASE_1: Broken = Broken {
-    events: 11,
-    load: 11,
-    missing: 5,
-    observed: 7,
-    kind: Kind::Impossible,
-};
-
-const CASE_7: Broken = Broken {
-    events: 5,
-    load: 5,
-    missing: 1,
-    observed: 1,
-    kind: Kind::Contradiction,
-};
 
 // Prints the report of a verdict, or of a refusal.
 fn print(
@@ -54,21 +38,31 @@ fn print_robust(
 }
 
 // Prints the report of a broken trace.
-fn print_broken(rt: &impl Print, b: Broken) -> io::Result<()> {
-    print(rt, Ok(Verdict::Broken(b)), 1, 1, &[0])
+fn print_broken(
+    rt: &impl Print,
+    events: u16,
+    load: u16,
+    missing: u16,
+    observed: u16,
+    kind: Kind,
+) -> io::Result<()> {
+    let v = Verdict::Broken {
+        events,
+        load,
+        missing,
+        observed,
+        kind,
+    };
+    print(rt, Ok(v), 1, 1, &[0])
 }
 
-// Case 1 on two lines: thread 0 may flush in front of records 6 and 7, the others in front of none.
-fn case_1_on_two_lines() -> Broken {
+// The windows of case 1 on two lines: thread 0 may flush in front of records 6 and 7, the others in front of none.
+fn windows() -> Windows {
     let mut threads = [None; 8];
     threads[0] = Some(Window { first: 6, last: 7 });
-    let windows = Windows {
+    Windows {
         primary: 0,
         threads,
-    };
-    Broken {
-        kind: Kind::Flush(windows),
-        ..CASE_1
     }
 }
 
@@ -86,10 +80,10 @@ fn print_shape(rt: &impl Print, trace: &[u8]) -> io::Result<()> {
 
 fn main(rt: HostRuntime) -> io::Result<()> {
     // case 1, on one line and on two; cases 2, 7, 8 and 9
-    print_broken(&rt, CASE_1)?;
-    print_broken(&rt, case_1_on_two_lines())?;
+    print_broken(&rt, 11, 11, 5, 7, Kind::Impossible)?;
+    print_broken(&rt, 11, 11, 5, 7, Kind::Flush(windows()))?;
     print_robust(&rt, 7, 50, 2, 1, &[0, 1])?;
-    print_broken(&rt, CASE_7)?;
+    print_broken(&rt, 5, 5, 1, 1, Kind::Contradiction)?;
     print_refused(&rt, 9, 3)?;
     print_robust(&rt, 0, 100, 1, 0, &[0])?;
     // two stretches of two threads, and the longest text

@@ -1,5 +1,5 @@
 // The lines of a flush fault's windows.
-use model::{Broken, Kind, Refusal, Verdict, Windows};
+use model::{Kind, Refusal, Verdict, Windows};
 use std::io;
 
 // The primary thread; then of each thread that has a window the thread, its first and its last place.
@@ -15,8 +15,14 @@ fn print_windows(rt: &impl Print, windows: Windows) -> io::Result<()> {
 
 // What a verdict says of windows: nothing, unless it is a flush fault.
 pub(crate) fn print_windows_of(rt: &impl Print, v: Result<Verdict, Refusal>) -> io::Result<()> {
-    match v {
-        Ok(Verdict::Broken(Broken { kind: Kind::Flush(windows), .. })) => print_windows(rt, windows),
-        _ => Ok(()),
+    if let Ok(
+        Verdict::Broken {
+            kind: Kind::Flush(windows),
+            ..
+        },
+    ) = v
+    {
+        print_windows(rt, windows)?;
     }
+    Ok(())
 }
