@@ -40,7 +40,8 @@ verdict_by bytes events tables m work (Some load) = broken_by bytes work events 
 -- of a run that ended so before this event: number 1 where no record was left
 abbrev pub verdict_after : List ℕ → Stop → ℕ → List ℕ → Marks → List ℕ → Result Verdict Refusal
 verdict_after bytes stop event tables m work =
-    eqb (number_of stop) 1 gives Ok (verdict_by bytes (event - 1) tables m work (broken_at m)) else
+    let events = event - 1 in
+    eqb (number_of stop) 1 gives Ok (verdict_by bytes events tables m work (broken_at m)) else
     Err (record { number = number_of stop; event = event })
 
 abbrev pub cut_from : Stop → Marks → List ℕ → List ℕ

@@ -9,7 +9,7 @@ ghost use Rattle.marks.specs.Matching.{MarksMatch};
 ghost use Rattle.judge.specs.Judging.{evidence_at, Stepped};
 
 use machine::Tables;
-use marks::Marks;
+use marks::{Load, Marks};
 use record::Fields;
 
 // The load that breaks the trace, with the missing and the observed store.
@@ -77,6 +77,10 @@ pub(crate) fn judge_event(
         marks.judge_held(work, k, row);
         return;
     }
-    let h = head_found(tables, work, kind, row, f.location);
-    marks.judge_load(work, h, f.location, f.source, row);
+    let load = Load {
+        head: head_found(tables, work, kind, row, f.location),
+        location: f.location,
+        source: f.source,
+    };
+    marks.judge_load(work, load, row);
 }

@@ -9,6 +9,7 @@ ghost use Rattle.marks.specs.Judged.{older_in, start_of, deepest_of, held_at, al
 
 use crate::cells;
 use crate::cells::Marks;
+use crate::judged::Load;
 use crate::rows::Rows;
 
 // Store s was committed before store d; 0 stands behind all.
@@ -19,16 +20,17 @@ fn older(rows: &Rows, s: u16, d: u16) -> bool
 }
 
 impl Marks {
-    // Of a load of location x from s, whose chain begins with store h: where its walk starts, and the source to note.
-    // It starts at the head; or where the walks there ended so far, if its source is older; or nowhere, which is at its
-    // source. To note is the oldest source that loads of that chain have walked to.
-    fn segment(&self, rows: &Rows, h: u16, x: u16, s: u16) -> (u16, u16)
-        ensures { (result.0 ≡ start_of rows.now self.now h x s)
-            × (result.1 ≡ deepest_of rows.now self.now h x s) }
+    // Where a load's walk starts, and the source to note. It starts at the head; or where the walks there ended so far,
+    // if its source is older; or nowhere, which is at its source. To note is the oldest source that loads of that chain
+    // have walked to.
+    fn segment(&self, rows: &Rows, load: Load) -> (u16, u16)
+        ensures { (result.0 ≡ start_of rows.now self.now load.head load.location load.source)
+            × (result.1 ≡ deepest_of rows.now self.now load.head load.location load.source) }
     {
-        let at = cells::location(x);
-        if self.last[at] != h {
-            return (h, s);
+        let at = cells::location(load.location);
+        let s = load.source;
+        if self.last[at] != load.head {
+            return (load.head, s);
         }
         let d = self.source[at];
         if older(rows, s, d) { (d, s) } else { (s, d) }
@@ -52,15 +54,17 @@ impl Marks {
     fn mark_held(&mut self, rows: &Rows, k: u16)
         ensures { self.new ≡ held_at rows.now self.old k }
     {
-        let h = rows.get(k, 14);
-        let x = rows.get(k, 9);
-        let s = rows.get(k, 13);
-        if self.repeats(h, x, s) {
+        let load = Load {
+            head: rows.get(k, 14),
+            location: rows.get(k, 9),
+            source: rows.get(k, 13),
+        };
+        if self.repeats(load) {
             return;
         }
-        let (first, back) = self.segment(rows, h, x, s);
-        self.note(h, x, back);
-        self.mark_from(rows, first, s);
+        let (first, source) = self.segment(rows, load);
+        self.note(Load { source, ..load });
+        self.mark_from(rows, first, load.source);
     }
 
     // The held loads from `newest` on, which the links of column 15 lead to. At most 2,048 loads count as of an event.

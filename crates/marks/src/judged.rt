@@ -10,39 +10,47 @@ use crate::cells;
 use crate::cells::Marks;
 use crate::rows::Rows;
 
+// A load of a location: the head of the chain that it found there, its last store, and its source.
+#[derive(Clone, Copy)]
+pub struct Load {
+    pub head: u16,
+    pub location: u16,
+    pub source: u16,
+}
+
 impl Marks {
-    // The load noted at location x has the last store h and the source s.
-    pub(crate) fn repeats(&self, h: u16, x: u16, s: u16) -> bool
-        ensures { result ≡ repeated self.now h x s }
+    // The load noted at its location has its head and its source.
+    pub(crate) fn repeats(&self, load: Load) -> bool
+        ensures { result ≡ repeated self.now load.head load.location load.source }
     {
-        let at = cells::location(x);
-        self.last[at] == h && self.source[at] == s
+        let at = cells::location(load.location);
+        self.last[at] == load.head && self.source[at] == load.source
     }
 
-    // A load with the last store h is noted at location x, and s as its source.
+    // It is noted at its location.
     #[tactic(auto, unfolding(crate::specs::Judged::noted))]
-    pub(crate) fn note(&mut self, h: u16, x: u16, s: u16)
-        ensures { self.new ≡ noted self.old h x s }
+    pub(crate) fn note(&mut self, load: Load)
+        ensures { self.new ≡ noted self.old load.head load.location load.source }
     {
-        let at = cells::location(x);
-        self.last[at] = h;
-        self.source[at] = s;
+        let at = cells::location(load.location);
+        self.last[at] = load.head;
+        self.source[at] = load.source;
     }
 
-    // A load that counts, the event whose row begins at `row`, of location x from s, whose chain begins with store h.
+    // A load that counts, the event whose row begins at `row`.
     #[tactic(auto, unfolding(crate::specs::Judged::judged))]
-    pub fn judge_load(&mut self, rows: &[u16], h: u16, x: u16, s: u16, row: usize)
+    pub fn judge_load(&mut self, rows: &[u16], load: Load, row: usize)
         requires { (row ≤ 32768) × (32768 ≤ length rows.now) }
-        ensures { self.new ≡ judged rows.now self.old h x s (event_at row) }
+        ensures { self.new ≡ judged rows.now self.old load.head load.location load.source (event_at row) }
     {
-        if self.repeats(h, x, s) {
+        if self.repeats(load) {
             return;
         }
         if self.broken.is_some() {
             return;
         }
-        let breaks = self.load(&Rows::of(rows), h, s);
-        self.note(h, x, s);
+        let breaks = self.load(&Rows::of(rows), load.head, load.source);
+        self.note(load);
         if breaks {
             self.broken = Some(area::event_at(row));
         }

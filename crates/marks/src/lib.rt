@@ -16,3 +16,4 @@ mod walk;
 
 pub use cells::Marks;
 pub use end::percentage;
+pub use judged::Load;

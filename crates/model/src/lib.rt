@@ -26,7 +26,8 @@ pub enum Kind {
     Impossible,
 }
 
-// What judging a trace answers, unless it refuses.
+// What judging a trace answers, unless it refuses. The five facts of a broken trace are fields here and no struct in
+// the variant: with one a whole judgement of locked operations took 1.044 times the instructions.
 #[derive(Clone, Copy, Debug, PartialEq, Eq)]
 pub enum Verdict {
     Robust {

@@ -1,15 +1,15 @@
 // The answer to each line.
 use crate::{lines, window_lines};
 use model::{Order, Refusal, Verdict};
-use std::io::Result;
+use std::io;
 
 fn print_verdict(
     rt: &impl Print,
-    v: std::result::Result<Verdict, Refusal>,
+    v: Result<Verdict, Refusal>,
     threads: u16,
     finished: u16,
     cut: &[u16],
-) -> Result<()> {
+) -> io::Result<()> {
     let mut out = [0u8; 1024];
     let n = report::report(v, threads, finished, cut, &mut out);
     rt.write_all(&out[..n])
@@ -17,14 +17,14 @@ fn print_verdict(
 
 // ---- judging
 
-fn judge(rt: &impl Print, trace: &[u8]) -> Result<()> {
+fn judge(rt: &impl Print, trace: &[u8]) -> io::Result<()> {
     let mut out = [0u8; 1024];
     let n = verdict_text::text_of(trace, &mut out);
     rt.write_all(&out[..n])
 }
 
 // Judges a trace, and prints behind the lines of its verdict those of its windows.
-fn judge_windows(rt: &impl Print, trace: &[u8]) -> Result<()> {
+fn judge_windows(rt: &impl Print, trace: &[u8]) -> io::Result<()> {
     let mut work = [0u16; 32768];
     let mut cut = [0u16; 56];
     let v = judge::judge(trace, &mut work, &mut cut);
@@ -34,13 +34,13 @@ fn judge_windows(rt: &impl Print, trace: &[u8]) -> Result<()> {
 }
 
 // Prints how many of the numbers are 0.
-fn print_zeros(rt: &impl Print, name: &str, numbers: &[u16]) -> Result<()> {
+fn print_zeros(rt: &impl Print, name: &str, numbers: &[u16]) -> io::Result<()> {
     let n = numbers.iter().filter(|x| **x == 0).count();
     println!(rt; "zeros of the {name} {n}")
 }
 
 // Judges with buffers that hold no 0; then says how many numbers of each are 0.
-fn judge_with(rt: &impl Print, trace: &[u8], work_size: usize, cut_size: usize) -> Result<()> {
+fn judge_with(rt: &impl Print, trace: &[u8], work_size: usize, cut_size: usize) -> io::Result<()> {
     let mut work = [7u16; 32770];
     let mut cut = [9u16; 57];
     let w = work_size.min(work.len());
@@ -54,7 +54,7 @@ fn judge_with(rt: &impl Print, trace: &[u8], work_size: usize, cut_size: usize) 
 
 // ---- the order query
 
-fn order(rt: &impl Print, trace: &[u8], first: u16, second: u16) -> Result<()> {
+fn order(rt: &impl Print, trace: &[u8], first: u16, second: u16) -> io::Result<()> {
     let mut work = [0u16; 32768];
     match judge::order(trace, &mut work, first, second) {
         Ok(Order::Before) => rt.println("before"),
@@ -68,7 +68,7 @@ fn order(rt: &impl Print, trace: &[u8], first: u16, second: u16) -> Result<()> {
 // ---- a line
 
 // A session by its letter: j or w, or with two numbers before the trace o or b.
-fn answer(rt: &impl Print, letter: u8, bytes: &[u8]) -> Result<()> {
+fn answer(rt: &impl Print, letter: u8, bytes: &[u8]) -> io::Result<()> {
     match (letter, bytes) {
         (b'j', trace) => judge(rt, trace),
         (b'w', trace) => judge_windows(rt, trace),
@@ -87,7 +87,7 @@ fn answer(rt: &impl Print, letter: u8, bytes: &[u8]) -> Result<()> {
 }
 
 // Answers a line. Nothing answers an empty one, nor a session that is too short for its numbers.
-fn answer_line(rt: &(impl Print + AllocGlobal), line: &[u8]) -> Result<()> {
+fn answer_line(rt: &(impl Print + AllocGlobal), line: &[u8]) -> io::Result<()> {
     match line {
         [] => Ok(()),
         [b'#', ..] => {
@@ -101,7 +101,7 @@ fn answer_line(rt: &(impl Print + AllocGlobal), line: &[u8]) -> Result<()> {
     }
 }
 
-pub(crate) fn answer_all(rt: &(impl Print + AllocGlobal), input: &[u8]) -> Result<()> {
+pub(crate) fn answer_all(rt: &(impl Print + AllocGlobal), input: &[u8]) -> io::Result<()> {
     for line in input.split(|b| *b == b'\n') {
         answer_line(rt, line)?;
     }

@@ -11,12 +11,13 @@ mod answers;
 mod lines;
 mod window_lines;
 
-use std::io::{Read, Result};
+use std::io;
+use std::io::Read;
 
 // Of a longer input the rest is left out.
 const MEGABYTE: u64 = 1048576;
 
-fn main(rt: HostRuntime) -> Result<()> {
+fn main(rt: HostRuntime) -> io::Result<()> {
     let mut input = Vec::new(rt.alloc());
     rt.reader().take(MEGABYTE).read_to_end(&mut input)?;
     answers::answer_all(&rt, &input)

@@ -26,5 +26,5 @@ returns c =
     let counts = rw (c.if-not-counted.false) at stepped in
     match_itself ev _ args.kind args.tables.now args.work.now _ matching counts args.f fields_are
     c.if-kind-eq16.false _
-    (c.head_found-h.ensures ev counts c.if-kind-eq16.false (ap (λ (g : Fields). g.location) fields_are)) _
+    (c.head_found.ensures ev counts c.if-kind-eq16.false (ap (λ (g : Fields). g.location) fields_are)) _
     c.judge_load.ensures

@@ -1,15 +1,9 @@
 -- What writing answers says whether there is an event to read back.
 use mathlib.Core.Path.{ap, ◌∙◌}
-use borrow.Author.Rules.{rules}
 use Rattle.record.specs.Reading.{read_first}
 use Rattle.record_examples.proofs.Typed.{two_byte_fields}
-use Rattle.record_examples.proofs.RoundTrips.{back_refused, back_read}
+use Rattle.record_examples.proofs.RoundTrips.{back_read}
 use Rattle.record_examples.proofs.round_trips.read_back.Goals as goal
-
-pub returns-in_err-write-clause-answer : goal.returns-in_err-write-clause-answer
-returns-in_err-write-clause-answer c =
-    let told = back_refused _ _ _ c.in_err-write.ensures.answer in
-    search rules
 
 pub returns-clause-answer : goal.returns-clause-answer
 returns-clause-answer c =
