@@ -11,8 +11,8 @@ use crate::tables::Tables;
 #[derive(Clone, Copy)]
 pub struct Region {
     pub opened: bool,
-    // The newest load that is held, 0 if there is none. A close leaves it, for the judge to count the loads from there
-    // on.
+    // The newest load that is held, 0 if there is none, as the tables hold it in two bytes. A close leaves it, for the
+    // judge to count the loads from there on.
     pub newest: u16,
 }
 

@@ -1,6 +1,8 @@
 // The machine's tables, in one array: a row of 16 numbers for each of the eight threads; of each location the last
 // store committed there, the stretch of that commit, and the source of the last crossing load that passed; the commits
 // of finished stretches; the newest store of each location and thread. specs/Tables.antt has the places.
+// A number has two bytes of fixed memory, so 0 stands for none, also in what the judge is answered: the links that it
+// follows from there end at 0. Each place has a function, which gives it a name and a definition.
 ghost use Rattle.std.specs.Prelude.{◌≡◌, ◌+◌, ◌≤◌, ◌<◌};
 ghost use Rattle.machine.specs.Tables.{thread_cell, last_cell, source_cell, commits_cell, newest_cell, stretch_cell};
 ghost use Rattle.machine.specs.Tables.{last_in, held_in, committed_in};

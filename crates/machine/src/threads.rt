@@ -12,7 +12,8 @@ use crate::tables::Tables;
 
 #[derive(Clone, Copy)]
 pub struct Thread {
-    // The oldest waiting store, 0 if there is none; the newest store of the stretch, waiting or not.
+    // The oldest waiting store, 0 if there is none, as the tables hold it in two bytes; the newest store of the stretch,
+    // waiting or not.
     pub oldest: u16,
     pub newest: u16,
     pub issued: u16,

@@ -10,7 +10,8 @@ ghost use Rattle.marks.specs.Marks.{no_marks, thread_cell, location_cell, flag_c
 pub struct Marks {
     // The least choice's count for each stretch and thread.
     pub cut: [u16; 64],
-    // One more than the lowest place of a forbidden store of each stretch and thread; 0 if there is none.
+    // One more than the lowest place of a forbidden store of each stretch and thread; 0 if there is none, so that eight
+    // are compared at once.
     pub low: [u16; 64],
     // Of the last counted load at each location, the last store committed there before it.
     pub last: [u16; 256],

@@ -8,7 +8,8 @@ use crate::bytes::word_at;
 use crate::kinds::{KINDS, LENGTH, SOURCE, THREAD};
 use crate::reading::frame_of;
 
-// The size of the record at a position, its length bytes included; 0 where it cannot be framed, as past the end.
+// The size of the record at a position, its length bytes included; 0 where it cannot be framed, as past the end: the
+// number that `place_of` and `source_at` answer by.
 #[tactic(auto, using(crate::proofs::Starts::no_size, crate::proofs::Starts::size_of_rest))]
 pub(crate) fn size_at(trace: &[u8], at: usize) -> usize
     ensures value { result ≡ size_at trace.now at }

@@ -13,7 +13,8 @@ use crate::kinds::{LENGTH, row_of};
 use crate::reading::{fields_at, step_at};
 use crate::refusal::Refusal;
 
-// A record as plain numbers: its kind, its fields and the position past it.
+// A record as plain numbers: its kind, by whose number the judge matches, as document 01 asks; its fields; and the
+// position past it.
 #[derive(Clone, Copy, Debug, PartialEq, Eq)]
 pub struct Scan {
     pub kind: u16,
