@@ -216,7 +216,7 @@ place_stays s i e at below is none =
     let unframed : size_at s (start s i) ≡ 0 = rw (sym is) none in
     rw (start_stays s i e below unframed, unframed, is) refl
 
-pub ruleset places = (start_more, place_inside, place_is, place_stays)
+pub ruleset places = (start_inside, start_more, place_inside, place_is, place_stays)
 
 -- the bytes from where a record starts to its end are the part
 pub part_is :

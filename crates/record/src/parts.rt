@@ -8,17 +8,28 @@ use crate::bytes::word_at;
 use crate::kinds::{KINDS, LENGTH, SOURCE, THREAD};
 use crate::reading::frame_of;
 
-// The size of the record at a position, its length bytes included; 0 where it cannot be framed, as past the end: the
-// number that `place_of` and `source_at` answer by.
-#[tactic(auto, using(crate::proofs::Starts::no_size, crate::proofs::Starts::size_of_rest))]
+// The size of the record at a position inside the trace or at its end, its length bytes included; 0 where it cannot be
+// framed: the number that `place_of` and `source_at` answer by. `place_of` knows that its positions are inside: a test
+// of each made it 1.25 to 1.3 times as slow.
+#[tactic(auto, using(crate::proofs::Starts::size_of_rest))]
+fn size_inside(trace: &[u8], at: usize) -> usize
+    requires { at ≤ length trace.now }
+    ensures value { result ≡ size_at trace.now at }
+    ensures within { result ≢ 0 → (4 ≤ result) × (at + result ≤ length trace.now) }
+{
+    frame_of(&trace[at..]).unwrap_or(0)
+}
+
+// The same at any position; 0 past the end too.
+#[tactic(auto, using(crate::proofs::Starts::no_size))]
 pub(crate) fn size_at(trace: &[u8], at: usize) -> usize
     ensures value { result ≡ size_at trace.now at }
     ensures within { result ≢ 0 → (4 ≤ result) × (at + result ≤ length trace.now) }
 {
-    let Some(rest) = trace.get(at..) else {
+    if trace.len() < at {
         return 0;
-    };
-    frame_of(rest).unwrap_or(0)
+    }
+    size_inside(trace, at)
 }
 
 // Where a record stands in its trace: the position of its length bytes, and its size with them. `gorbuzte_frame` hands
@@ -37,7 +48,7 @@ pub fn place_of(trace: &[u8], e: usize) -> Place
 {
     let mut at = 0;
     for i in 0..e {
-        let n = size_at(trace, at);
+        let n = size_inside(trace, at);
         if n == 0 {
             return Place { start: at, size: 0 };
         }
@@ -45,7 +56,7 @@ pub fn place_of(trace: &[u8], e: usize) -> Place
     }
     Place {
         start: at,
-        size: size_at(trace, at),
+        size: size_inside(trace, at),
     }
 }
 
