@@ -35,10 +35,14 @@ abbrev pub Numbers : ℕ → Result Refusal NoRefusal → Type 0
 Numbers k (Ok r) = number_of r ≡ k
 Numbers k (Err e) = (r : Refusal) → number_of r ≢ k
 
--- an answer of the code, with the refusal's number in the place of the refusal
+-- an answer of the code, with the number in the place of what has it
+abbrev pub numbered_by : {A E : Type 0} → (E → ℕ) → Result A E → Result A ℕ
+numbered_by number (Ok x) = Ok x
+numbered_by number (Err e) = Err (number e)
+
+-- where a refusal has it
 abbrev pub numbered : {A : Type 0} → Result A Refusal → Result A ℕ
-numbered (Ok x) = Ok x
-numbered (Err r) = Err (number_of r)
+numbered answer = numbered_by number_of answer
 
 -- the number of the refusal, 0 where there is none
 abbrev pub refusal_of : {A : Type 0} → Result A ℕ → ℕ

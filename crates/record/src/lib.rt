@@ -21,7 +21,7 @@ pub use events::{Event, Fields, event_of, fields_of, kind_of};
 pub use parts::{Place, Source, SourceAt, part, place_of, source_at};
 pub use reader::{Reader, new, next, read_at, scan, scan_at};
 pub use reading::{Read, read_first};
-pub use refusal::{NoRefusal, Refusal, refusal_of};
+pub use refusal::{NoRefusal, Numbered, Refusal, refusal_of};
 pub use scanning::Scan;
 pub use versions::later_refusal;
 pub use writing::write;

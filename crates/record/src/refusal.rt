@@ -1,6 +1,6 @@
 // The refusals of this layer, with their numbers.
-ghost use Rattle.std.specs.Prelude.{◌≡◌};
-ghost use Rattle.record.specs.Answers.{number_of, Numbers, refusal_of, numbered};
+ghost use Rattle.std.specs.Prelude.{◌≡◌, ℕ};
+ghost use Rattle.record.specs.Answers.{number_of, Numbers, refusal_of, numbered_by};
 ghost use Rattle.record.specs.Versions.{later_refusal};
 
 use crate::versions::new_at;
@@ -60,12 +60,36 @@ impl TryFrom<u16> for Refusal {
     }
 }
 
+// What has the number of a refusal: a refusal of this layer, or the number itself, whichever it is.
+pub trait Numbered: Copy {
+    ghost number: { Self → ℕ };
+
+    fn as_number(self) -> u16
+        ensures { result ≡ number self };
+}
+
+impl Numbered for Refusal {
+    ghost number = { number_of };
+
+    fn as_number(self) -> u16 {
+        self.number()
+    }
+}
+
+impl Numbered for u16 {
+    ghost number = { λ k. k };
+
+    fn as_number(self) -> u16 {
+        self
+    }
+}
+
 // The number of the refusal, 0 where there is none.
-pub fn refusal_of<T: Copy>(answer: Result<T, Refusal>) -> u16
-    ensures { result ≡ refusal_of (numbered answer) }
+pub fn refusal_of<T: Copy, E: Numbered>(answer: Result<T, E>) -> u16
+    ensures { result ≡ refusal_of (numbered_by E.number answer) }
 {
     match answer {
         Ok(_) => 0,
-        Err(refusal) => refusal.number(),
+        Err(refusal) => refusal.as_number(),
     }
 }
