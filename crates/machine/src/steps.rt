@@ -16,8 +16,8 @@ crate::specs::Effects::pass_w, // events with no effect
 ghost use Rattle.std.specs.Prelude.{◌≡◌, List, ℕ, ◌+◌, ◌≤◌, ◌<◌, length};
 ghost use Rattle.machine.specs.Twin.{state_of, world, admits, admitted};
 ghost use Rattle.machine.specs.Turning.{Fits};
-ghost use Rattle.machine.specs.Outcomes.{outcome, issue_o, commit_o, only_o, across_o, memory_o, load_o};
-ghost use Rattle.machine.specs.Outcomes.{flush_o, fence_on_o, crash_o, switch_o, signal_o, wait_o, open_o};
+ghost use Rattle.machine.specs.Outcomes.{outcome, issue_o, commit_o, only_o, plain_o, across_o, memory_o};
+ghost use Rattle.machine.specs.Outcomes.{load_o, flush_o, fence_on_o, crash_o, switch_o, signal_o, wait_o, open_o};
 ghost use Rattle.machine.specs.Outcomes.{locked_o, close_o, step_o};
 ghost use Rattle.machine.specs.Effects.{aside_tables, aside_work};
 
@@ -102,8 +102,28 @@ impl Machine {
         true
     }
 
-    // A crossing load, which brings no clock. It counts if its thread is in no skip and not open; in no skip and open, it
-    // is held.
+    // A crossing load that is not held yet. It brings no clock, and counts if its thread is in no skip and not open.
+    #[inline(always)]
+    fn load_plain(
+        self,
+        tables: &mut Tables,
+        work: &mut [u16],
+        t: ThreadId,
+        x: Location,
+        s: u16,
+    ) -> Result<Step, Forbidden>
+        requires { Fits self (length work.old) × (self.row < 32768) }
+        ensures { outcome self result tables.new work.new
+            ≡ plain_o (world (state_of self) tables.old work.old) t x s }
+    {
+        if !self.admit(tables, work, x, s) {
+            return Err(Forbidden::WrongSource);
+        }
+        area::no_store(work, self.row);
+        Ok(self.pass(regions::is_plain(tables, t)))
+    }
+
+    // A crossing load. Where it does not count and its thread is in no skip, the thread is open, and the load is held.
     #[inline(always)]
     fn load_across(
         self,
@@ -117,15 +137,12 @@ impl Machine {
         ensures { outcome self result tables.new work.new
             ≡ across_o (world (state_of self) tables.old work.old) t x s }
     {
-        if !self.admit(tables, work, x, s) {
-            return Err(Forbidden::WrongSource);
-        }
-        area::no_store(work, self.row);
-        if regions::is_plain(tables, t) {
-            return Ok(self.pass(true));
+        let step = self.load_plain(tables, work, t, x, s)?;
+        if step.counted {
+            return Ok(step);
         }
         set_aside(tables, work, self.row, t, x, s);
-        Ok(self.pass(false))
+        Ok(step)
     }
 
     // A load where no store of its thread waits at the location: the last one committed in the stretch, or a crossing
