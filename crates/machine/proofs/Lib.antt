@@ -4,7 +4,9 @@
 -- commits and issues change, and at each file's end the step of its kinds (Quiet, Crashes, Meeting, Loads, Commits,
 -- Issues, Locked, HandOver). The theorems that others cite: `refusals`, `begin_refusals` (Refusals), `step_next`,
 -- `counts_is` (Simulation), `refusal_told`, `counted_told`, `after_told` (Taken), `sim_start` (Start), `sim_fits`
--- (Fits), `store_is`, `order_is` (Standings), `last_is`, `committed_is` (Closing), `number_not_0` (RuleLaws).
+-- (Fits), `store_is`, `order_is` (Standings), `last_is`, `committed_is` (Closing), `number_not_0` (RuleLaws). Which arm
+-- a range of kinds takes: ArmLaws.
+pub mod ArmLaws
 pub mod RuleLaws
 pub mod Flags
 pub mod Parts
