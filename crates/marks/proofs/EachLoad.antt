@@ -182,7 +182,7 @@ module _ (ev : ℕ → Event) where
           walk.marks;
       loads =
           loads_later ev (suc n) (suc n) F' F' O' O' (omega arith) (λ p in_f. in_f) (λ q in_o. in_o) before _
-          kept.0 kept.1
+          (λ y few. rw kept.0 refl) (λ y few. rw kept.1 refl)
           (noted_loads ev n k accepted found.not_later x_there F O m part.loads back walk.reached
           part.says.last_size part.says.source_size);
       unbroken = kept.2 ∙ part.unbroken;
@@ -213,7 +213,7 @@ module _ (ev : ℕ → Event) where
       loads =
           noted_loads ev n k accepted found.not_later x_there F O after
           (loads_later ev (suc n) (suc n) F F O O (omega arith) (λ p in_f. in_f) (λ q in_o. in_o) m after
-          kept.0 kept.1 part.loads)
+          (λ y few. rw kept.0 refl) (λ y few. rw kept.1 refl) part.loads)
           s reached_source says_after.last_size says_after.source_size;
       unbroken = kept.2 ∙ part.unbroken;
     }

@@ -99,8 +99,8 @@ module _ (ev : ℕ → Event) where
       due = due_start ev n accepted;
       says = so_far.judging;
       loads =
-          loads_later ev n (suc n) _ _ _ _ (omega arith) (λ p in_f. in_f) (λ q in_o. in_o) m m refl refl
-          so_far.loads;
+          loads_later ev n (suc n) _ _ _ _ (omega arith) (λ p in_f. in_f) (λ q in_o. in_o) m m
+          (λ x few. refl) (λ x few. refl) so_far.loads;
       unbroken = none;
     }
 
@@ -124,7 +124,8 @@ module _ (ev : ℕ → Event) where
       loads_after : Loads ev (suc n) (marked? ev (suc n)) (observed? ev (suc n)) after
       loads_after =
           loads_later ev (suc n) (suc n) F _ O _ (omega arith) (λ p in_f. sym (same_f p) ∙ in_f)
-          (λ q in_o. sym (all_seen ev n F O C end.due q) ∙ in_o) after after refl refl end.loads
+          (λ q in_o. sym (all_seen ev n F O C end.due q) ∙ in_o) after after
+          (λ x few. refl) (λ x few. refl) end.loads
 
       -- the event breaks the trace exactly if there is a pair with it
       breaks_is_bad : breaks ≡ bad? ev (suc n)

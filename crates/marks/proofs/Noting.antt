@@ -4,7 +4,7 @@
 -- In order: the start; what notes nothing; a load that found the chain of the one noted; the load is noted.
 use Prim.Native.Nat.{ℕ, suc, ◌≤◌, ◌<◌}
 use native.Mathlib.Omega.{arith}
-use mathlib.Core.Path.{◌≡◌, sym, ◌∙◌, ap}
+use mathlib.Core.Path.{◌≡◌, sym, ◌∙◌}
 use mathlib.Core.Bool.{Bool, true}
 use mathlib.Core.Logic.{◌⊎◌, inl, inr, ◌≢◌}
 use mathlib.Core.List.{List}
@@ -22,7 +22,7 @@ use Rattle.model.specs.Verdict.{observes?}
 use Rattle.model.proofs.Searching.{false_true, same?, less?, parts, or_right}
 use Rattle.model.proofs.ChainOrder.{same_chain}
 use Rattle.marks.specs.declared.cells.Marks.{Marks}
-use Rattle.marks.specs.Marks.{marks_of, location_cell, count_in, last_in, source_in}
+use Rattle.marks.specs.Marks.{marks_of, location_cell, last_in, source_in}
 use Rattle.marks.specs.Judged.{repeated, noted}
 use Rattle.marks.specs.Matching.{Reached, Says, Noted, Loads}
 use Rattle.marks.proofs.Stepping.{chain, chained, also_marks, also_sees}
@@ -86,10 +86,11 @@ module _ (ev : ℕ → Event) where
       reached = rw same_source (reached_more more_f more_o it.reached);
     }
 
-    pub loads_later : (m v : Marks) → v.last ≡ m.last → v.source ≡ m.source → Loads ev n F O m → Loads ev k G P v
+    pub loads_later :
+        (m v : Marks) → ((x : ℕ) → x < 256 → last_in v x ≡ last_in m x)
+        → ((x : ℕ) → x < 256 → source_in v x ≡ source_in m x) → Loads ev n F O m → Loads ev k G P v
     loads_later m v same_last same_source loads x there =
-        noted_there x m v (ap (λ (l : List ℕ). count_in l (location_cell x)) same_last)
-        (ap (λ (l : List ℕ). count_in l (location_cell x)) same_source) (loads x there)
+        noted_there x m v (same_last x there) (same_source x there) (loads x there)
 
   -- ---- load k, which counts as of event n
 

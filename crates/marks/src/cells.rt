@@ -6,7 +6,7 @@ ghost use Rattle.std.specs.Prelude.{◌≡◌, ◌<◌};
 ghost use Rattle.marks.specs.Marks.{no_marks, thread_cell, location_cell, flag_cell, broken_at};
 
 // Arrays of a known size, so that no call asks for room.
-#[derive(Drop)]
+#[derive(Clone, Copy, Debug, PartialEq, Eq)]
 pub struct Marks {
     // The least choice's count for each stretch and thread.
     pub cut: [u16; 64],
