@@ -148,28 +148,37 @@ module _ (bytes : List ℕ) where
           AnsweredWithCut (Ok (verdict_by bytes (N - 1) tables m work recorded)) cut
           (is_none recorded gives copied 56 m.cut cut else cut)
 
-      broken_with_cut : (load : ℕ) → m.broken ≡ Some load → AnsweredBy (Some load)
+      broken_with_cut :
+          (load : ℕ) → m.broken ≡ Some load → AnsweredWithCut (verdict_after bytes stop N tables m work) cut cut'
       broken_with_cut load is_load =
           let early = all.loads.early load is_load in
           let few : load ≤ 2049 = omega (arith, all.state.limits.few_events) in
-          let ruling = broken_at_ruling (events bytes) N work m whole all.state.rows all.loads load is_load in (
+          let ruling = broken_at_ruling (events bytes) N work m whole all.state.rows all.loads load is_load in
+          let answered : AnsweredBy (Some load) = (
             rw (is_accepted, up_is load few, ruling, kind_is load _ _ ruling) refl,
             rw (is_accepted, ruling) refl,
           )
+          in
+          rw is_1 (subst AnsweredBy (sym is_load) answered)
 
-      robust_with_cut : m.broken ≡ None → AnsweredBy None
+      robust_with_cut : m.broken ≡ None → AnsweredWithCut (verdict_after bytes stop N tables m work) cut cut'
       robust_with_cut none =
           let end = unbroken_robust (events bytes) N m whole (all.loads.none_yet none) in
-          let total = committed_is (events bytes) N w all.state in (
+          let total = committed_is (events bytes) N w all.state in
+          let answered : AnsweredBy None = (
             rw (is_accepted, end.ruling, end.stores_in_lem, total, end.share) refl,
             rw (is_accepted, end.ruling, end.cut cut right_size) refl,
           )
+          in
+          rw is_1 (subst AnsweredBy (sym none) answered)
 
       -- THE VERDICT AFTER ALL RECORDS, AND THE CUT BUFFER, ARE THE DEFINITIONS'
       all_with_cut : AnsweredWithCut (verdict_after bytes stop N tables m work) cut cut'
-      all_with_cut = rw is_1 (by_load m.broken refl)
+      all_with_cut = by_load m.broken refl
         where
-          by_load : (recorded : Option ℕ) → m.broken ≡ recorded → AnsweredBy recorded
+          by_load :
+              (recorded : Option ℕ) → m.broken ≡ recorded
+              → AnsweredWithCut (verdict_after bytes stop N tables m work) cut cut'
           by_load None none = robust_with_cut none
           by_load (Some load) is_load = broken_with_cut load is_load
 
