@@ -83,7 +83,7 @@ last_digit v large fits front back =
     let both = both_put front back in
     record {
       same = both.same;
-      added = record { put = rw (more_digits v large fits) both.added.put; few = at_most_five v fits };
+      added = record { put = rw (more_digits v large) both.added.put; few = at_most_five v fits };
     }
 
 -- ---- a text that has room
