@@ -87,7 +87,7 @@ fn answer(rt: &impl Print, letter: u8, bytes: &[u8]) -> io::Result<()> {
 }
 
 // Answers a line. Nothing answers an empty one, nor a session that is too short for its numbers.
-fn answer_line(rt: &(impl Print + AllocGlobal), line: &[u8]) -> io::Result<()> {
+fn answer_line(rt: &impl Print, line: &[u8]) -> io::Result<()> {
     match line {
         [] => Ok(()),
         [b'#', ..] => {
@@ -95,13 +95,14 @@ fn answer_line(rt: &(impl Print + AllocGlobal), line: &[u8]) -> io::Result<()> {
             rt.write_all(b"\n")
         }
         [letter, digits @ ..] => {
-            let bytes = lines::decode(rt.alloc(), digits)?;
-            answer(rt, *letter, &bytes)
+            let mut bytes = [0u8; 32768];
+            let n = lines::decode(digits, &mut bytes);
+            answer(rt, *letter, &bytes[..n])
         }
     }
 }
 
-pub(crate) fn answer_all(rt: &(impl Print + AllocGlobal), input: &[u8]) -> io::Result<()> {
+pub(crate) fn answer_all(rt: &impl Print, input: &[u8]) -> io::Result<()> {
     for line in input.split(|b| *b == b'\n') {
         answer_line(rt, line)?;
     }

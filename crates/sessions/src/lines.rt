@@ -1,10 +1,6 @@
 // What stands in a line of the input.
 ghost use Rattle.std.specs.Prelude.{◌≤◌};
-
-use std::alloc::{AllocError, Global};
-
-// Of a line that spells more bytes the rest is left out.
-const MOST: usize = 32768;
+ghost use Rattle.report.specs.Lines.{Front};
 
 // The value of a hexadecimal digit; 0 for any other byte.
 fn digit(b: u8) -> u8
@@ -17,12 +13,14 @@ fn digit(b: u8) -> u8
     }
 }
 
-// The bytes that digits spell, two to a byte; a last one alone is left out.
-pub(crate) fn decode(alloc: Global, digits: &[u8]) -> Result<Vec<u8>, AllocError> {
+// The bytes that digits spell, two to a byte, at the start of `out`; answers how many. A last digit alone is left out,
+// and so are the bytes behind the end of `out`.
+pub(crate) fn decode(digits: &[u8], out: &mut [u8]) -> usize
+    ensures { Front result out.new }
+{
     let (pairs, _) = digits.as_chunks::<2>();
-    pairs
-        .iter()
-        .take(MOST)
-        .map(|[high, low]| 16 * digit(*high) + digit(*low))
-        .collect(alloc)
+    for (byte, [high, low]) in out.iter_mut().zip(pairs) {
+        *byte = 16 * digit(*high) + digit(*low);
+    }
+    pairs.len().min(out.len())
 }
