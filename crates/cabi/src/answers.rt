@@ -33,11 +33,12 @@ fn bare_numbers(events: u16, load: u16, missing: u16, observed: u16, kind: u16) 
 fn flush_numbers(events: u16, load: u16, missing: u16, observed: u16, w: Windows) -> [u16; 26]
     ensures { result ≡ verdict_numbers (broken events load missing observed (kind_answer (Flush w))) }
 {
-    let mut numbers = bare_numbers(events, load, missing, observed, 2);
-    numbers[9] = w.primary.wrapping_add(1);
-    let windows = w.threads.map(window_numbers);
-    numbers[10..].copy_from_slice(windows.as_flattened());
-    numbers
+    let primary = w.primary.wrapping_add(1);
+    let [a, b, c, d, e, f, g, h] = w.threads.map(window_numbers);
+    [
+        0, 0, 2, events, 0, load, missing, observed, 2, primary, a[0], a[1], b[0], b[1], c[0],
+        c[1], d[0], d[1], e[0], e[1], f[0], f[1], g[0], g[1], h[0], h[1],
+    ]
 }
 
 fn broken_numbers(events: u16, load: u16, missing: u16, observed: u16, kind: Kind) -> [u16; 26]
